@@ -28,56 +28,65 @@ export const loadPrint1525 = (() => {
   const PAGE = 65536;
   // An instance whose memory has grown beyond this many bytes is not kept for the next call.
   const KEPT = 2 ** 28;
-  // The room that a text gets at first, if eight times the input is less. Where it is too small, the answer says how much it needs.
-  const ROOM = 2 ** 20;
+  // The room that a text gets at first, if WIDER times the input is less: a picture has some 27 bytes for each character that
+  // is printed. Where it is too small, the answer says how much it needs, and the call is made again.
+  const ROOM = 2 ** 20, WIDER = 32;
+  // The smallest block has 2^LEAST bytes: a statement's vectors grow to these at once, and not step by step.
+  const LEAST = 8;
 
   // The heap that the module imports, which has the page's own buffers too: the memory above `__heap_base`.
-  // A block has 2^c bytes, c from 4 on, after 16 bytes of which the first holds c. Freed blocks are kept by c.
+  // A block has 2^c bytes, c from LEAST to 31, after 16 bytes of which the first holds c. Freed blocks are kept by c.
+  // The module never grows its memory itself, so the views are made anew where this heap grows it.
   function makeHeap(exports) {
     const { memory } = exports;
-    const free = Array.from({ length: 48 }, () => []);
+    const free = Array.from({ length: 32 }, () => []);
     let top = Math.ceil(Number(exports.__heap_base.value) / 16) * 16;
-    let view = new DataView(memory.buffer);
-    const data = () => (view.buffer === memory.buffer ? view : (view = new DataView(memory.buffer)));
-    const classOf = size => {
-      let c = 4;
-      while (2 ** c < size) c++;
-      return c;
-    };
+    let bytes = new Uint8Array(memory.buffer), halves = new Uint32Array(memory.buffer);
 
     // Grows the memory by some pages, and says whether it has grown.
     function grow(pages) {
       try {
         memory.grow(pages);
-        return true;
       } catch {
         return false;
       }
+      bytes = new Uint8Array(memory.buffer);
+      halves = new Uint32Array(memory.buffer);
+      return true;
+    }
+
+    // The power of two that is the size of a block of `size` bytes, by its exponent; 32 where there is no such block.
+    const classOf = size => (!(size >= 0 && size <= 2 ** 31) ? 32 : size <= 2 ** LEAST ? LEAST : 32 - Math.clz32(size - 1));
+
+    // Makes a block of 2^c bytes at the top of the heap, or the last block one of 2^c bytes, and says whether the browser gives the memory.
+    function place(at, c) {
+      const missing = at + 2 ** c - bytes.length;
+      // A memory that cannot grow in place is copied: so it grows by half of what it is, if the browser gives that.
+      const pages = size => Math.ceil(size / PAGE);
+      if (missing > 0 && !grow(pages(Math.max(missing, bytes.length / 2))) && !grow(pages(missing))) return false;
+      top = at + 2 ** c;
+      bytes[at - 16] = c;
+      return true;
     }
 
     // The address of a new block of at least `size` bytes, a multiple of 16; 0 where the browser gives no more memory.
     function get(size) {
-      const c = classOf(size);
-      if (c >= free.length) return 0;
-      if (free[c].length) return free[c].pop();
-      const at = top + 16;
-      const missing = at + 2 ** c - memory.buffer.byteLength;
-      // A memory that cannot grow in place is copied: so it grows by half of what it is, if the browser gives that.
-      const pages = size => Math.ceil(size / PAGE);
-      if (missing > 0 && !grow(pages(Math.max(missing, memory.buffer.byteLength / 2))) && !grow(pages(missing))) return 0;
-      top = at + 2 ** c;
-      data().setUint8(at - 16, c);
-      return at;
+      const c = classOf(size), at = top + 16;
+      if (c > 31) return 0;
+      return free[c].length ? free[c].pop() : place(at, c) ? at : 0;
     }
 
     function put(at) {
-      free[data().getUint8(at - 16)].push(at);
+      free[bytes[at - 16]].push(at);
     }
 
-    // Writes what an allocation came to: whether there is a block, and its address.
+    // Writes what an allocation came to: whether there is a block, and its address, as two numbers of 64 bits.
     function tell(to, at) {
-      data().setBigUint64(Number(to), at ? 1n : 0n, true);
-      data().setBigUint64(Number(to) + 8, BigInt(at || 16), true);
+      const first = Number(to) / 4;
+      halves[first] = at ? 1 : 0;
+      halves[first + 1] = 0;
+      halves[first + 2] = at || 16;
+      halves[first + 3] = 0;
     }
 
     return {
@@ -87,11 +96,12 @@ export const loadPrint1525 = (() => {
         tell(to, get(Number(size)));
       },
       rattle_realloc(to, block, kept, size) {
-        const at = Number(block);
-        if (Number(size) <= 2 ** data().getUint8(at - 16)) return tell(to, at);
-        const next = get(Number(size));
+        const at = Number(block), wanted = Number(size), had = bytes[at - 16], c = classOf(wanted);
+        // (the last block grows where it is)
+        if (c <= had || (c <= 31 && at + 2 ** had === top && place(at, c))) return tell(to, at);
+        const next = get(wanted);
         if (next) {
-          new Uint8Array(memory.buffer).copyWithin(next, at, at + Number(kept));
+          bytes.copyWithin(next, at, at + Number(kept));
           put(at);
         }
         return tell(to, next);
@@ -280,7 +290,7 @@ export const loadPrint1525 = (() => {
     }
 
     function call(name, passed) {
-      const told = made(name, passed, TEXT, Math.max(rooms[name] || 0, ROOM, Math.min(8 * passed[0].byteLength, KEPT / 4))), answer = answerOf(told);
+      const told = made(name, passed, TEXT, Math.max(rooms[name] || 0, ROOM, Math.min(WIDER * passed[0].byteLength, KEPT / 4))), answer = answerOf(told);
       rooms[name] = Math.min(told.length * 1.25, KEPT / 4) | 0;
       return { ...answer, text: answer.column || !told.made ? new Uint8Array(0) : told.made };
     }
