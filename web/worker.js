@@ -3,7 +3,7 @@
 
 import { loadPrint1525 } from './module.mjs';
 import { marksMore, marksOf } from './sheets.js';
-import { countsOf, delayNumbers, edgeAt, framesOf, intervalsOf, lineStarts, textOfEdges, useBounds } from './wire.js';
+import { countsOf, delayNumbers, edgeAt, framesOf, lineStarts, textOfEdges, useBounds } from './wire.js';
 
 let print1525 = null;
 const shown = { run: 0, kind: '', ask: null, lines: null };   // what is on paper; `run` is the number of its print
@@ -86,10 +86,11 @@ async function verdictOf(ask) {
 
 /** Keeps a recording, and gives its edges and what is said of it; `ask` has its bytes and their format. */
 async function keepWire(ask, said, verdict) {
-  const { times, levels } = await print1525.edges(ask), { readings } = await print1525.readings(ask), { bytes, input = 'text' } = ask;
+  const { times, levels } = await print1525.edges(ask), { readings } = await print1525.readings(ask), { intervals } = await print1525.intervals(ask);
+  const { bytes, input = 'text' } = ask;
   const frames = said.code === 3 ? [] : framesOf(readings, latin(said.text)), edges = { times, levels };
   Object.assign(wire, { run: running, bytes, input, starts: input === 'text' ? lineStarts(bytes) : null, edges, frames, readings: said.text });
-  return { times: times.slice(), levels: levels.slice(), frames, counts: countsOf(frames), intervals: intervalsOf(frames), verdict };
+  return { times: times.slice(), levels: levels.slice(), frames, counts: countsOf(frames), intervals, verdict };
 }
 
 /** The first lines of the script that the wire shows, or how many lines it has. */
