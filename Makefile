@@ -124,8 +124,8 @@ $(MODULE): $(SOURCES) tools/crates.py web/module
 # Wants chromium, firefox-esr, webkit2gtk-driver, xvfb, nodejs and node-typescript (Debian's packages); the pictures of the page are
 # left in out/web, to be looked at.
 web-test: build
-	@web/commands --check
 	@tsc -p web
+	@web/compare $(PROGRAM) web/print1525.html 40
 	@web/test --program $(PROGRAM)
 	@web/compare-node $(PROGRAM)
 
