@@ -12,10 +12,9 @@
  *     print1525_explain_..        why a script, a trace or a recording is refused, and why
  *                                 a run stopped, in words for people                            --explain
  *
- *     Numbers
  *     print1525_edges             the edges of a recording in any format
  *
- *     Edges of the serial bus; these calls take no memory
+ *     Receivers of edges of the serial bus; these calls take no memory
  *     print1525_decoder_..        what any recording of the bus says, edge by edge
  *     print1525_receiver_..       what comes to a device on any bus, edge by edge
  *     print1525_strict_..         the same by this project's own timing alone, edge by edge, or in a list
@@ -51,10 +50,10 @@
  *
  * WHAT A CALLER CARRIES.
  * - Threads: no call keeps any state, so several threads may make calls at once.
- * - Stack: a call for texts takes up to PRINT1525_STACK bytes of it, a call for edges or words 4096.
+ * - Stack: a call takes up to PRINT1525_STACK bytes of it, a call for words or that takes edges 4096.
  * - Memory: malloc, realloc and free of one allocator, aligned as C demands. Where they give none, a call fails with
  *   PRINT1525_FAULT_NO_MEMORY and has freed what it took.
- * - Signal handlers: the calls for edges and words, which take no memory, and no others.
+ * - Signal handlers: the calls for words and those that take edges, which take no memory, and no others.
  * - fork: a child may make calls where it may call malloc.
  * - No call touches files, streams, locales, the time or the state of floating point; errno only where malloc does.
  *
@@ -353,12 +352,12 @@ PRINT1525_CALL int print1525_print(const uint16_t *inputs, size_t length, const 
 
 /* Checks a trace.
  *
- * Reads: a recording as below, a trace text of at most 1,099,511,627,776 bytes; words, a list or a story.
- * Gives: the text that `print1525 check` writes: a line for each frame that the trace spells, and `lawful`; or its
- * story.
+ * Reads: a recording as below, a trace text of at most 1,099,511,627,776 bytes; words.
+ * Gives: the text that `print1525 check` writes: a line for each frame that the trace spells, and `lawful`; its story;
+ * or a line of JSON for each byte, as print1525_readings has them.
  * Refuses: words (20), recording (29); a text above the limit (9); and a trace by its first fault: a bad line (8) with
- * its number, an edge (11 to 16) with its index, or a line of a dump or a table (31 to 49, 70 to 77). The story of a
- * trace that is refused is given up to the fault. */
+ * its number, an edge (11 to 16) with its index, or a line of a dump or a table (31 to 49, 70 to 77). The story and
+ * the JSON of a trace that is refused are given up to the fault. */
 PRINT1525_CALL int print1525_check(const void *trace, size_t length, const print1525_settings *settings, void *buffer,
                                    size_t capacity, print1525_details *details);
 
@@ -374,10 +373,11 @@ PRINT1525_CALL int print1525_readings(const void *recording, size_t length, cons
 
 /* Gives the pages that printers 4 and 5 print of a recording.
  *
- * Reads: a recording, as print1525_readings; page, printer and sheet. Characters are this project's own.
+ * Reads: a recording, as print1525_readings; page, printer, sheet and characters.
  * Gives: the text that `print1525 decode --as text` and the others write, with page as its format.
- * Refuses: recording (29), page with printer and sheet (24); a recording, as print1525_readings, with the pages of what
- * comes before the fault; and a picture (50, 51), as print1525_pages. */
+ * Refuses: recording (29), page with printer and sheet (24), in this order; characters, by their first bad line (52); a
+ * recording, as print1525_readings, with the pages of what comes before the fault; and a picture (50, 51), as
+ * print1525_pages. */
 PRINT1525_CALL int print1525_reprint(const void *recording, size_t length, const print1525_settings *settings,
                                      void *buffer, size_t capacity, print1525_details *details);
 
@@ -676,8 +676,12 @@ void print1525_plain_readings(const uint8_t *bytes, size_t bytes_length, uint8_t
 void print1525_plain_reprint(const uint8_t *bytes, size_t bytes_length, uint8_t source, const uint8_t *atn,
                              size_t atn_length, const uint8_t *clock, size_t clock_length, const uint8_t *line,
                              size_t line_length, uint8_t inverted, uint64_t start, uint64_t rate, uint8_t format,
-                             uint8_t device, uint64_t sheet, uint8_t *buffer, size_t capacity,
-                             print1525_plain_answer *answer);
+                             uint8_t device, uint64_t sheet, const uint8_t *characters, size_t characters_length,
+                             uint8_t *buffer, size_t capacity, print1525_plain_answer *answer);
+void print1525_plain_check_json(const uint8_t *bytes, size_t bytes_length, uint8_t source, const uint8_t *atn,
+                                size_t atn_length, const uint8_t *clock, size_t clock_length, const uint8_t *line,
+                                size_t line_length, uint8_t inverted, uint64_t start, uint64_t rate, uint8_t *buffer,
+                                size_t capacity, print1525_plain_answer *answer);
 void print1525_plain_explain_script(const uint8_t *script, size_t script_length, uint8_t *buffer, size_t capacity,
                                     print1525_plain_answer *answer);
 void print1525_plain_explain_stop(const uint8_t *script, size_t script_length, uint8_t kept, uint8_t stop,
@@ -1061,6 +1065,7 @@ enum print1525_own_of {
     PRINT1525_OWN_REPORT,
     PRINT1525_OWN_READINGS,
     PRINT1525_OWN_REPRINT,
+    PRINT1525_OWN_JSON,
     PRINT1525_OWN_EXPLAIN_TRACE,
     PRINT1525_OWN_EXPLAIN_READING,
     PRINT1525_OWN_EDGES
@@ -1092,7 +1097,12 @@ PRINT1525_OWN print1525_plain_answer print1525_own_recording(const print1525_own
         break;
     case PRINT1525_OWN_REPRINT:
         print1525_plain_reprint(bytes, length, s->recording, atn, a, clock, c, data, d, s->inverted, s->start, s->rate,
-                                s->page, s->printer, s->sheet, buffer, capacity, &answer);
+                                s->page, s->printer, s->sheet, PRINT1525_OWN_AS(const uint8_t *, call->characters),
+                                s->characters_length, buffer, capacity, &answer);
+        break;
+    case PRINT1525_OWN_JSON:
+        print1525_plain_check_json(bytes, length, s->recording, atn, a, clock, c, data, d, s->inverted, s->start,
+                                   s->rate, buffer, capacity, &answer);
         break;
     case PRINT1525_OWN_EXPLAIN_TRACE:
         print1525_plain_explain_trace(bytes, length, s->recording, atn, a, clock, c, data, d, s->inverted, s->start,
@@ -1130,11 +1140,13 @@ PRINT1525_CALL int print1525_check(const void *trace, size_t length, const print
     print1525_plain_answer answer;
     if (print1525_own_begin(&call, trace, length, settings, buffer, capacity)->fault != PRINT1525_FAULT_NONE)
         return print1525_own_refuse(details, call.fault);
-    if (call.settings.words > PRINT1525_WORDS_STORY)
+    if (call.settings.words > PRINT1525_WORDS_JSON)
         return print1525_own_refuse(details, PRINT1525_FAULT_NO_SUCH_WORDS);
-    if (call.settings.words == PRINT1525_WORDS_STORY || call.settings.recording != PRINT1525_RECORDING_TEXT)
-        return print1525_own_said(
-            details, print1525_own_recording(&call, PRINT1525_OWN_REPORT, length, call.settings.words, capacity), 1);
+    if (call.settings.words != PRINT1525_WORDS_LIST || call.settings.recording != PRINT1525_RECORDING_TEXT) {
+        const int of = call.settings.words == PRINT1525_WORDS_JSON ? PRINT1525_OWN_JSON : PRINT1525_OWN_REPORT;
+        return print1525_own_said(details,
+                                  print1525_own_recording(&call, of, length, call.settings.words, capacity), 1);
+    }
     print1525_plain_check(PRINT1525_OWN_AS(const uint8_t *, call.input), length,
                           PRINT1525_OWN_AS(uint8_t *, call.buffer), capacity, &answer);
     return print1525_own_answer(details, answer);

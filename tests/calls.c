@@ -630,7 +630,7 @@ static void try_settings(void) {
         uint8_t recording, words, intervals, bounds;
         int fault;
     } recordings[] = {
-        {"check", 3, 2, 9, 9, PRINT1525_FAULT_NO_SUCH_WORDS}, {"check", 3, 0, 9, 9, PRINT1525_FAULT_NO_SUCH_RECORDING},
+        {"check", 3, 3, 9, 9, PRINT1525_FAULT_NO_SUCH_WORDS}, {"check", 3, 2, 9, 9, PRINT1525_FAULT_NO_SUCH_RECORDING}, {"check", 3, 0, 9, 9, PRINT1525_FAULT_NO_SUCH_RECORDING},
         {"check", 255, 1, 9, 9, PRINT1525_FAULT_NO_SUCH_RECORDING}, {"check", 0, 255, 0, 0, PRINT1525_FAULT_NO_SUCH_WORDS},
         {"decode", 0, 1, 0, 0, PRINT1525_FAULT_NO_SUCH_WORDS}, {"decode", 9, 3, 0, 0, PRINT1525_FAULT_NO_SUCH_WORDS},
         {"decode", 0, 0, 2, 0, PRINT1525_FAULT_NO_SUCH_WORDS}, {"decode", 0, 0, 0, 2, PRINT1525_FAULT_NO_SUCH_WORDS},
@@ -639,7 +639,7 @@ static void try_settings(void) {
         {"explain_reading", 255, 9, 9, 9, PRINT1525_FAULT_NO_SUCH_RECORDING},
     };
     static const uint16_t no_input[1] = {65535};
-    static const char *const drawing[] = {"pages", "raw", "print"};
+    static const char *const drawing[] = {"pages", "raw", "print", "reprint"};
     static const char *const all[] = {"pages", "bus", "listing", "raw", "print", "check", "decode", "reprint", "explain_script", "explain_stop", "explain_trace", "explain_reading"};
     static const print1525_settings defaults = PRINT1525_SETTINGS_INIT;
     static job j;
@@ -682,7 +682,7 @@ static void try_settings(void) {
         if (!is_answer(call(&j, buffer.bytes, buffer.size), PRINT1525_REFUSED, recordings[row].fault, 0, 0) || !is_untouched(buffer.bytes, buffer.size))
             is_wrong("a setting of a recording that is none, row", row);
     }
-    for (row = 0; row < 6; row++) {
+    for (row = 0; row < 8; row++) {
         j.name = drawing[row / 2];
         j.settings = defaults;
         j.settings.page = row % 2 ? PRINT1525_PAGE_SVG : PRINT1525_PAGE_LIST;
