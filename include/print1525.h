@@ -27,8 +27,9 @@
  * This file is the manual. docs/C.md shows how to build and link, and a program for each purpose. include/print1525.hpp
  * wraps the calls for C++17; examples/ has wrappers for Python and Rust.
  *
- * The calls are proved: each gives exactly what its definition says (docs/C.md says where the definitions are). Not
- * proved is the last part of this file: the functions that unpack settings, refuse pointers and call them.
+ * The calls are proved: each gives exactly what its definition says (docs/C.md says where the definitions are); of an
+ * explanation only its place is. Not proved is the last part of this file: the functions that unpack settings, refuse
+ * pointers and call them.
  *
  * ANSWERS. A call returns an exit status of the program print1525 (enum print1525_status), and writes all of its
  * details, unless they are NULL. A text is at the front of the buffer, without a zero byte after it; the rest of the
