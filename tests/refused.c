@@ -59,8 +59,9 @@ void *__wrap_malloc(size_t size) {
 }
 
 void __wrap_free(void *old) {
-    head *const block = (head *)old - 1;
+    head *block;
     if (old == NULL) return;
+    block = (head *)old - 1;
     if (block->mark != BLOCK) is_wrong("memory is given back that nobody took", taken);
     block->mark = 0;
     live--;
