@@ -236,8 +236,15 @@ enum print1525_page {
 enum print1525_trace { PRINT1525_TRACE_TEXT = 0, PRINT1525_TRACE_VCD = 1 };
 /* `set`: the graphic/upper case or the lower/upper case characters. */
 enum print1525_set { PRINT1525_SET_UPPER = 0, PRINT1525_SET_LOWER = 1 };
-/* `recording`: a trace text, a Value Change Dump, or a table of comma separated values. */
-enum print1525_recording { PRINT1525_RECORDING_TEXT = 0, PRINT1525_RECORDING_VCD = 1, PRINT1525_RECORDING_CSV = 2 };
+/* `recording`: a trace text, a Value Change Dump, a table of comma separated values, or what its first 4096 bytes show,
+ * and where they show nothing a trace text, or a table. */
+enum print1525_recording {
+    PRINT1525_RECORDING_TEXT = 0,
+    PRINT1525_RECORDING_VCD = 1,
+    PRINT1525_RECORDING_CSV = 2,
+    PRINT1525_RECORDING_FOUND = 3,
+    PRINT1525_RECORDING_FOUND_OR_CSV = 4
+};
 /* `words`: a line for each frame or byte; what happens, byte by byte with its times; a line of JSON for each byte. */
 enum print1525_words { PRINT1525_WORDS_LIST = 0, PRINT1525_WORDS_STORY = 1, PRINT1525_WORDS_JSON = 2 };
 /* `bounds`: those of the profile, or of the Programmer's Reference Guide. */

@@ -6,7 +6,7 @@
  *     calls raw SET PAGE
  *     calls print PAGE                                (inputs, a number each line)
  *     calls listing FROM                              (the text of a listing: 0 a script, 1 a saved program, 2 petcat's text)
- *     calls check [RECORDING [WORDS]]                 (text, vcd, csv; list, story, json)
+ *     calls check [RECORDING [WORDS]]                 (text, vcd, csv, what is found, found or csv; list, story, json)
  *     calls decode RECORDING WORDS INTERVALS BOUNDS   (print1525_readings; BOUNDS: profile, guide)
  *     calls reprint RECORDING PAGE
  *     calls edges RECORDING                           (the edges of a recording, a line each)
@@ -630,12 +630,12 @@ static void try_settings(void) {
         uint8_t recording, words, intervals, bounds;
         int fault;
     } recordings[] = {
-        {"check", 3, 3, 9, 9, PRINT1525_FAULT_NO_SUCH_WORDS}, {"check", 3, 2, 9, 9, PRINT1525_FAULT_NO_SUCH_RECORDING}, {"check", 3, 0, 9, 9, PRINT1525_FAULT_NO_SUCH_RECORDING},
+        {"check", 5, 3, 9, 9, PRINT1525_FAULT_NO_SUCH_WORDS}, {"check", 5, 2, 9, 9, PRINT1525_FAULT_NO_SUCH_RECORDING}, {"check", 5, 0, 9, 9, PRINT1525_FAULT_NO_SUCH_RECORDING},
         {"check", 255, 1, 9, 9, PRINT1525_FAULT_NO_SUCH_RECORDING}, {"check", 0, 255, 0, 0, PRINT1525_FAULT_NO_SUCH_WORDS},
         {"decode", 0, 1, 0, 0, PRINT1525_FAULT_NO_SUCH_WORDS}, {"decode", 9, 3, 0, 0, PRINT1525_FAULT_NO_SUCH_WORDS},
         {"decode", 0, 0, 2, 0, PRINT1525_FAULT_NO_SUCH_WORDS}, {"decode", 0, 0, 0, 2, PRINT1525_FAULT_NO_SUCH_WORDS},
-        {"decode", 3, 0, 1, 1, PRINT1525_FAULT_NO_SUCH_RECORDING}, {"decode", 3, 2, 9, 9, PRINT1525_FAULT_NO_SUCH_RECORDING},
-        {"reprint", 3, 9, 9, 9, PRINT1525_FAULT_NO_SUCH_RECORDING}, {"explain_trace", 3, 9, 9, 9, PRINT1525_FAULT_NO_SUCH_RECORDING},
+        {"decode", 5, 0, 1, 1, PRINT1525_FAULT_NO_SUCH_RECORDING}, {"decode", 5, 2, 9, 9, PRINT1525_FAULT_NO_SUCH_RECORDING},
+        {"reprint", 5, 9, 9, 9, PRINT1525_FAULT_NO_SUCH_RECORDING}, {"explain_trace", 5, 9, 9, 9, PRINT1525_FAULT_NO_SUCH_RECORDING},
         {"explain_reading", 255, 9, 9, 9, PRINT1525_FAULT_NO_SUCH_RECORDING},
     };
     static const uint16_t no_input[1] = {65535};
@@ -1030,7 +1030,7 @@ static void set(job *j, int words, char **word) {
     static const uint8_t modes[] = {PRINT1525_MODE_EACH, PRINT1525_MODE_KEPT}, sets[] = {PRINT1525_SET_UPPER, PRINT1525_SET_LOWER};
     static const uint8_t pages[] = {PRINT1525_PAGE_LIST, PRINT1525_PAGE_TEXT, PRINT1525_PAGE_SVG, PRINT1525_PAGE_PNG, PRINT1525_PAGE_PDF};
     static const uint8_t traces[] = {PRINT1525_TRACE_TEXT, PRINT1525_TRACE_VCD}, forms[] = {PRINT1525_FROM_TEXT, PRINT1525_FROM_PRG, PRINT1525_FROM_PETCAT};
-    static const uint8_t recordings[] = {PRINT1525_RECORDING_TEXT, PRINT1525_RECORDING_VCD, PRINT1525_RECORDING_CSV};
+    static const uint8_t recordings[] = {PRINT1525_RECORDING_TEXT, PRINT1525_RECORDING_VCD, PRINT1525_RECORDING_CSV, PRINT1525_RECORDING_FOUND, PRINT1525_RECORDING_FOUND_OR_CSV};
     static const uint8_t kinds[] = {PRINT1525_WORDS_LIST, PRINT1525_WORDS_STORY, PRINT1525_WORDS_JSON}, bounds[] = {PRINT1525_BOUNDS_PROFILE, PRINT1525_BOUNDS_GUIDE};
     print1525_settings *const s = &j->settings;
     *s = defaults;

@@ -123,7 +123,7 @@ static print1525_settings made_settings(uint8_t *memories[4]) {
         for (index = 0; index < SETTINGS; index++) bytes[index] = (uint8_t)drawn();
     } else {
         made.printer = (uint8_t)(below(4) ? 0 : 4 + below(2));
-        made.recording = (uint8_t)below(3);
+        made.recording = (uint8_t)below(5);
         made.words = (uint8_t)below(3);
         made.intervals = (uint8_t)below(2);
         made.bounds = (uint8_t)below(2);

@@ -35,7 +35,7 @@ NAMES = {
     "trace": ("text", "vcd"),
     "set": ("upper", "lower"),
     "printer": ("all",),
-    "recording": ("text", "vcd", "csv"),
+    "recording": ("text", "vcd", "csv", "found", "found-or-csv"),
     "words": ("list", "story", "json"),
     "intervals": ("no", "yes"),
     "bounds": ("profile", "guide"),
@@ -97,12 +97,13 @@ class Receiver(Structure):
 
 
 class Result(NamedTuple):
-    """A text, and the message of the BASIC error that stopped the run, or for an explanation the place that it is about."""
+    """A text; the message of the BASIC error that stopped the run, its number, and its statement, which of an explanation is
+    the place that it is about."""
 
     text: bytes
     stop: Optional[str]
+    fault: int = 0
     place: int = 0
-    details: Optional[Details] = None
 
 
 class Refused(Exception):
@@ -169,7 +170,7 @@ def _text(make, given, length, words):
     made = text.raw[: details.length]
     if status > STOPPED:
         raise Refused(details, made)
-    return Result(made, _message(details) if status == STOPPED else None, details.place, details)
+    return Result(made, _message(details) if status == STOPPED else None, details.fault, details.place)
 
 
 def _bytes(given):
@@ -190,10 +191,10 @@ pages, bus, listing, raw, check, readings, reprint, explain_script, explain_trac
 
 def explain_stop(script, stopped, **settings):
     """print1525_explain_stop: why the run stopped that gave this Result."""
-    script = _bytes(script)
+    script, stop = _bytes(script), Details(status=STOPPED, fault=stopped.fault, place=stopped.place)
 
     def make(given, length, chosen, *rest):
-        return _LIBRARY.print1525_explain_stop(given, length, chosen, byref(stopped.details), *rest)
+        return _LIBRARY.print1525_explain_stop(given, length, chosen, byref(stop), *rest)
 
     return _text(make, script, len(script), settings)
 

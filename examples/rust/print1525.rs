@@ -324,6 +324,8 @@ pub enum Recording {
     Text = 0,
     Vcd = 1,
     Csv = 2,
+    Found = 3,
+    FoundOrCsv = 4,
 }
 
 #[derive(Clone, Copy, Debug, Default, PartialEq, Eq)]
