@@ -6,10 +6,16 @@
  *     print1525_listing           a saved program or petcat's text as the text of a script      pages --from
  *     print1525_raw               the page of the bytes that a printer gets                     raw
  *     print1525_print             the page of bytes and of selections of a character set
- *     print1525_check             the frames that a trace text spells, or its first fault       check
+ *     print1525_check             the frames or the story of a trace, or its first fault        check
+ *     print1525_readings          what a recording of any bus says, as lines or as JSON         decode
+ *     print1525_reprint           the pages that the printers of a recording print              decode --as
+ *     print1525_explain_..        why a script, a trace or a recording is refused, and why
+ *                                 a run stopped, in words for people                            --explain
  *
- *     Edges of the serial bus; these calls take no memory
- *     print1525_decoder_..        what any recording of the bus says, edge by edge              decode
+ *     print1525_edges             the edges of a recording in any format
+ *
+ *     Receivers of edges of the serial bus; these calls take no memory
+ *     print1525_decoder_..        what any recording of the bus says, edge by edge
  *     print1525_receiver_..       what comes to a device on any bus, edge by edge
  *     print1525_strict_..         the same by this project's own timing alone, edge by edge, or in a list
  *
@@ -24,14 +30,16 @@
  * This file is the manual. docs/C.md shows how to build and link, and a program for each purpose. include/print1525.hpp
  * wraps the calls for C++17; examples/ has wrappers for Python and Rust.
  *
- * The calls are proved: each gives exactly what its definition says (docs/C.md says where the definitions are). Not
- * proved is the last part of this file: the functions that unpack settings, refuse pointers and call them.
+ * The calls are proved: each gives exactly what its definition says (docs/C.md says where the definitions are); of an
+ * explanation only its place is. Not proved is the last part of this file: the functions that unpack settings, refuse
+ * pointers and call them.
  *
  * ANSWERS. A call returns an exit status of the program print1525 (enum print1525_status), and writes all of its
  * details, unless they are NULL. A text is at the front of the buffer, without a zero byte after it; the rest of the
- * buffer stays as it was. With every status but 0 and 1 the whole buffer does. No text is cut: if the buffer is too
- * small, the call fails with PRINT1525_FAULT_TOO_SMALL, and `length` is the size that the text needs. So a caller may
- * ask for the size with a NULL buffer of size 0, or guess, and ask again where `length` is more than the buffer has.
+ * buffer stays as it was. With every status but 0 and 1 the whole buffer does; but what a recording says before its
+ * first fault is given with status 2, and `length` says how much that is. No text is cut: if the buffer is too small,
+ * the call fails with PRINT1525_FAULT_TOO_SMALL, and `length` is the size that the text needs. So a caller may ask for
+ * the size with a NULL buffer of size 0, or guess, and ask again where `length` is more than the buffer has.
  *
  * POINTERS. A pointer may be NULL where its length is 0. With another length NULL is refused (NULL_POINTER). A buffer
  * that overlaps what the call reads is refused (OVERLAP). Settings and details may be NULL: the settings of
@@ -46,10 +54,10 @@
  *
  * WHAT A CALLER CARRIES.
  * - Threads: no call keeps any state, so several threads may make calls at once.
- * - Stack: a call for texts takes up to PRINT1525_STACK bytes of it, every other call 4096.
+ * - Stack: a call takes up to PRINT1525_STACK bytes of it, a call for words, watched printers or edges 4096.
  * - Memory: malloc, realloc and free of one allocator, aligned as C demands. Where they give none, a call fails with
  *   PRINT1525_FAULT_NO_MEMORY and has freed what it took.
- * - Signal handlers: the calls for edges, watched printers and words, which take no memory, and no others.
+ * - Signal handlers: the calls for words, watched printers and edges, which take no memory, and no others.
  * - fork: a child may make calls where it may call malloc.
  * - No call touches files, streams, locales, the time or the state of floating point; errno only where malloc does.
  *
@@ -98,9 +106,10 @@ enum print1525_status {
 typedef struct {
     int32_t status; /* what it returned */
     int32_t fault;  /* one of enum print1525_fault; PRINT1525_FAULT_NONE with status 0 */
-    size_t place;   /* the statement, line, edge or input that the fault names, else 0 */
+    size_t place;   /* the statement, line, edge or input that the fault or an explanation names, else 0 */
     size_t column;  /* with UNKNOWN_NAME and BAD_CHARACTER the column of that line, from 1, else 0 */
-    size_t length;  /* with statuses 0 and 1, and with TOO_SMALL, how many items the text or list has; else 0 */
+    size_t length;  /* with statuses 0 and 1, and with TOO_SMALL, how many items the text or list has; with a fault of
+                     * a recording how many come before it; else 0 */
 } print1525_details;
 
 /* Why a call does not return 0. */
@@ -128,13 +137,33 @@ enum print1525_fault {
     /* refused: of an edge of any bus, earlier than the one before it; `place` is 0, since nobody counts them */
     PRINT1525_FAULT_GOES_BACK = 17,
     /* refused: a number that means no device or no setting; `place` is 0 */
+    PRINT1525_FAULT_NO_SUCH_WORDS = 20,
     PRINT1525_FAULT_NO_SUCH_DEVICE = 21,
     PRINT1525_FAULT_NO_SUCH_PRINTERS = 22,
     PRINT1525_FAULT_NO_SUCH_STATUS = 23,
-    PRINT1525_FAULT_NO_SUCH_FORMAT = 24,
+    PRINT1525_FAULT_NO_SUCH_FORMAT = 24, /* or the format shows all of the pages, and not a printer or a sheet alone */
     PRINT1525_FAULT_NO_SUCH_SET = 25,
     /* refused: a number that means no input of a printer; `place` is its index, from 0 */
     PRINT1525_FAULT_NO_SUCH_INPUT = 28,
+    /* refused: a number that means no format of a recording, or no BASIC error; `place` is 0 */
+    PRINT1525_FAULT_NO_SUCH_RECORDING = 29,
+    PRINT1525_FAULT_NO_SUCH_STOP = 30,
+    /* refused: of a recording: a dump or a table; `place` is the line, from 1 */
+    PRINT1525_FAULT_NO_ATN = 31,
+    PRINT1525_FAULT_NO_CLOCK = 32,
+    PRINT1525_FAULT_NO_DATA = 33,
+    PRINT1525_FAULT_NO_LEVEL_OF_ATN = 34,
+    PRINT1525_FAULT_NO_LEVEL_OF_CLOCK = 35,
+    PRINT1525_FAULT_NO_LEVEL_OF_DATA = 36,
+    PRINT1525_FAULT_BAD_WORD = 41,
+    PRINT1525_FAULT_NO_END = 42,
+    PRINT1525_FAULT_NO_DEFINITIONS = 43,
+    PRINT1525_FAULT_NO_TIMESCALE = 44,
+    PRINT1525_FAULT_BAD_TIME = 45,
+    PRINT1525_FAULT_LINE_GOES_BACK = 46,
+    PRINT1525_FAULT_LEVEL_X = 47,
+    PRINT1525_FAULT_LEVEL_Z = 48,
+    PRINT1525_FAULT_BAD_LEVEL = 49,
     /* refused: a sheet that the pages do not have; `place` is how many they have */
     PRINT1525_FAULT_NO_SUCH_SHEET = 50,
     /* refused: a document that is longer than its format allows; `place` is 0 */
@@ -150,6 +179,14 @@ enum print1525_fault {
     PRINT1525_FAULT_CUT_OFF = 62,
     PRINT1525_FAULT_UNKNOWN_NAME = 63,
     PRINT1525_FAULT_BAD_CHARACTER = 64,
+    /* refused: of a recording: a dump or a table; `place` is the line, from 1 */
+    PRINT1525_FAULT_BAD_TIMESCALE = 70,
+    PRINT1525_FAULT_NO_TIME = 71,
+    PRINT1525_FAULT_UTF_16 = 72,
+    PRINT1525_FAULT_ARCHIVE = 73,
+    PRINT1525_FAULT_ANOTHER_ATN = 75,
+    PRINT1525_FAULT_ANOTHER_CLOCK = 76,
+    PRINT1525_FAULT_ANOTHER_DATA = 77,
     /* refused: of what the call was passed; `place` is 0 */
     PRINT1525_FAULT_NULL_POINTER = 80,
     PRINT1525_FAULT_OVERLAP = 81,
@@ -189,8 +226,8 @@ enum print1525_present {
 enum print1525_mode { PRINT1525_MODE_EACH = 0, PRINT1525_MODE_KEPT = 1 };
 /* `from`: what a script is: its text, a saved program (a `.prg` file), or petcat's text of one. */
 enum print1525_from { PRINT1525_FROM_TEXT = 0, PRINT1525_FROM_PRG = 1, PRINT1525_FROM_PETCAT = 2 };
-/* `page`: a line for each row and mark, lines of 80 columns, an SVG document, a sheet of eleven inches as a PNG file
- * (the first of the first printer that printed), or a PDF document of all sheets. */
+/* `page`: a line for each row and mark, lines of 80 columns, an SVG document, a sheet of eleven inches as a PNG file,
+ * or a PDF document of all sheets. */
 enum print1525_page {
     PRINT1525_PAGE_LIST = 0,
     PRINT1525_PAGE_TEXT = 1,
@@ -202,12 +239,31 @@ enum print1525_page {
 enum print1525_trace { PRINT1525_TRACE_TEXT = 0, PRINT1525_TRACE_VCD = 1 };
 /* `set`: the graphic/upper case or the lower/upper case characters. */
 enum print1525_set { PRINT1525_SET_UPPER = 0, PRINT1525_SET_LOWER = 1 };
+/* `recording`: a trace text, a Value Change Dump, a table of comma separated values, or what its first 4096 bytes show,
+ * and where they show nothing a trace text, or a table. */
+enum print1525_recording {
+    PRINT1525_RECORDING_TEXT = 0,
+    PRINT1525_RECORDING_VCD = 1,
+    PRINT1525_RECORDING_CSV = 2,
+    PRINT1525_RECORDING_FOUND = 3,
+    PRINT1525_RECORDING_FOUND_OR_CSV = 4
+};
+/* `words`: a line for each frame or byte; what happens, byte by byte with its times; a line of JSON for each byte. */
+enum print1525_words { PRINT1525_WORDS_LIST = 0, PRINT1525_WORDS_STORY = 1, PRINT1525_WORDS_JSON = 2 };
+/* `bounds`: those of the profile, or of the Programmer's Reference Guide. */
+enum print1525_bounds { PRINT1525_BOUNDS_PROFILE = 0, PRINT1525_BOUNDS_GUIDE = 1 };
 
 /* The delay numbers of a party, as in the option --delays. After a list's end each delay is the typical one. */
 typedef struct {
     const uint16_t *numbers;
     size_t length;
 } print1525_delays;
+
+/* The name of a signal in a dump or a table; without a byte it is the usual one: ATN, CLOCK or CLK, DATA. */
+typedef struct {
+    const char *bytes;
+    size_t length;
+} print1525_name;
 
 /* What the options of the program say. Begin with PRINT1525_SETTINGS_INIT, the program's own defaults, and change what
  * you want; each call says which settings it reads. */
@@ -219,10 +275,23 @@ typedef struct {
     uint8_t page;                     /* --as of pages: enum print1525_page */
     uint8_t trace;                    /* --as of bus: enum print1525_trace */
     uint8_t set;                      /* --set: enum print1525_set */
-    uint8_t reserved[2];              /* 0 */
+    uint8_t printer;                  /* --device: 4 or 5, the pages of this printer alone; 0: all, in a PNG file the
+                                       * first printer that printed */
+    uint8_t recording;                /* --from of check and decode: enum print1525_recording */
+    uint8_t words;                    /* --as of check and decode: enum print1525_words */
+    uint8_t intervals;                /* --intervals: 1: also the intervals outside their bounds; 0: not */
+    uint8_t bounds;                   /* --bounds: enum print1525_bounds */
+    uint8_t inverted;                 /* --invert: 1: levels are inverted; 0: not */
+    uint8_t reserved[4];              /* 0 */
+    uint64_t sheet;                   /* --sheet: this sheet alone, from 1; 0: all, in a PNG file the first */
+    uint64_t start;                   /* --from-time: the microsecond at which a dump or a table starts */
+    uint64_t rate;                    /* --rate: samples in a second, of a table without times; 0: it says it */
     print1525_delays computer_delays; /* --delays: those of the computer, of printer 4 and of printer 5 */
     print1525_delays printer4_delays;
     print1525_delays printer5_delays;
+    print1525_name atn;               /* --names: those of the signals in a dump or a table */
+    print1525_name clock;
+    print1525_name data;
     const void *characters;           /* --characters: the bytes of such a file; an empty one: this project's own */
     size_t characters_length;
 } print1525_settings;
@@ -230,26 +299,29 @@ typedef struct {
 #define PRINT1525_SETTINGS_INIT                                                                                     \
     {                                                                                                               \
         sizeof(print1525_settings), PRINT1525_PRESENT_BOTH, PRINT1525_MODE_EACH, PRINT1525_FROM_TEXT,               \
-            PRINT1525_PAGE_LIST, PRINT1525_TRACE_TEXT, PRINT1525_SET_UPPER, {0, 0}, {NULL, 0}, {NULL, 0}, {NULL, 0}, \
-            NULL, 0                                                                                                 \
+            PRINT1525_PAGE_LIST, PRINT1525_TRACE_TEXT, PRINT1525_SET_UPPER, 0, PRINT1525_RECORDING_TEXT,            \
+            PRINT1525_WORDS_LIST, 0, PRINT1525_BOUNDS_PROFILE, 0, {0, 0, 0, 0}, 0, 0, 0, {NULL, 0}, {NULL, 0},      \
+            {NULL, 0}, {NULL, 0}, {NULL, 0}, {NULL, 0}, NULL, 0                                                     \
     }
 
 /* ------------------------------------------------------------------------------------------- calls for texts -- */
 
 /* Runs a script and gives its pages.
  *
- * Reads: a script of at most 16,777,216 bytes; present, mode, from, page, the delays (which change no page) and
- * characters.
+ * Reads: a script of at most 16,777,216 bytes; present, mode, from, page, printer, sheet, the delays (which change no
+ * page) and characters.
  * Gives: the text that `print1525 pages` writes. Status 1 comes with the BASIC error that stopped the run; what was
  * printed until then is in the text. A script that stopped runs twice, the second time to find the error.
- * Refuses: printers (22), status (23) and format (24), in this order; characters, by their first bad line (52); from
- * (60) and a listing, as print1525_listing; a script above the limit (9), or by its first fault (1 to 7). */
+ * Refuses: present (22), mode (23) and page with printer and sheet (24), in this order: SVG and PNG show any part of
+ * the pages, PDF one printer, and the others all of them; characters, by their first bad line (52); from (60) and a
+ * listing, as print1525_listing; a script above the limit (9), or by its first fault (1 to 7); after the run a sheet
+ * that there is not (50), with how many there are, and a document that is too large (51). */
 PRINT1525_CALL int print1525_pages(const void *script, size_t length, const print1525_settings *settings, void *buffer,
                                    size_t capacity, print1525_details *details);
 
 /* Runs a script and gives the trace of its run on the serial bus.
  *
- * Reads: what print1525_pages reads, with trace in the place of page and characters.
+ * Reads: what print1525_pages reads, with trace in the place of page, printer, sheet and characters.
  * Gives: the text that `print1525 bus` writes. Status 1 comes with the BASIC error that stopped the run.
  * Refuses: as print1525_pages. */
 PRINT1525_CALL int print1525_bus(const void *script, size_t length, const print1525_settings *settings, void *buffer,
@@ -267,10 +339,10 @@ PRINT1525_CALL int print1525_listing(const void *listing, size_t length, const p
 
 /* Prints the bytes that a printer gets.
  *
- * Reads: at most 4,294,967,295 bytes; set, page and characters.
+ * Reads: at most 4,294,967,295 bytes; set, page, printer, sheet and characters.
  * Gives: the text that `print1525 raw` writes, the page as that of printer 4.
- * Refuses: set (25) and format (24), in this order; characters, by their first bad line (52); then bytes above the
- * limit (9). */
+ * Refuses: set (25) and page with printer and sheet (24), in this order; characters, by their first bad line (52); then
+ * bytes above the limit (9); and a picture (50, 51), as print1525_pages. */
 PRINT1525_CALL int print1525_raw(const void *bytes, size_t length, const print1525_settings *settings, void *buffer,
                                  size_t capacity, print1525_details *details);
 
@@ -279,24 +351,85 @@ enum print1525_input { PRINT1525_SELECT_UPPER = 256, PRINT1525_SELECT_LOWER = 25
 
 /* Prints what a printer receives: bytes, and between them selections of a character set.
  *
- * Reads: at most 4,294,967,296 inputs; page and characters. An emulator gives PRINT1525_SELECT_UPPER for each LISTEN
- * to the printer, and PRINT1525_SELECT_LOWER directly after it if secondary address 7 follows, as for a file opened by
- * OPEN 4,4,7. Before the first selection the graphic/upper case set is selected.
+ * Reads: at most 4,294,967,296 inputs; page, printer, sheet and characters. An emulator gives PRINT1525_SELECT_UPPER
+ * for each LISTEN to the printer, and PRINT1525_SELECT_LOWER directly after it if secondary address 7 follows, as for
+ * a file opened by OPEN 4,4,7. Before the first selection the graphic/upper case set is selected.
  * Gives: the text of the page, as that of printer 4. Of a selection and bytes after it this is what print1525_raw
  * gives for that set and these bytes.
- * Refuses: format (24); characters, by their first bad line (52); inputs above the limit (9); then the first number
- * above 257 (28) with its index, before any memory is taken. */
+ * Refuses: page with printer and sheet (24); characters, by their first bad line (52); inputs above the limit (9); then
+ * the first number above 257 (28) with its index, before any memory is taken; and a picture (50, 51). */
 PRINT1525_CALL int print1525_print(const uint16_t *inputs, size_t length, const print1525_settings *settings,
                                    void *buffer, size_t capacity, print1525_details *details);
 
-/* Checks a trace text.
+/* Checks a trace.
  *
- * Reads: a text of at most 1,099,511,627,776 bytes, as print1525_bus writes it; no setting yet.
- * Gives: the text that `print1525 check` writes: a line for each frame that the trace spells, and `lawful`.
- * Refuses: a text above the limit (9), or by its first fault: a bad line (8) with its number, or an edge (11 to 16)
- * with its index. */
+ * Reads: a recording as below, a trace text of at most 1,099,511,627,776 bytes; words.
+ * Gives: the text that `print1525 check` writes: a line for each frame that the trace spells, and `lawful`; its story;
+ * or a line of JSON for each byte, as print1525_readings has them.
+ * Refuses: words (20), recording (29); a text above the limit (9); and a trace by its first fault: a bad line (8) with
+ * its number, an edge (11 to 16) with its index, or a line of a dump or a table (31 to 49, 70 to 77). The story and
+ * the JSON of a trace that is refused are given up to the fault. */
 PRINT1525_CALL int print1525_check(const void *trace, size_t length, const print1525_settings *settings, void *buffer,
                                    size_t capacity, print1525_details *details);
+
+/* Reads a recording of any bus, wherever it begins, and gives what it says.
+ *
+ * Reads: a recording: a trace text, or a dump or a table by recording, atn, clock, data, inverted, start and rate;
+ * words, a list or JSON, and of a list intervals and bounds.
+ * Gives: the text that `print1525 decode` writes.
+ * Refuses: words (20), recording (29); and a recording by its first fault: a bad line (8), an edge earlier than the one
+ * before it (12), or a line of a dump or a table (31 to 49, 70 to 77). What comes before the fault is given. */
+PRINT1525_CALL int print1525_readings(const void *recording, size_t length, const print1525_settings *settings,
+                                      void *buffer, size_t capacity, print1525_details *details);
+
+/* Gives the pages that printers 4 and 5 print of a recording.
+ *
+ * Reads: a recording, as print1525_readings; page, printer, sheet and characters.
+ * Gives: the text that `print1525 decode --as text` and the others write, with page as its format.
+ * Refuses: recording (29), page with printer and sheet (24), in this order; characters, by their first bad line (52); a
+ * recording, as print1525_readings, with the pages of what comes before the fault; and a picture (50, 51), as
+ * print1525_pages. */
+PRINT1525_CALL int print1525_reprint(const void *recording, size_t length, const print1525_settings *settings,
+                                     void *buffer, size_t capacity, print1525_details *details);
+
+/* ---------------------------------------------------------------------------------------------- explanations -- */
+
+/* Why a script is refused, as `--explain` says it: the place, a caret, and what is allowed there.
+ *
+ * Reads: a script, or a listing by from.
+ * Gives: the text, and as `place` the line of the first fault; no text, and 0, where the script is not refused.
+ * Refuses: from (60), and a listing, as print1525_listing. */
+PRINT1525_CALL int print1525_explain_script(const void *script, size_t length, const print1525_settings *settings,
+                                            void *buffer, size_t capacity, print1525_details *details);
+
+/* Why the run of a script stopped.
+ *
+ * Reads: the script or listing that print1525_pages ran, with its from, present and mode; and the details that it wrote
+ * with status 1 (the same place may be named for those of this call).
+ * Gives: the text, and as `place` the line of the statement; no text, and 0, where there is no such statement.
+ * Refuses: NULL in the place of details that stopped (80); present (22), mode (23); from (60), and a listing; and
+ * details without a BASIC error (30). */
+PRINT1525_CALL int print1525_explain_stop(const void *script, size_t length, const print1525_settings *settings,
+                                          const print1525_details *stopped, void *buffer, size_t capacity,
+                                          print1525_details *details);
+
+/* Why print1525_check refuses a trace.
+ *
+ * Reads: a recording, as print1525_readings.
+ * Gives: the text, and as `place` the line that cannot be read, or else the index of the edge with which the trace
+ * stops being lawful; no text, and 0, where it is not refused.
+ * Refuses: recording (29). */
+PRINT1525_CALL int print1525_explain_trace(const void *trace, size_t length, const print1525_settings *settings,
+                                           void *buffer, size_t capacity, print1525_details *details);
+
+/* Why print1525_readings refuses a recording.
+ *
+ * Reads: a recording, as print1525_readings.
+ * Gives: the text, and as `place` the index of the edge with which time goes back, or else the line that cannot be
+ * read; no text, and 0, where it can be read.
+ * Refuses: recording (29). */
+PRINT1525_CALL int print1525_explain_reading(const void *recording, size_t length, const print1525_settings *settings,
+                                             void *buffer, size_t capacity, print1525_details *details);
 
 /* --------------------------------------------------------------------------------------- edges and recordings -- */
 
@@ -306,6 +439,15 @@ typedef struct {
     uint64_t time;
     uint8_t atn, clock, data;
 } print1525_edge;
+
+/* Gives the edges of a recording in any format.
+ *
+ * Reads: a recording, as print1525_readings. `capacity` and `length` count edges.
+ * Gives: the edges, for a decoder or a receiver. Levels are 0 and 1.
+ * Refuses: recording (29); and a recording by its first fault: a bad line (8), or a line of a dump or a table (31 to
+ * 49, 70 to 77). The edges before the fault are given. */
+PRINT1525_CALL int print1525_edges(const void *recording, size_t length, const print1525_settings *settings,
+                                   print1525_edge *edges, size_t capacity, print1525_details *details);
 
 /* A byte on the wires as far as it came, with its times in microseconds; what did not come is 0. */
 typedef struct {
@@ -590,7 +732,8 @@ PRINT1525_CALL int print1525_printer_draw(const print1525_mark *marks, size_t le
 #endif
 PRINT1525_OWN_SIZE(print1525_details, 32);
 PRINT1525_OWN_SIZE(print1525_delays, 16);
-PRINT1525_OWN_SIZE(print1525_settings, 80);
+PRINT1525_OWN_SIZE(print1525_name, 16);
+PRINT1525_OWN_SIZE(print1525_settings, 160);
 PRINT1525_OWN_SIZE(print1525_edge, 16);
 PRINT1525_OWN_SIZE(print1525_byte, 88);
 PRINT1525_OWN_SIZE(print1525_reading, 104);
@@ -613,25 +756,59 @@ typedef struct {
     size_t length; /* with the faults 63 and 64 the column */
 } print1525_plain_answer;
 
-void print1525_plain_pages_with(const uint8_t *script, size_t script_length, uint8_t printers, uint8_t status,
+void print1525_plain_pages_part(const uint8_t *script, size_t script_length, uint8_t printers, uint8_t status,
                                 const uint16_t *computer, size_t computer_length, const uint16_t *four,
                                 size_t four_length, const uint16_t *five, size_t five_length, uint8_t format,
-                                const uint8_t *characters, size_t characters_length, uint8_t *buffer, size_t capacity,
-                                print1525_plain_answer *answer);
+                                uint8_t device, uint64_t sheet, const uint8_t *characters, size_t characters_length,
+                                uint8_t *buffer, size_t capacity, print1525_plain_answer *answer);
 void print1525_plain_bus(const uint8_t *script, size_t script_length, uint8_t printers, uint8_t status,
                          const uint16_t *computer, size_t computer_length, const uint16_t *four, size_t four_length,
                          const uint16_t *five, size_t five_length, uint8_t format, uint8_t *buffer, size_t capacity,
                          print1525_plain_answer *answer);
 void print1525_plain_listing(const uint8_t *bytes, size_t bytes_length, uint8_t form, uint8_t *buffer, size_t capacity,
                              print1525_plain_answer *answer);
-void print1525_plain_raw_with(const uint8_t *bytes, size_t bytes_length, uint8_t set, uint8_t format,
-                              const uint8_t *characters, size_t characters_length, uint8_t *buffer, size_t capacity,
-                              print1525_plain_answer *answer);
-void print1525_plain_print_with(const uint16_t *inputs, size_t inputs_length, uint8_t format, const uint8_t *characters,
-                                size_t characters_length, uint8_t *buffer, size_t capacity,
-                                print1525_plain_answer *answer);
+void print1525_plain_raw_part(const uint8_t *bytes, size_t bytes_length, uint8_t set, uint8_t format, uint8_t device,
+                              uint64_t sheet, const uint8_t *characters, size_t characters_length, uint8_t *buffer,
+                              size_t capacity, print1525_plain_answer *answer);
+void print1525_plain_print_part(const uint16_t *inputs, size_t inputs_length, uint8_t format, uint8_t device,
+                                uint64_t sheet, const uint8_t *characters, size_t characters_length, uint8_t *buffer,
+                                size_t capacity, print1525_plain_answer *answer);
 void print1525_plain_check(const uint8_t *text, size_t text_length, uint8_t *buffer, size_t capacity,
                            print1525_plain_answer *answer);
+void print1525_plain_report(const uint8_t *bytes, size_t bytes_length, uint8_t source, const uint8_t *atn,
+                            size_t atn_length, const uint8_t *clock, size_t clock_length, const uint8_t *line,
+                            size_t line_length, uint8_t inverted, uint64_t start, uint64_t rate, uint8_t story,
+                            uint8_t *buffer, size_t capacity, print1525_plain_answer *answer);
+void print1525_plain_readings(const uint8_t *bytes, size_t bytes_length, uint8_t source, const uint8_t *atn,
+                              size_t atn_length, const uint8_t *clock, size_t clock_length, const uint8_t *line,
+                              size_t line_length, uint8_t inverted, uint64_t start, uint64_t rate, uint8_t wording,
+                              uint8_t *buffer, size_t capacity, print1525_plain_answer *answer);
+void print1525_plain_reprint(const uint8_t *bytes, size_t bytes_length, uint8_t source, const uint8_t *atn,
+                             size_t atn_length, const uint8_t *clock, size_t clock_length, const uint8_t *line,
+                             size_t line_length, uint8_t inverted, uint64_t start, uint64_t rate, uint8_t format,
+                             uint8_t device, uint64_t sheet, const uint8_t *characters, size_t characters_length,
+                             uint8_t *buffer, size_t capacity, print1525_plain_answer *answer);
+void print1525_plain_check_json(const uint8_t *bytes, size_t bytes_length, uint8_t source, const uint8_t *atn,
+                                size_t atn_length, const uint8_t *clock, size_t clock_length, const uint8_t *line,
+                                size_t line_length, uint8_t inverted, uint64_t start, uint64_t rate, uint8_t *buffer,
+                                size_t capacity, print1525_plain_answer *answer);
+void print1525_plain_explain_script(const uint8_t *script, size_t script_length, uint8_t *buffer, size_t capacity,
+                                    print1525_plain_answer *answer);
+void print1525_plain_explain_stop(const uint8_t *script, size_t script_length, uint8_t kept, uint8_t stop,
+                                  size_t statement, uint8_t four, uint8_t five, uint8_t *buffer, size_t capacity,
+                                  print1525_plain_answer *answer);
+void print1525_plain_explain_trace(const uint8_t *bytes, size_t bytes_length, uint8_t source, const uint8_t *atn,
+                                   size_t atn_length, const uint8_t *clock, size_t clock_length, const uint8_t *line,
+                                   size_t line_length, uint8_t inverted, uint64_t start, uint64_t rate,
+                                   uint8_t *buffer, size_t capacity, print1525_plain_answer *answer);
+void print1525_plain_explain_reading(const uint8_t *bytes, size_t bytes_length, uint8_t source, const uint8_t *atn,
+                                     size_t atn_length, const uint8_t *clock, size_t clock_length, const uint8_t *line,
+                                     size_t line_length, uint8_t inverted, uint64_t start, uint64_t rate,
+                                     uint8_t *buffer, size_t capacity, print1525_plain_answer *answer);
+void print1525_plain_edges(const uint8_t *bytes, size_t bytes_length, uint8_t source, const uint8_t *atn,
+                           size_t atn_length, const uint8_t *clock, size_t clock_length, const uint8_t *line,
+                           size_t line_length, uint8_t inverted, uint64_t start, uint64_t rate, uint64_t *numbers,
+                           size_t capacity, print1525_plain_answer *answer);
 void print1525_plain_receiver_begin(print1525_receiver *receiver, uint8_t device, print1525_plain_answer *answer);
 void print1525_plain_receiver_edge(print1525_receiver *receiver, const print1525_edge *edge,
                                    print1525_received *received, print1525_plain_answer *answer);
@@ -692,12 +869,30 @@ PRINT1525_CALL const char *print1525_strerror(int fault) {
     case PRINT1525_FAULT_BAD_SHAPE: return "bad shape";
     case PRINT1525_FAULT_TRUNCATED: return "truncated";
     case PRINT1525_FAULT_GOES_BACK: return "time goes back";
+    case PRINT1525_FAULT_NO_SUCH_WORDS: return "no such words";
     case PRINT1525_FAULT_NO_SUCH_DEVICE: return "no such device";
     case PRINT1525_FAULT_NO_SUCH_PRINTERS: return "no such printers";
     case PRINT1525_FAULT_NO_SUCH_STATUS: return "no such status";
     case PRINT1525_FAULT_NO_SUCH_FORMAT: return "no such format";
     case PRINT1525_FAULT_NO_SUCH_SET: return "no such character set";
     case PRINT1525_FAULT_NO_SUCH_INPUT: return "no such input";
+    case PRINT1525_FAULT_NO_SUCH_RECORDING: return "no such recording";
+    case PRINT1525_FAULT_NO_SUCH_STOP: return "no such error";
+    case PRINT1525_FAULT_NO_ATN: return "no signal ATN";
+    case PRINT1525_FAULT_NO_CLOCK: return "no signal CLOCK";
+    case PRINT1525_FAULT_NO_DATA: return "no signal DATA";
+    case PRINT1525_FAULT_NO_LEVEL_OF_ATN: return "no level of ATN";
+    case PRINT1525_FAULT_NO_LEVEL_OF_CLOCK: return "no level of CLOCK";
+    case PRINT1525_FAULT_NO_LEVEL_OF_DATA: return "no level of DATA";
+    case PRINT1525_FAULT_BAD_WORD: return "bad word";
+    case PRINT1525_FAULT_NO_END: return "no $end";
+    case PRINT1525_FAULT_NO_DEFINITIONS: return "no $enddefinitions";
+    case PRINT1525_FAULT_NO_TIMESCALE: return "no timescale";
+    case PRINT1525_FAULT_BAD_TIME: return "bad time";
+    case PRINT1525_FAULT_LINE_GOES_BACK: return "time goes back";
+    case PRINT1525_FAULT_LEVEL_X: return "level x";
+    case PRINT1525_FAULT_LEVEL_Z: return "level z";
+    case PRINT1525_FAULT_BAD_LEVEL: return "bad level";
     case PRINT1525_FAULT_NO_SUCH_SHEET: return "no such sheet";
     case PRINT1525_FAULT_DOCUMENT_TOO_LARGE: return "document too large";
     case PRINT1525_FAULT_BAD_CHARACTER_LINE: return "bad character line";
@@ -706,6 +901,13 @@ PRINT1525_CALL const char *print1525_strerror(int fault) {
     case PRINT1525_FAULT_CUT_OFF: return "cut off";
     case PRINT1525_FAULT_UNKNOWN_NAME: return "unknown name";
     case PRINT1525_FAULT_BAD_CHARACTER: return "bad byte";
+    case PRINT1525_FAULT_BAD_TIMESCALE: return "bad timescale";
+    case PRINT1525_FAULT_NO_TIME: return "no time";
+    case PRINT1525_FAULT_UTF_16: return "UTF-16 text";
+    case PRINT1525_FAULT_ARCHIVE: return "zip archive";
+    case PRINT1525_FAULT_ANOTHER_ATN: return "another signal ATN";
+    case PRINT1525_FAULT_ANOTHER_CLOCK: return "another signal CLOCK";
+    case PRINT1525_FAULT_ANOTHER_DATA: return "another signal DATA";
     case PRINT1525_FAULT_NULL_POINTER: return "null pointer";
     case PRINT1525_FAULT_OVERLAP: return "overlapping memory";
     case PRINT1525_FAULT_BAD_SETTINGS: return "bad settings";
@@ -744,7 +946,10 @@ PRINT1525_OWN void print1525_own_add_number(print1525_own_text *to, size_t numbe
 PRINT1525_OWN const char *print1525_own_counted(int fault) {
     if (fault >= PRINT1525_FAULT_UNKNOWN_WORD && fault <= PRINT1525_FAULT_BAD_LINE) return "line ";
     if (fault >= PRINT1525_FAULT_BAD_START && fault <= PRINT1525_FAULT_TRUNCATED) return "edge ";
+    if (fault >= PRINT1525_FAULT_NO_ATN && fault <= PRINT1525_FAULT_BAD_LEVEL) return "line ";
     if (fault >= PRINT1525_FAULT_CUT_OFF && fault <= PRINT1525_FAULT_BAD_CHARACTER) return "line ";
+    if (fault == PRINT1525_FAULT_BAD_TIMESCALE || fault == PRINT1525_FAULT_NO_TIME) return "line ";
+    if (fault >= PRINT1525_FAULT_ANOTHER_ATN && fault <= PRINT1525_FAULT_ANOTHER_DATA) return "line ";
     if (fault == PRINT1525_FAULT_BAD_CHARACTER_LINE) return "line ";
     return fault == PRINT1525_FAULT_NO_SUCH_INPUT ? "input " : NULL;
 }
@@ -825,7 +1030,7 @@ typedef struct {
     const void *input, *characters;
     void *buffer;
     int fault; /* why the call is refused, or 0 */
-    uint16_t nothing[1];
+    uint64_t nothing[2];
 } print1525_own_call;
 
 /* The same for a list of numbers: the reason why a call may not read it is kept, and NULL means no numbers. */
@@ -842,6 +1047,15 @@ PRINT1525_OWN void print1525_own_delays(print1525_own_call *call, print1525_dela
         PRINT1525_OWN_AS(const uint16_t *, print1525_own_input(call, list->numbers, size, buffer, capacity));
 }
 
+PRINT1525_OWN void print1525_own_name(print1525_own_call *call, print1525_name *name, const char *usual, size_t length,
+                                      const void *buffer, size_t capacity) {
+    name->bytes =
+        PRINT1525_OWN_AS(const char *, print1525_own_input(call, name->bytes, name->length, buffer, capacity));
+    if (name->length > 0) return;
+    name->bytes = usual;
+    name->length = length;
+}
+
 /* Unpacks what a call for a text is passed, an input of so many bytes. */
 PRINT1525_OWN print1525_own_call *print1525_own_begin(print1525_own_call *call, const void *input, size_t size,
                                                       const print1525_settings *settings, void *buffer,
@@ -850,14 +1064,17 @@ PRINT1525_OWN print1525_own_call *print1525_own_begin(print1525_own_call *call, 
     print1525_settings *const s = &call->settings;
     int is_known = settings == NULL || settings->size == sizeof defaults;
     *s = settings != NULL && is_known ? *settings : defaults;
-    is_known = is_known && s->reserved[0] == 0 && s->reserved[1] == 0;
+    is_known = is_known && !(s->reserved[0] | s->reserved[1] | s->reserved[2] | s->reserved[3]);
     call->fault = is_known ? PRINT1525_FAULT_NONE : PRINT1525_FAULT_BAD_SETTINGS;
-    call->nothing[0] = 0;
+    call->nothing[0] = call->nothing[1] = 0;
     call->input = print1525_own_input(call, input, size, buffer, capacity);
     call->characters = print1525_own_input(call, s->characters, s->characters_length, buffer, capacity);
     print1525_own_delays(call, &s->computer_delays, buffer, capacity);
     print1525_own_delays(call, &s->printer4_delays, buffer, capacity);
     print1525_own_delays(call, &s->printer5_delays, buffer, capacity);
+    print1525_own_name(call, &s->atn, "ATN", 3, buffer, capacity);
+    print1525_own_name(call, &s->clock, "CLOCK", 5, buffer, capacity);
+    print1525_own_name(call, &s->data, "DATA", 4, buffer, capacity);
     call->buffer = buffer == NULL ? call->nothing : buffer;
     return call;
 }
@@ -874,32 +1091,38 @@ PRINT1525_OWN print1525_plain_answer print1525_own_run(print1525_own_call *call,
                             s->printer4_delays.numbers, s->printer4_delays.length, s->printer5_delays.numbers,
                             s->printer5_delays.length, s->trace, buffer, capacity, &answer);
     else
-        print1525_plain_pages_with(text, length, s->present, s->mode, s->computer_delays.numbers,
+        print1525_plain_pages_part(text, length, s->present, s->mode, s->computer_delays.numbers,
                                    s->computer_delays.length, s->printer4_delays.numbers, s->printer4_delays.length,
-                                   s->printer5_delays.numbers, s->printer5_delays.length, s->page,
+                                   s->printer5_delays.numbers, s->printer5_delays.length, s->page, s->printer, s->sheet,
                                    PRINT1525_OWN_AS(const uint8_t *, call->characters), s->characters_length, buffer,
                                    capacity, &answer);
     return answer;
 }
 
-/* Runs what a listing says, by the text that print1525_plain_listing gives. Settings are refused before the listing is:
- * they are those of an empty script. */
+/* The text of a script that a listing has, in memory for free(), with its length in the answer; or NULL, and the answer
+ * says why. */
+PRINT1525_OWN uint8_t *print1525_own_listed(const print1525_own_call *call, size_t length,
+                                            print1525_plain_answer *answer) {
+    const uint8_t *const listing = PRINT1525_OWN_AS(const uint8_t *, call->input);
+    uint8_t nothing[1], *text;
+    print1525_plain_listing(listing, length, call->settings.from, nothing, 0, answer);
+    if (answer->code == 2 || answer->code == 3) return NULL;
+    text = PRINT1525_OWN_AS(uint8_t *, malloc(answer->length > 0 ? answer->length : 1));
+    if (text != NULL) print1525_plain_listing(listing, length, call->settings.from, text, answer->length, answer);
+    if (text != NULL && answer->code == 0) return text;
+    free(text);
+    answer->code = 3;
+    return NULL;
+}
+
+/* Runs what a listing says. Settings are refused before the listing is: they are those of an empty script. */
 PRINT1525_OWN print1525_plain_answer print1525_own_run_listing(print1525_own_call *call, int is_bus, size_t length,
                                                                size_t capacity) {
-    const uint8_t *const listing = PRINT1525_OWN_AS(const uint8_t *, call->input);
-    const uint8_t from = call->settings.from;
     print1525_plain_answer answer = print1525_own_run(call, is_bus, call->nothing, 0, 0);
-    uint8_t nothing[1], *text;
-    if (answer.code == 2 || answer.code == 3) return answer;
-    print1525_plain_listing(listing, length, from, nothing, 0, &answer);
-    if (answer.code == 2 || answer.code == 3) return answer;
-    text = PRINT1525_OWN_AS(uint8_t *, malloc(answer.length > 0 ? answer.length : 1));
-    if (text == NULL) {
-        answer.code = 3;
-        return answer;
-    }
-    print1525_plain_listing(listing, length, from, text, answer.length, &answer);
-    if (answer.code == 0) answer = print1525_own_run(call, is_bus, text, answer.length, capacity);
+    uint8_t *text;
+    if ((answer.code == 2 && answer.fault != PRINT1525_FAULT_NO_SUCH_SHEET) || answer.code == 3) return answer;
+    text = print1525_own_listed(call, length, &answer);
+    if (text != NULL) answer = print1525_own_run(call, is_bus, text, answer.length, capacity);
     free(text);
     return answer;
 }
@@ -943,10 +1166,10 @@ PRINT1525_CALL int print1525_raw(const void *bytes, size_t length, const print15
     print1525_plain_answer answer;
     if (print1525_own_begin(&call, bytes, length, settings, buffer, capacity)->fault != PRINT1525_FAULT_NONE)
         return print1525_own_refuse(details, call.fault);
-    print1525_plain_raw_with(PRINT1525_OWN_AS(const uint8_t *, call.input), length, call.settings.set,
-                             call.settings.page, PRINT1525_OWN_AS(const uint8_t *, call.characters),
-                             call.settings.characters_length, PRINT1525_OWN_AS(uint8_t *, call.buffer), capacity,
-                             &answer);
+    print1525_plain_raw_part(PRINT1525_OWN_AS(const uint8_t *, call.input), length, call.settings.set,
+                             call.settings.page, call.settings.printer, call.settings.sheet,
+                             PRINT1525_OWN_AS(const uint8_t *, call.characters), call.settings.characters_length,
+                             PRINT1525_OWN_AS(uint8_t *, call.buffer), capacity, &answer);
     return print1525_own_answer(details, answer);
 }
 
@@ -957,10 +1180,85 @@ PRINT1525_CALL int print1525_print(const uint16_t *inputs, size_t length, const 
     print1525_plain_answer answer;
     if (print1525_own_begin(&call, inputs, size, settings, buffer, capacity)->fault != PRINT1525_FAULT_NONE)
         return print1525_own_refuse(details, call.fault);
-    print1525_plain_print_with(PRINT1525_OWN_AS(const uint16_t *, call.input), length, call.settings.page,
+    print1525_plain_print_part(PRINT1525_OWN_AS(const uint16_t *, call.input), length, call.settings.page,
+                               call.settings.printer, call.settings.sheet,
                                PRINT1525_OWN_AS(const uint8_t *, call.characters), call.settings.characters_length,
                                PRINT1525_OWN_AS(uint8_t *, call.buffer), capacity, &answer);
     return print1525_own_answer(details, answer);
+}
+
+/* What a call says of a recording, by its number. */
+enum print1525_own_of {
+    PRINT1525_OWN_REPORT,
+    PRINT1525_OWN_READINGS,
+    PRINT1525_OWN_REPRINT,
+    PRINT1525_OWN_JSON,
+    PRINT1525_OWN_EXPLAIN_TRACE,
+    PRINT1525_OWN_EXPLAIN_READING,
+    PRINT1525_OWN_EDGES
+};
+
+/* The bytes of a name. (A char is a byte.) */
+PRINT1525_OWN const uint8_t *print1525_own_bytes(const print1525_name *name) {
+    return PRINT1525_OWN_AS(const uint8_t *, PRINT1525_OWN_AS(const void *, name->bytes));
+}
+
+/* Calls the proved call with a recording. `words` is whether a story is wanted, or the wording of readings. */
+PRINT1525_OWN print1525_plain_answer print1525_own_recording(const print1525_own_call *call, int of, size_t length,
+                                                             uint8_t words, size_t capacity) {
+    const print1525_settings *const s = &call->settings;
+    const uint8_t *const bytes = PRINT1525_OWN_AS(const uint8_t *, call->input);
+    const uint8_t *const atn = print1525_own_bytes(&s->atn), *const clock = print1525_own_bytes(&s->clock);
+    const uint8_t *const data = print1525_own_bytes(&s->data);
+    const size_t a = s->atn.length, c = s->clock.length, d = s->data.length;
+    uint8_t *const buffer = PRINT1525_OWN_AS(uint8_t *, call->buffer);
+    print1525_plain_answer answer;
+    switch (of) {
+    case PRINT1525_OWN_REPORT:
+        print1525_plain_report(bytes, length, s->recording, atn, a, clock, c, data, d, s->inverted, s->start, s->rate,
+                               words, buffer, capacity, &answer);
+        break;
+    case PRINT1525_OWN_READINGS:
+        print1525_plain_readings(bytes, length, s->recording, atn, a, clock, c, data, d, s->inverted, s->start,
+                                 s->rate, words, buffer, capacity, &answer);
+        break;
+    case PRINT1525_OWN_REPRINT:
+        print1525_plain_reprint(bytes, length, s->recording, atn, a, clock, c, data, d, s->inverted, s->start, s->rate,
+                                s->page, s->printer, s->sheet, PRINT1525_OWN_AS(const uint8_t *, call->characters),
+                                s->characters_length, buffer, capacity, &answer);
+        break;
+    case PRINT1525_OWN_JSON:
+        print1525_plain_check_json(bytes, length, s->recording, atn, a, clock, c, data, d, s->inverted, s->start,
+                                   s->rate, buffer, capacity, &answer);
+        break;
+    case PRINT1525_OWN_EXPLAIN_TRACE:
+        print1525_plain_explain_trace(bytes, length, s->recording, atn, a, clock, c, data, d, s->inverted, s->start,
+                                      s->rate, buffer, capacity, &answer);
+        break;
+    case PRINT1525_OWN_EXPLAIN_READING:
+        print1525_plain_explain_reading(bytes, length, s->recording, atn, a, clock, c, data, d, s->inverted, s->start,
+                                        s->rate, buffer, capacity, &answer);
+        break;
+    default:
+        print1525_plain_edges(bytes, length, s->recording, atn, a, clock, c, data, d, s->inverted, s->start, s->rate,
+                              PRINT1525_OWN_AS(uint64_t *, call->buffer), 2 * capacity, &answer);
+    }
+    return answer;
+}
+
+/* Tells what such a call answered: with a fault of the recording also how much comes before it, and in `unit` items of
+ * one that is told of. */
+PRINT1525_OWN int print1525_own_said(print1525_details *details, print1525_plain_answer answer, size_t unit) {
+    answer.length /= unit;
+    if (answer.code != 2) return print1525_own_answer(details, answer);
+    return print1525_own_tell(details, PRINT1525_REFUSED, PRINT1525_OWN_AS(int, answer.fault), answer.place, 0,
+                              answer.length);
+}
+
+/* Tells an explanation, with its place. */
+PRINT1525_OWN int print1525_own_explained(print1525_details *details, print1525_plain_answer answer) {
+    if (answer.code != 0) return print1525_own_answer(details, answer);
+    return print1525_own_tell(details, PRINT1525_DONE, PRINT1525_FAULT_NONE, answer.place, 0, answer.length);
 }
 
 PRINT1525_CALL int print1525_check(const void *trace, size_t length, const print1525_settings *settings, void *buffer,
@@ -969,9 +1267,125 @@ PRINT1525_CALL int print1525_check(const void *trace, size_t length, const print
     print1525_plain_answer answer;
     if (print1525_own_begin(&call, trace, length, settings, buffer, capacity)->fault != PRINT1525_FAULT_NONE)
         return print1525_own_refuse(details, call.fault);
+    if (call.settings.words > PRINT1525_WORDS_JSON)
+        return print1525_own_refuse(details, PRINT1525_FAULT_NO_SUCH_WORDS);
+    if (call.settings.words != PRINT1525_WORDS_LIST || call.settings.recording != PRINT1525_RECORDING_TEXT) {
+        const int of = call.settings.words == PRINT1525_WORDS_JSON ? PRINT1525_OWN_JSON : PRINT1525_OWN_REPORT;
+        return print1525_own_said(details,
+                                  print1525_own_recording(&call, of, length, call.settings.words, capacity), 1);
+    }
     print1525_plain_check(PRINT1525_OWN_AS(const uint8_t *, call.input), length,
                           PRINT1525_OWN_AS(uint8_t *, call.buffer), capacity, &answer);
     return print1525_own_answer(details, answer);
+}
+
+PRINT1525_CALL int print1525_readings(const void *recording, size_t length, const print1525_settings *settings,
+                                      void *buffer, size_t capacity, print1525_details *details) {
+    print1525_own_call call;
+    const print1525_settings *const s = &call.settings;
+    uint8_t wording = 4;
+    if (print1525_own_begin(&call, recording, length, settings, buffer, capacity)->fault != PRINT1525_FAULT_NONE)
+        return print1525_own_refuse(details, call.fault);
+    if (s->words == PRINT1525_WORDS_LIST && s->intervals <= 1 && s->bounds <= PRINT1525_BOUNDS_GUIDE)
+        wording = PRINT1525_OWN_AS(uint8_t, s->intervals + 2 * s->bounds);
+    else if (s->words != PRINT1525_WORDS_JSON)
+        return print1525_own_refuse(details, PRINT1525_FAULT_NO_SUCH_WORDS);
+    return print1525_own_said(details,
+                              print1525_own_recording(&call, PRINT1525_OWN_READINGS, length, wording, capacity), 1);
+}
+
+PRINT1525_CALL int print1525_reprint(const void *recording, size_t length, const print1525_settings *settings,
+                                     void *buffer, size_t capacity, print1525_details *details) {
+    print1525_own_call call;
+    if (print1525_own_begin(&call, recording, length, settings, buffer, capacity)->fault != PRINT1525_FAULT_NONE)
+        return print1525_own_refuse(details, call.fault);
+    return print1525_own_said(details, print1525_own_recording(&call, PRINT1525_OWN_REPRINT, length, 0, capacity), 1);
+}
+
+/* Explains a script, or with a stop why its run ended there. */
+PRINT1525_OWN int print1525_own_explain(const void *script, size_t length, const print1525_settings *settings,
+                                        const print1525_details *stop, void *buffer, size_t capacity,
+                                        print1525_details *details) {
+    print1525_own_call call;
+    const print1525_settings *const s = &call.settings;
+    print1525_plain_answer answer = {0, 0, 0, 0};
+    uint8_t *listed = NULL, *to;
+    const uint8_t *text;
+    if (print1525_own_begin(&call, script, length, settings, buffer, capacity)->fault != PRINT1525_FAULT_NONE)
+        return print1525_own_refuse(details, call.fault);
+    if (stop != NULL && s->present > PRINT1525_PRESENT_BOTH)
+        return print1525_own_refuse(details, PRINT1525_FAULT_NO_SUCH_PRINTERS);
+    if (stop != NULL && s->mode > PRINT1525_MODE_KEPT)
+        return print1525_own_refuse(details, PRINT1525_FAULT_NO_SUCH_STATUS);
+    if (s->from != PRINT1525_FROM_TEXT) {
+        listed = print1525_own_listed(&call, length, &answer);
+        if (listed == NULL) return print1525_own_answer(details, answer);
+        length = answer.length;
+    }
+    text = listed == NULL ? PRINT1525_OWN_AS(const uint8_t *, call.input) : listed;
+    to = PRINT1525_OWN_AS(uint8_t *, call.buffer);
+    if (stop == NULL) {
+        print1525_plain_explain_script(text, length, to, capacity, &answer);
+    } else {
+        const int is_error = stop->fault > 100 && stop->fault < 110;
+        print1525_plain_explain_stop(text, length, s->mode, PRINT1525_OWN_AS(uint8_t, is_error ? stop->fault - 100 : 0),
+                                     stop->place, s->present & 1, PRINT1525_OWN_AS(uint8_t, s->present >> 1), to,
+                                     capacity, &answer);
+    }
+    free(listed);
+    return print1525_own_explained(details, answer);
+}
+
+PRINT1525_CALL int print1525_explain_script(const void *script, size_t length, const print1525_settings *settings,
+                                            void *buffer, size_t capacity, print1525_details *details) {
+    return print1525_own_explain(script, length, settings, NULL, buffer, capacity, details);
+}
+
+PRINT1525_CALL int print1525_explain_stop(const void *script, size_t length, const print1525_settings *settings,
+                                          const print1525_details *stopped, void *buffer, size_t capacity,
+                                          print1525_details *details) {
+    print1525_details stop;
+    if (stopped == NULL) return print1525_own_refuse(details, PRINT1525_FAULT_NULL_POINTER);
+    stop = *stopped;
+    return print1525_own_explain(script, length, settings, &stop, buffer, capacity, details);
+}
+
+PRINT1525_CALL int print1525_explain_trace(const void *trace, size_t length, const print1525_settings *settings,
+                                           void *buffer, size_t capacity, print1525_details *details) {
+    print1525_own_call call;
+    if (print1525_own_begin(&call, trace, length, settings, buffer, capacity)->fault != PRINT1525_FAULT_NONE)
+        return print1525_own_refuse(details, call.fault);
+    return print1525_own_explained(
+        details, print1525_own_recording(&call, PRINT1525_OWN_EXPLAIN_TRACE, length, 0, capacity));
+}
+
+PRINT1525_CALL int print1525_explain_reading(const void *recording, size_t length, const print1525_settings *settings,
+                                             void *buffer, size_t capacity, print1525_details *details) {
+    print1525_own_call call;
+    if (print1525_own_begin(&call, recording, length, settings, buffer, capacity)->fault != PRINT1525_FAULT_NONE)
+        return print1525_own_refuse(details, call.fault);
+    return print1525_own_explained(
+        details, print1525_own_recording(&call, PRINT1525_OWN_EXPLAIN_READING, length, 0, capacity));
+}
+
+PRINT1525_CALL int print1525_edges(const void *recording, size_t length, const print1525_settings *settings,
+                                   print1525_edge *edges, size_t capacity, print1525_details *details) {
+    print1525_own_call call;
+    print1525_plain_answer answer;
+    size_t index, count;
+    if (print1525_own_begin(&call, recording, length, settings, edges, capacity * sizeof *edges)->fault !=
+        PRINT1525_FAULT_NONE)
+        return print1525_own_refuse(details, call.fault);
+    answer = print1525_own_recording(&call, PRINT1525_OWN_EDGES, length, 0, capacity);
+    count = answer.code == 0 || answer.code == 2 ? answer.length / 2 : 0;
+    /* Two numbers came in the place of each edge: its time, and its levels, which now lie in its first level. */
+    for (index = 0; index < count; index++) {
+        const unsigned levels = edges[index].atn;
+        edges[index].atn = levels >> 2 & 1;
+        edges[index].clock = levels >> 1 & 1;
+        edges[index].data = levels & 1;
+    }
+    return print1525_own_said(details, answer, 2);
 }
 
 /* Tells what a proved call answered that takes the edges of any bus, of which it refuses nothing but their order. */

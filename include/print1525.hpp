@@ -15,6 +15,7 @@
 #include <stdexcept>
 #include <string>
 #include <string_view>
+#include <utility>
 #include <vector>
 
 namespace print1525 {
@@ -27,20 +28,43 @@ inline std::string message(const print1525_details &details) {
     return words;
 }
 
-// Why a call gave no text.
+// Why a call refuses; with a fault of a recording the text, or the edges, of what comes before it.
 class error : public std::runtime_error {
 public:
-    explicit error(const print1525_details &why) : std::runtime_error(message(why)), details(why) {}
+    explicit error(const print1525_details &why, std::string before = {}, std::vector<print1525_edge> edges_before = {})
+        : std::runtime_error(message(why)), details(why), text(std::move(before)), edges(std::move(edges_before)) {}
     print1525_details details;
+    std::string text;
+    std::vector<print1525_edge> edges;
 };
 
-// Settings, which begin with the program's defaults. The characters and the delays stay their owner's.
+// Settings, which begin with the program's defaults. The characters, the names and the delays stay their owner's.
 struct settings : print1525_settings {
     settings() : print1525_settings PRINT1525_SETTINGS_INIT {}
     settings(print1525_page format) : settings() { page = static_cast<std::uint8_t>(format); }
     settings &draws(std::string_view file) {
         characters = file.data();
         characters_length = file.size();
+        return *this;
+    }
+    // One printer, 4 or 5, or all; and one sheet, or all.
+    settings &shows(std::uint8_t one_printer, std::uint64_t one_sheet = 0) {
+        printer = one_printer;
+        sheet = one_sheet;
+        return *this;
+    }
+    settings &reads(print1525_recording format) {
+        recording = static_cast<std::uint8_t>(format);
+        return *this;
+    }
+    settings &names(std::string_view atn_name, std::string_view clock_name, std::string_view data_name) {
+        atn = {atn_name.data(), atn_name.size()};
+        clock = {clock_name.data(), clock_name.size()};
+        data = {data_name.data(), data_name.size()};
+        return *this;
+    }
+    settings &writes(print1525_words form) {
+        words = static_cast<std::uint8_t>(form);
         return *this;
     }
 };
@@ -68,8 +92,8 @@ result text_of(call_of<Item> call, const Item *items, std::size_t length, const 
         call(items, length, &with, made.text.data(), made.text.size(), &made.details);
     }
     if (made.details.fault == PRINT1525_FAULT_NO_MEMORY) throw std::bad_alloc();
-    if (made.details.status > PRINT1525_STOPPED) throw error(made.details);
     made.text.resize(made.details.length);
+    if (made.details.status > PRINT1525_STOPPED) throw error(made.details, std::move(made.text));
     return made;
 }
 
@@ -87,6 +111,53 @@ inline result raw(std::string_view bytes, const settings &with = {}) {
 }
 inline result check(std::string_view trace, const settings &with = {}) {
     return text_of<void>(print1525_check, trace.data(), trace.size(), with);
+}
+
+inline result readings(std::string_view recording, const settings &with = {}) {
+    return text_of<void>(print1525_readings, recording.data(), recording.size(), with);
+}
+inline result reprint(std::string_view recording, const settings &with = {}) {
+    return text_of<void>(print1525_reprint, recording.data(), recording.size(), with);
+}
+
+// Explanations: the line or the edge is the `place` of the details.
+inline result explain_script(std::string_view script, const settings &with = {}) {
+    return text_of<void>(print1525_explain_script, script.data(), script.size(), with);
+}
+inline result explain_trace(std::string_view trace, const settings &with = {}) {
+    return text_of<void>(print1525_explain_trace, trace.data(), trace.size(), with);
+}
+inline result explain_reading(std::string_view recording, const settings &with = {}) {
+    return text_of<void>(print1525_explain_reading, recording.data(), recording.size(), with);
+}
+inline result explain_stop(std::string_view script, const print1525_details &stopped, const settings &with = {}) {
+    result made{std::string(), {}};
+    const auto call = [&] {
+        print1525_explain_stop(script.data(), script.size(), &with, &stopped, made.text.data(), made.text.size(),
+                               &made.details);
+    };
+    call();
+    if (made.details.fault == PRINT1525_FAULT_TOO_SMALL) {
+        made.text.resize(made.details.length);
+        call();
+    }
+    if (made.details.fault == PRINT1525_FAULT_NO_MEMORY) throw std::bad_alloc();
+    if (made.details.status > PRINT1525_STOPPED) throw error(made.details);
+    return made;
+}
+
+// The edges of a recording in any format.
+inline std::vector<print1525_edge> edges(std::string_view recording, const settings &with = {}) {
+    std::vector<print1525_edge> made;
+    print1525_details details{};
+    print1525_edges(recording.data(), recording.size(), &with, nullptr, 0, &details);
+    if (details.fault == PRINT1525_FAULT_TOO_SMALL) {
+        made.resize(details.length);
+        print1525_edges(recording.data(), recording.size(), &with, made.data(), made.size(), &details);
+    }
+    if (details.fault == PRINT1525_FAULT_NO_MEMORY) throw std::bad_alloc();
+    if (details.status > PRINT1525_STOPPED) throw error(details, {}, std::move(made));
+    return made;
 }
 
 // A printer: it keeps what it receives, and gives its page when that is wanted.

@@ -6,7 +6,14 @@
  *     calls raw SET PAGE
  *     calls print PAGE                                (inputs, a number each line)
  *     calls listing FROM                              (the text of a listing: 0 a script, 1 a saved program, 2 petcat's text)
- *     calls check
+ *     calls check [RECORDING [WORDS]]                 (text, vcd, csv, what is found, found or csv; list, story, json)
+ *     calls decode RECORDING WORDS INTERVALS BOUNDS   (print1525_readings; BOUNDS: profile, guide)
+ *     calls reprint RECORDING PAGE
+ *     calls edges RECORDING                           (the edges of a recording, a line each)
+ *     calls explain_script [FROM]
+ *     calls explain_stop PRINTERS MODE [FROM]         (why the run stopped that this script makes)
+ *     calls explain_trace RECORDING
+ *     calls explain_reading RECORDING
  *     calls strict DEVICE                             (a trace text; the inputs that the device receives, a number each line)
  *     calls settings                                  (numbers that stand for no setting; no input)
  *     calls pointers                                  (pointers that are NULL, and memory that overlaps; no input)
@@ -19,7 +26,8 @@
  * status. Before that the call is made with buffers of all sizes from 0 to what is needed, and with each allocation
  * refused in turn. Some are left out above MOST_SIZES and MOST_REFUSALS; with CALLS=all in the environment only above
  * MOST_OF_ALL sizes, as of a PNG file; CALLS=once leaves all of them out. With CHARACTERS=FILE in it pages, raw and print
- * are called with the characters of this file. (So are edges above MOST_PLACES of those at which numbers are changed.)
+ * are called with the characters of this file; PRINTER and SHEET are the part of the pages, NAMES=A,B,C, INVERTED, START and RATE those
+ * settings of a recording. (So are edges above MOST_PLACES of those at which numbers are changed.)
  * Input and buffer end where memory ends, so a byte read or written beyond them is a fault. Each answer has to be as the
  * header says, all memory has to be given back, and a refusal
  * may change nothing; else a line beginning with WRONG is told, and the status is 99. Behind each edge each number of
@@ -105,6 +113,8 @@ typedef struct {
     const uint16_t *numbers;
     size_t count;
     uint16_t delays[3][200];
+    char names[99];
+    print1525_details stopped; /* of explain_stop */
 } job;
 
 /* The lists of a value of --delays. */
@@ -139,21 +149,44 @@ static void read_numbers(job *j) {
     }
 }
 
+/* The calls that take bytes and give a text. */
+typedef int text_call(const void *, size_t, const print1525_settings *, void *, size_t, print1525_details *);
+static const struct {
+    const char *name;
+    text_call *call;
+} text_calls[] = {
+    {"pages", print1525_pages}, {"bus", print1525_bus}, {"listing", print1525_listing}, {"raw", print1525_raw}, {"check", print1525_check},
+    {"decode", print1525_readings}, {"reprint", print1525_reprint}, {"explain_script", print1525_explain_script},
+    {"explain_trace", print1525_explain_trace}, {"explain_reading", print1525_explain_reading},
+};
+#define TEXT_CALLS (sizeof text_calls / sizeof *text_calls)
+
+static int make(const job *j, const print1525_settings *settings, uint8_t *buffer, size_t capacity, print1525_details *details) {
+    size_t index;
+    if (strcmp(j->name, "print") == 0) return print1525_print(j->numbers, j->count, settings, buffer, capacity, details);
+    if (strcmp(j->name, "explain_stop") == 0) return print1525_explain_stop(j->input, j->length, settings, &j->stopped, buffer, capacity, details);
+    for (index = 0; index < TEXT_CALLS; index++)
+        if (strcmp(j->name, text_calls[index].name) == 0) return text_calls[index].call(j->input, j->length, settings, buffer, capacity, details);
+    exit(98);
+}
+
 /* Makes the call. No more memory may be taken after it than before. */
 static print1525_details call(const job *j, uint8_t *buffer, size_t capacity) {
     print1525_details details;
+    const print1525_settings settings = j->settings;
     const long before = live;
     int status;
     memset(&details, UNTOUCHED, sizeof details);
-    if (strcmp(j->name, "pages") == 0) status = print1525_pages(j->input, j->length, &j->settings, buffer, capacity, &details);
-    else if (strcmp(j->name, "bus") == 0) status = print1525_bus(j->input, j->length, &j->settings, buffer, capacity, &details);
-    else if (strcmp(j->name, "raw") == 0) status = print1525_raw(j->input, j->length, &j->settings, buffer, capacity, &details);
-    else if (strcmp(j->name, "listing") == 0) status = print1525_listing(j->input, j->length, &j->settings, buffer, capacity, &details);
-    else if (strcmp(j->name, "print") == 0) status = print1525_print(j->numbers, j->count, &j->settings, buffer, capacity, &details);
-    else status = print1525_check(j->input, j->length, &j->settings, buffer, capacity, &details);
+    status = make(j, &j->settings, buffer, capacity, &details);
     if (status != details.status) is_wrong("another status than the details have", (size_t)status);
     if (live != before) is_wrong("memory is not given back", (size_t)(live - before));
+    if (memcmp(&settings, &j->settings, sizeof settings) != 0) is_wrong("the settings are changed", 0);
     return details;
+}
+
+/* Whether an answer comes with a text, as also what a recording says before its fault. */
+static int has_text(print1525_details answer) {
+    return answer.status <= PRINT1525_STOPPED || (answer.status == PRINT1525_REFUSED && answer.length > 0);
 }
 
 static int is_untouched(const uint8_t *bytes, size_t count) {
@@ -179,7 +212,7 @@ static void try_size(const job *j, guarded buffer, size_t capacity, print1525_de
     memset(buffer.bytes, UNTOUCHED, buffer.size);
     answer = call(j, front, capacity);
     if (!is_untouched(buffer.bytes, buffer.size - capacity)) is_wrong("bytes before the buffer are written", capacity);
-    if (true_answer.status <= PRINT1525_STOPPED && true_answer.length <= capacity) {
+    if (has_text(true_answer) && true_answer.length <= capacity) {
         if (!are_details(answer, true_answer) || memcmp(front, text, answer.length) != 0)
             is_wrong("another text in a buffer of size", capacity);
         if (!is_untouched(front + true_answer.length, capacity - true_answer.length))
@@ -187,7 +220,7 @@ static void try_size(const job *j, guarded buffer, size_t capacity, print1525_de
         return;
     }
     if (!is_untouched(front, capacity)) is_wrong("the buffer is written, size", capacity);
-    if (true_answer.status <= PRINT1525_STOPPED
+    if (has_text(true_answer)
             ? !is_answer(answer, PRINT1525_FAILED, PRINT1525_FAULT_TOO_SMALL, 0, true_answer.length)
             : !are_details(answer, true_answer))
         is_wrong("another answer to a buffer of size", capacity);
@@ -214,7 +247,7 @@ static size_t try_refusals(const job *j, guarded buffer, size_t capacity, print1
             told++;
             if (!is_answer(answer, PRINT1525_FAILED, PRINT1525_FAULT_NO_MEMORY, 0, 0) || !is_untouched(front, capacity))
                 is_wrong("what a refused allocation leaves", (size_t)number);
-        } else if (!are_details(answer, true_answer) || (true_answer.status <= PRINT1525_STOPPED && memcmp(front, text, true_answer.length) != 0))
+        } else if (!are_details(answer, true_answer) || (has_text(true_answer) && memcmp(front, text, true_answer.length) != 0))
             is_wrong("another answer with a refused allocation", (size_t)number);
     }
     if (all > 0 && told == 0) is_wrong("no refused allocation is told", (size_t)all);
@@ -568,21 +601,46 @@ static void try_settings(void) {
         const char *name;
         uint8_t present, mode, from, page, trace, set;
         int fault;
+        uint8_t printer;
+        uint64_t sheet;
     } rows[] = {
-        {"pages", 4, 0, 0, 0, 0, 0, PRINT1525_FAULT_NO_SUCH_PRINTERS}, {"pages", 255, 2, 3, 5, 9, 9, PRINT1525_FAULT_NO_SUCH_PRINTERS},
-        {"pages", 3, 2, 0, 0, 0, 0, PRINT1525_FAULT_NO_SUCH_STATUS},   {"pages", 3, 255, 3, 5, 9, 9, PRINT1525_FAULT_NO_SUCH_STATUS},
-        {"pages", 3, 1, 0, 5, 0, 0, PRINT1525_FAULT_NO_SUCH_FORMAT},   {"pages", 0, 0, 255, 255, 9, 9, PRINT1525_FAULT_NO_SUCH_FORMAT},
-        {"bus", 4, 0, 0, 0, 0, 0, PRINT1525_FAULT_NO_SUCH_PRINTERS},   {"bus", 255, 2, 3, 9, 2, 9, PRINT1525_FAULT_NO_SUCH_PRINTERS},
-        {"bus", 3, 2, 0, 0, 0, 0, PRINT1525_FAULT_NO_SUCH_STATUS},     {"bus", 3, 255, 3, 9, 2, 9, PRINT1525_FAULT_NO_SUCH_STATUS},
-        {"bus", 3, 1, 0, 0, 2, 0, PRINT1525_FAULT_NO_SUCH_FORMAT},     {"bus", 0, 0, 255, 9, 255, 9, PRINT1525_FAULT_NO_SUCH_FORMAT},
-        {"raw", 9, 9, 9, 0, 9, 2, PRINT1525_FAULT_NO_SUCH_SET},        {"raw", 0, 0, 0, 5, 0, 255, PRINT1525_FAULT_NO_SUCH_SET},
-        {"raw", 9, 9, 9, 5, 9, 1, PRINT1525_FAULT_NO_SUCH_FORMAT},     {"raw", 0, 0, 0, 255, 0, 0, PRINT1525_FAULT_NO_SUCH_FORMAT},
-        {"print", 9, 9, 9, 5, 9, 9, PRINT1525_FAULT_NO_SUCH_FORMAT},   {"print", 0, 0, 0, 255, 0, 0, PRINT1525_FAULT_NO_SUCH_FORMAT},
-        {"listing", 9, 9, 3, 9, 9, 9, PRINT1525_FAULT_NO_SUCH_FORM},   {"listing", 0, 0, 255, 0, 0, 0, PRINT1525_FAULT_NO_SUCH_FORM},
-        {"pages", 3, 0, 3, 0, 0, 0, PRINT1525_FAULT_NO_SUCH_FORM},     {"bus", 3, 0, 255, 0, 0, 0, PRINT1525_FAULT_NO_SUCH_FORM},
+        /* (Which formats show a part of the pages.) */
+        {"pages", 3, 0, 0, PRINT1525_PAGE_LIST, 0, 0, PRINT1525_FAULT_NO_SUCH_FORMAT, 4, 0}, {"pages", 3, 0, 0, PRINT1525_PAGE_TEXT, 0, 0, PRINT1525_FAULT_NO_SUCH_FORMAT, 0, 1},
+        {"pages", 3, 0, 0, PRINT1525_PAGE_PDF, 0, 0, PRINT1525_FAULT_NO_SUCH_FORMAT, 0, 1}, {"raw", 0, 0, 0, PRINT1525_PAGE_SVG, 0, 0, PRINT1525_FAULT_NO_SUCH_FORMAT, 6, 0},
+        {"raw", 0, 0, 0, PRINT1525_PAGE_PNG, 0, 0, PRINT1525_FAULT_NO_SUCH_FORMAT, 3, 1}, {"print", 0, 0, 0, PRINT1525_PAGE_PDF, 0, 0, PRINT1525_FAULT_NO_SUCH_FORMAT, 1, 0},
+        {"print", 0, 0, 0, PRINT1525_PAGE_LIST, 0, 0, PRINT1525_FAULT_NO_SUCH_FORMAT, 5, 0}, {"reprint", 0, 0, 0, PRINT1525_PAGE_TEXT, 0, 0, PRINT1525_FAULT_NO_SUCH_FORMAT, 5, 0},
+        {"reprint", 0, 0, 0, PRINT1525_PAGE_SVG, 0, 0, PRINT1525_FAULT_NO_SUCH_FORMAT, 255, 0}, {"reprint", 9, 9, 9, 5, 9, 9, PRINT1525_FAULT_NO_SUCH_FORMAT, 0, 0},
+        {"pages", 4, 0, 0, 0, 0, 0, PRINT1525_FAULT_NO_SUCH_PRINTERS, 0, 0}, {"pages", 255, 2, 3, 5, 9, 9, PRINT1525_FAULT_NO_SUCH_PRINTERS, 0, 0},
+        {"pages", 3, 2, 0, 0, 0, 0, PRINT1525_FAULT_NO_SUCH_STATUS, 0, 0},   {"pages", 3, 255, 3, 5, 9, 9, PRINT1525_FAULT_NO_SUCH_STATUS, 0, 0},
+        {"pages", 3, 1, 0, 5, 0, 0, PRINT1525_FAULT_NO_SUCH_FORMAT, 0, 0},   {"pages", 0, 0, 255, 255, 9, 9, PRINT1525_FAULT_NO_SUCH_FORMAT, 0, 0},
+        {"bus", 4, 0, 0, 0, 0, 0, PRINT1525_FAULT_NO_SUCH_PRINTERS, 0, 0},   {"bus", 255, 2, 3, 9, 2, 9, PRINT1525_FAULT_NO_SUCH_PRINTERS, 0, 0},
+        {"bus", 3, 2, 0, 0, 0, 0, PRINT1525_FAULT_NO_SUCH_STATUS, 0, 0},     {"bus", 3, 255, 3, 9, 2, 9, PRINT1525_FAULT_NO_SUCH_STATUS, 0, 0},
+        {"bus", 3, 1, 0, 0, 2, 0, PRINT1525_FAULT_NO_SUCH_FORMAT, 0, 0},     {"bus", 0, 0, 255, 9, 255, 9, PRINT1525_FAULT_NO_SUCH_FORMAT, 0, 0},
+        {"raw", 9, 9, 9, 0, 9, 2, PRINT1525_FAULT_NO_SUCH_SET, 0, 0},        {"raw", 0, 0, 0, 5, 0, 255, PRINT1525_FAULT_NO_SUCH_SET, 0, 0},
+        {"raw", 9, 9, 9, 5, 9, 1, PRINT1525_FAULT_NO_SUCH_FORMAT, 0, 0},     {"raw", 0, 0, 0, 255, 0, 0, PRINT1525_FAULT_NO_SUCH_FORMAT, 0, 0},
+        {"print", 9, 9, 9, 5, 9, 9, PRINT1525_FAULT_NO_SUCH_FORMAT, 0, 0},   {"print", 0, 0, 0, 255, 0, 0, PRINT1525_FAULT_NO_SUCH_FORMAT, 0, 0},
+        {"listing", 9, 9, 3, 9, 9, 9, PRINT1525_FAULT_NO_SUCH_FORM, 0, 0},   {"listing", 0, 0, 255, 0, 0, 0, PRINT1525_FAULT_NO_SUCH_FORM, 0, 0},
+        {"pages", 3, 0, 3, 0, 0, 0, PRINT1525_FAULT_NO_SUCH_FORM, 0, 0},     {"bus", 3, 0, 255, 0, 0, 0, PRINT1525_FAULT_NO_SUCH_FORM, 0, 0},
+        {"explain_stop", 4, 9, 9, 9, 9, 9, PRINT1525_FAULT_NO_SUCH_PRINTERS, 0, 0}, {"explain_stop", 3, 2, 9, 9, 9, 9, PRINT1525_FAULT_NO_SUCH_STATUS, 0, 0},
+        {"explain_stop", 3, 1, 0, 9, 9, 9, PRINT1525_FAULT_NO_SUCH_STOP, 0, 0}, {"explain_stop", 3, 1, 3, 9, 9, 9, PRINT1525_FAULT_NO_SUCH_FORM, 0, 0},
+        {"explain_script", 9, 9, 3, 9, 9, 9, PRINT1525_FAULT_NO_SUCH_FORM, 0, 0},
+    };
+    static const struct {
+        const char *name;
+        uint8_t recording, words, intervals, bounds;
+        int fault;
+    } recordings[] = {
+        {"check", 5, 3, 9, 9, PRINT1525_FAULT_NO_SUCH_WORDS}, {"check", 5, 2, 9, 9, PRINT1525_FAULT_NO_SUCH_RECORDING}, {"check", 5, 0, 9, 9, PRINT1525_FAULT_NO_SUCH_RECORDING},
+        {"check", 255, 1, 9, 9, PRINT1525_FAULT_NO_SUCH_RECORDING}, {"check", 0, 255, 0, 0, PRINT1525_FAULT_NO_SUCH_WORDS},
+        {"decode", 0, 1, 0, 0, PRINT1525_FAULT_NO_SUCH_WORDS}, {"decode", 9, 3, 0, 0, PRINT1525_FAULT_NO_SUCH_WORDS},
+        {"decode", 0, 0, 2, 0, PRINT1525_FAULT_NO_SUCH_WORDS}, {"decode", 0, 0, 0, 2, PRINT1525_FAULT_NO_SUCH_WORDS},
+        {"decode", 5, 0, 1, 1, PRINT1525_FAULT_NO_SUCH_RECORDING}, {"decode", 5, 2, 9, 9, PRINT1525_FAULT_NO_SUCH_RECORDING},
+        {"reprint", 5, 9, 9, 9, PRINT1525_FAULT_NO_SUCH_RECORDING}, {"explain_trace", 5, 9, 9, 9, PRINT1525_FAULT_NO_SUCH_RECORDING},
+        {"explain_reading", 255, 9, 9, 9, PRINT1525_FAULT_NO_SUCH_RECORDING},
     };
     static const uint16_t no_input[1] = {65535};
-    static const char *const drawing[] = {"pages", "raw", "print"}, *const all[] = {"pages", "bus", "listing", "raw", "print", "check"};
+    static const char *const drawing[] = {"pages", "raw", "print", "reprint"};
+    static const char *const all[] = {"pages", "bus", "listing", "raw", "print", "check", "decode", "reprint", "explain_script", "explain_stop", "explain_trace", "explain_reading"};
     static const print1525_settings defaults = PRINT1525_SETTINGS_INIT;
     static job j;
     const guarded input = guard(7), buffer = guard(99), bad = guard(9);
@@ -605,13 +663,26 @@ static void try_settings(void) {
             j.settings.page = rows[row].page;
             j.settings.trace = rows[row].trace;
             j.settings.set = rows[row].set;
+            j.settings.printer = rows[row].printer;
+            j.settings.sheet = rows[row].sheet;
             /* (A form is refused behind the characters.) */
             if (times == 0 && rows[row].fault != PRINT1525_FAULT_NO_SUCH_FORM) j.settings.characters = bad.bytes, j.settings.characters_length = bad.size;
             if (!is_answer(call(&j, buffer.bytes, buffer.size), PRINT1525_REFUSED, rows[row].fault, 0, 0) || !is_untouched(buffer.bytes, buffer.size))
                 is_wrong("a setting that is none, row", row);
         }
     }
-    for (row = 0; row < 6; row++) {
+    /* Words and formats of a recording, its words first. */
+    for (row = 0; row < sizeof recordings / sizeof *recordings; row++) {
+        j.name = recordings[row].name;
+        j.settings = defaults;
+        j.settings.recording = recordings[row].recording;
+        j.settings.words = recordings[row].words;
+        j.settings.intervals = recordings[row].intervals;
+        j.settings.bounds = recordings[row].bounds;
+        if (!is_answer(call(&j, buffer.bytes, buffer.size), PRINT1525_REFUSED, recordings[row].fault, 0, 0) || !is_untouched(buffer.bytes, buffer.size))
+            is_wrong("a setting of a recording that is none, row", row);
+    }
+    for (row = 0; row < 8; row++) {
         j.name = drawing[row / 2];
         j.settings = defaults;
         j.settings.page = row % 2 ? PRINT1525_PAGE_SVG : PRINT1525_PAGE_LIST;
@@ -623,7 +694,7 @@ static void try_settings(void) {
     }
     /* Settings of another size, as memory that nobody began, and bytes that are not used yet. */
     for (row = 0; row < sizeof all / sizeof *all; row++)
-        for (change = 0; change < 5; change++) {
+        for (change = 0; change < 7; change++) {
             j.name = all[row];
             j.settings = defaults;
             if (change == 0) memset(&j.settings, 0, sizeof j.settings);
@@ -647,20 +718,15 @@ static void try_defaults(const job *j, uint8_t *buffer, size_t capacity) {
     if (other == NULL) exit(98);
     given = call(j, buffer, capacity);
     memset(other, UNTOUCHED, capacity + 1);
-    if (strcmp(j->name, "pages") == 0) status = print1525_pages(j->input, j->length, NULL, other, capacity, NULL);
-    else if (strcmp(j->name, "bus") == 0) status = print1525_bus(j->input, j->length, NULL, other, capacity, NULL);
-    else if (strcmp(j->name, "raw") == 0) status = print1525_raw(j->input, j->length, NULL, other, capacity, NULL);
-    else if (strcmp(j->name, "listing") == 0) status = print1525_listing(j->input, j->length, NULL, other, capacity, NULL);
-    else if (strcmp(j->name, "print") == 0) status = print1525_print(j->numbers, j->count, NULL, other, capacity, NULL);
-    else status = print1525_check(j->input, j->length, NULL, other, capacity, NULL);
-    if (status != given.status || (status <= PRINT1525_STOPPED && memcmp(other, buffer, given.length) != 0)) is_wrong("another text without settings", (size_t)status);
+    status = make(j, NULL, other, capacity, NULL);
+    if (status != given.status || (has_text(given) && memcmp(other, buffer, given.length) != 0)) is_wrong("another text without settings", (size_t)status);
     free(other);
 }
 
 /* Pointers that are NULL beside a length of 0 are as good as others; beside another length they are refused, and so is memory that
  * overlaps, with nothing changed. */
 static void try_pointers(void) {
-    static const char *const names[] = {"pages", "bus", "listing", "raw", "print", "check"};
+    static const char *const names[] = {"pages", "bus", "listing", "raw", "print", "check", "decode", "reprint", "explain_script", "explain_stop", "explain_trace", "explain_reading"};
     static const print1525_settings defaults = PRINT1525_SETTINGS_INIT;
     static uint16_t shared[64];
     static job j;
@@ -671,6 +737,7 @@ static void try_pointers(void) {
         print1525_details given, other;
         j.name = names[name];
         j.settings = defaults;
+        j.stopped.fault = PRINT1525_STOP_FILE_OPEN;
         j.input = empty.bytes;
         j.numbers = (const uint16_t *)(const void *)empty.bytes;
         j.length = j.count = 0;
@@ -682,24 +749,26 @@ static void try_pointers(void) {
         j.numbers = NULL;
         if (!are_details(given, call(&j, buffer.bytes, buffer.size))) is_wrong("no input, call", name);
         memset(buffer.bytes, UNTOUCHED, buffer.size);
-        /* NULL that has a length: the input, the buffer, the lists of delays and the characters. */
-        for (at = 0; at < 6; at++) {
+        /* NULL that has a length: the input, the buffer, the lists of delays, the characters and the names. */
+        for (at = 0; at < 9; at++) {
             j.settings = defaults;
             j.length = j.count = at == 0;
             if (at == 2) j.settings.computer_delays.length = 1;
             if (at == 3) j.settings.printer4_delays.length = 1;
             if (at == 4) j.settings.printer5_delays.length = 1;
             if (at == 5) j.settings.characters_length = 1;
+            if (at == 6) j.settings.atn.length = 1;
+            if (at == 7) j.settings.clock.length = 1;
+            if (at == 8) j.settings.data.length = 1;
             if (!is_answer(call(&j, at == 1 ? NULL : buffer.bytes, buffer.size), PRINT1525_REFUSED, PRINT1525_FAULT_NULL_POINTER, 0, 0))
                 is_wrong("a NULL pointer, call", 10 * name + at);
         }
         if (!is_untouched(buffer.bytes, buffer.size)) is_wrong("a buffer beside a NULL pointer, call", name);
         /* A buffer of ten bytes from byte 20 on overlaps what reaches into it from before, from behind, or whole. */
-        for (at = 0; at < 30; at++) {
+        for (at = 0; at < 38; at++) {
             static const size_t begins[] = {0, 12, 18, 20, 24, 28, 30, 40}, sizes[] = {20, 8, 4, 10, 2, 8, 9, 2};
             const size_t row = at % 8, begin = begins[row], size = sizes[row], place = at / 8;
             const int overlaps = begin < 30 && begin + size > 20;
-            if (place == 3 && row > 5) break;
             memset(shared, UNTOUCHED, sizeof shared);
             j.settings = defaults;
             j.input = place == 0 ? bytes + begin : NULL;
@@ -709,6 +778,7 @@ static void try_pointers(void) {
             if (place == 1) j.settings.printer4_delays.numbers = shared + begin / 2, j.settings.printer4_delays.length = size / 2;
             if (place == 2) j.settings.computer_delays.numbers = shared + begin / 2, j.settings.computer_delays.length = size / 2;
             if (place == 3) j.settings.characters = bytes + begin, j.settings.characters_length = size;
+            if (place == 4) j.settings.clock.bytes = (const char *)bytes + begin, j.settings.clock.length = size;
             given = call(&j, bytes + 20, 10);
             if ((given.fault == PRINT1525_FAULT_OVERLAP) != overlaps || (overlaps && (!is_answer(given, PRINT1525_REFUSED, PRINT1525_FAULT_OVERLAP, 0, 0) || !is_untouched(bytes, sizeof shared))))
                 is_wrong("memory that overlaps, call and row", 100 * name + at);
@@ -725,6 +795,8 @@ static void try_words(void) {
         {PRINT1525_REFUSED, PRINT1525_FAULT_TRUNCATED, 0, 0, 0},
         {PRINT1525_REFUSED, PRINT1525_FAULT_UNKNOWN_NAME, 2, 14, 0},
         {PRINT1525_REFUSED, PRINT1525_FAULT_NO_SUCH_INPUT, SIZE_MAX, 0, 0},
+        {PRINT1525_REFUSED, PRINT1525_FAULT_ANOTHER_CLOCK, 5, 0, 77},
+        {PRINT1525_REFUSED, PRINT1525_FAULT_UTF_16, 1, 0, 0},
         {PRINT1525_FAILED, PRINT1525_FAULT_TOO_SMALL, 0, 0, 99},
         {PRINT1525_REFUSED, 12345, 0, 0, 0},
     };
@@ -958,9 +1030,21 @@ static void set(job *j, int words, char **word) {
     static const uint8_t modes[] = {PRINT1525_MODE_EACH, PRINT1525_MODE_KEPT}, sets[] = {PRINT1525_SET_UPPER, PRINT1525_SET_LOWER};
     static const uint8_t pages[] = {PRINT1525_PAGE_LIST, PRINT1525_PAGE_TEXT, PRINT1525_PAGE_SVG, PRINT1525_PAGE_PNG, PRINT1525_PAGE_PDF};
     static const uint8_t traces[] = {PRINT1525_TRACE_TEXT, PRINT1525_TRACE_VCD}, forms[] = {PRINT1525_FROM_TEXT, PRINT1525_FROM_PRG, PRINT1525_FROM_PETCAT};
+    static const uint8_t recordings[] = {PRINT1525_RECORDING_TEXT, PRINT1525_RECORDING_VCD, PRINT1525_RECORDING_CSV, PRINT1525_RECORDING_FOUND, PRINT1525_RECORDING_FOUND_OR_CSV};
+    static const uint8_t kinds[] = {PRINT1525_WORDS_LIST, PRINT1525_WORDS_STORY, PRINT1525_WORDS_JSON}, bounds[] = {PRINT1525_BOUNDS_PROFILE, PRINT1525_BOUNDS_GUIDE};
     print1525_settings *const s = &j->settings;
     *s = defaults;
-    if (strcmp(j->name, "listing") == 0 && words > 2) {
+    if (strcmp(j->name, "explain_stop") == 0 && words > 3) {
+        s->present = named(presents, sizeof presents, atoi(word[2]));
+        s->mode = named(modes, sizeof modes, atoi(word[3]));
+        if (words > 4) s->from = named(forms, sizeof forms, atoi(word[4]));
+    } else if (strcmp(j->name, "check") == 0 || strcmp(j->name, "decode") == 0 || strcmp(j->name, "reprint") == 0 || strcmp(j->name, "edges") == 0 ||
+               strcmp(j->name, "explain_trace") == 0 || strcmp(j->name, "explain_reading") == 0) {
+        if (words > 2) s->recording = named(recordings, sizeof recordings, atoi(word[2]));
+        if (words > 3 && strcmp(j->name, "reprint") == 0) s->page = named(pages, sizeof pages, atoi(word[3]));
+        else if (words > 3) s->words = named(kinds, sizeof kinds, atoi(word[3]));
+        if (words > 5) s->intervals = (uint8_t)atoi(word[4]), s->bounds = named(bounds, sizeof bounds, atoi(word[5]));
+    } else if ((strcmp(j->name, "listing") == 0 || strcmp(j->name, "explain_script") == 0) && words > 2) {
         s->from = named(forms, sizeof forms, atoi(word[2]));
     } else if (strcmp(j->name, "print") == 0 && words > 2) {
         s->page = named(pages, sizeof pages, atoi(word[2]));
@@ -975,6 +1059,62 @@ static void set(job *j, int words, char **word) {
         read_delays(j, word[5]);
         if (words > 6) s->from = named(forms, sizeof forms, atoi(word[6]));
     }
+}
+
+/* What the environment says of the settings. */
+static void set_more(job *j) {
+    print1525_settings *const s = &j->settings;
+    const char *const names = getenv("NAMES");
+    if (getenv("PRINTER")) s->printer = (uint8_t)atoi(getenv("PRINTER"));
+    if (getenv("SHEET")) s->sheet = strtoul(getenv("SHEET"), NULL, 10);
+    if (getenv("INVERTED")) s->inverted = 1;
+    if (getenv("START")) s->start = strtoul(getenv("START"), NULL, 10);
+    if (getenv("RATE")) s->rate = strtoul(getenv("RATE"), NULL, 10);
+    if (names && strlen(names) < sizeof j->names) {
+        print1525_name *const all[] = {&s->atn, &s->clock, &s->data};
+        char *at = strcpy(j->names, names);
+        size_t index;
+        for (index = 0; index < 3; index++) {
+            all[index]->bytes = at;
+            all[index]->length = strcspn(at, ",");
+            at += all[index]->length + (at[all[index]->length] != '\0');
+        }
+    }
+}
+
+/* The edges of a recording: with room for all of them, for fewer, and with each allocation refused in turn. */
+static print1525_details edges_of(const job *j) {
+    print1525_details answer, other;
+    print1525_edge *edges, *before;
+    size_t count, room;
+    long number, all;
+    print1525_edges(j->input, j->length, &j->settings, NULL, 0, &answer);
+    count = answer.length;
+    edges = (print1525_edge *)(void *)guard(count * sizeof *edges).bytes;
+    before = (print1525_edge *)(void *)guard(count * sizeof *edges).bytes;
+    taken = 0;
+    print1525_edges(j->input, j->length, &j->settings, edges, count, &answer);
+    all = taken;
+    if (live != 0) is_wrong("memory of edges is not given back", (size_t)live);
+    if (answer.length != count) is_wrong("other edges than were asked for", count);
+    for (room = 0; room < count; room++) printf("%lu %u%u%u\n", (unsigned long)edges[room].time, edges[room].atn, edges[room].clock, edges[room].data);
+    memcpy(before, edges, count * sizeof *edges);
+    for (room = 0; room < count; room++) {
+        print1525_edges(j->input, j->length, &j->settings, edges + count - room, room, &other);
+        if (!is_answer(other, PRINT1525_FAILED, PRINT1525_FAULT_TOO_SMALL, 0, count) || memcmp(edges, before, count * sizeof *edges) != 0)
+            is_wrong("edges in little room", room);
+        if (room > 200) room += count / 50;
+    }
+    for (number = 1; number <= all; number++) {
+        taken = 0;
+        refused_one = number;
+        print1525_edges(j->input, j->length, &j->settings, edges, count, &other);
+        refused_one = 0;
+        if (live != 0 || (other.status == PRINT1525_FAILED ? !is_answer(other, PRINT1525_FAILED, PRINT1525_FAULT_NO_MEMORY, 0, 0) : !are_details(other, answer)) ||
+            memcmp(edges, before, count * sizeof *edges) != 0)
+            is_wrong("edges with a refused allocation", (size_t)number);
+    }
+    return answer;
 }
 
 /* What a reading's kind is called. */
@@ -1073,24 +1213,35 @@ int main(int words, char **word) {
             j.settings.characters = characters.bytes;
             j.settings.characters_length = characters.size;
         }
+        set_more(&j);
         j.input = input.bytes;
         j.length = input.size;
+        if (strcmp(j.name, "edges") == 0) {
+            answer = edges_of(&j);
+            tell(answer);
+            return wrong ? 99 : answer.status;
+        }
         if (strcmp(j.name, "print") == 0) read_numbers(&j);
+        if (strcmp(j.name, "explain_stop") == 0) {
+            print1525_pages(j.input, j.length, &j.settings, NULL, 0, &j.stopped);
+            buffer = guard(j.stopped.length);
+            print1525_pages(j.input, j.length, &j.settings, buffer.bytes, buffer.size, &j.stopped);
+        }
         answer = call(&j, empty.bytes, 0);
         buffer = guard(answer.fault == PRINT1525_FAULT_TOO_SMALL ? answer.length + 16 : 99);
         if (answer.fault == PRINT1525_FAULT_TOO_SMALL) {
             uint8_t *const front = buffer.bytes + 16;
             const size_t needed = answer.length;
             answer = call(&j, front, needed);
-            if (answer.status > PRINT1525_STOPPED || answer.length != needed) is_wrong("another text than was asked for", needed);
+            if (!has_text(answer) || answer.length != needed) is_wrong("another text than was asked for", needed);
             fwrite(front, 1, answer.length, stdout);
         }
         if (!once || strcmp(once, "once") != 0) {
             guarded text = guard(answer.length);
-            memcpy(text.bytes, buffer.bytes + 16, answer.status <= PRINT1525_STOPPED ? answer.length : 0);
+            memcpy(text.bytes, buffer.bytes + 16, has_text(answer) ? answer.length : 0);
             try_defaults(&j, buffer.bytes, buffer.size);
             try_sizes(&j, buffer, answer, text.bytes);
-            try_refusals(&j, buffer, answer.status <= PRINT1525_STOPPED ? answer.length : 9, answer, text.bytes);
+            try_refusals(&j, buffer, has_text(answer) ? answer.length : 9, answer, text.bytes);
         }
         tell(answer);
         return wrong ? 99 : answer.status;

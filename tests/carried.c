@@ -84,11 +84,54 @@ static const print1525_edge edges[] = {{0, 1, 1, 1}, {100, 0, 1, 1}, {110, 0, 0,
 #define COUNT (sizeof edges / sizeof *edges)
 
 /* Each call, by its number; what it gives is in the buffer and the details. */
-#define CALLS 18
+#define CALLS 30
 static const char *const names[CALLS] = {"pages list", "pages text", "pages svg", "pages png", "pages pdf", "pages of petcat",
                                          "bus text", "bus vcd", "bus of petcat", "listing", "raw text", "raw pdf", "print svg", "check",
-                                         "decoder", "strict", "strict list", "words"};
-static const int is_for_edges[CALLS] = {0, 0, 0, 0, 0, 0, 0, 0, 0, 0, 0, 0, 0, 0, 1, 1, 1, 1};
+                                         "decoder", "strict", "strict list", "words", "readings", "readings as JSON", "reprint", "check as a story",
+                                         "check as JSON", "explain script", "explain stop", "explain trace", "explain reading", "edges", "a sheet",
+                                         "receiver"};
+static const int is_for_edges[CALLS] = {0, 0, 0, 0, 0, 0, 0, 0, 0, 0, 0, 0, 0, 0, 1, 1, 1, 1, 0, 0, 0, 0, 0, 0, 0, 0, 0, 0, 0, 1};
+
+/* The calls from 18 on: recordings, explanations, and a receiver. */
+static void make_more(int call, uint8_t *buffer, size_t room, print1525_details *details) {
+    static const char bad[] = "REM\nOPEN 4,4:PRONT#4\n";
+    print1525_settings settings = PRINT1525_SETTINGS_INIT;
+    print1525_details stopped = {PRINT1525_STOPPED, PRINT1525_STOP_FILE_NOT_OPEN, 6, 0, 0};
+    print1525_receiver receiver;
+    print1525_received received = {0, 0, 0};
+    size_t index;
+    settings.intervals = 1;
+    if (call == 18 || call == 19) {
+        settings.words = call == 18 ? PRINT1525_WORDS_LIST : PRINT1525_WORDS_JSON;
+        print1525_readings(trace, trace_length, &settings, buffer, room, details);
+    } else if (call == 20) {
+        settings.page = PRINT1525_PAGE_PDF;
+        print1525_reprint(trace, trace_length, &settings, buffer, room, details);
+    } else if (call == 21 || call == 22) {
+        settings.words = call == 21 ? PRINT1525_WORDS_STORY : PRINT1525_WORDS_JSON;
+        print1525_check(trace, trace_length, &settings, buffer, room, details);
+    } else if (call == 23) {
+        print1525_explain_script(bad, sizeof bad - 1, &settings, buffer, room, details);
+    } else if (call == 24) {
+        print1525_explain_stop(script, sizeof script - 1, &settings, &stopped, buffer, room, details);
+    } else if (call == 25) {
+        print1525_explain_trace(trace, trace_length / 2, &settings, buffer, room, details);
+    } else if (call == 26) {
+        print1525_explain_reading(script, sizeof script - 1, &settings, buffer, room, details);
+    } else if (call == 27) {
+        print1525_edges(trace, trace_length, &settings, (print1525_edge *)(void *)buffer, room / sizeof(print1525_edge), details);
+        details->length *= sizeof(print1525_edge);
+    } else if (call == 28) {
+        settings.page = PRINT1525_PAGE_SVG;
+        settings.sheet = 1;
+        settings.printer = 5;
+        print1525_pages(script, sizeof script - 1, &settings, buffer, room, details);
+    } else {
+        print1525_receiver_begin(&receiver, 4);
+        for (index = 0; index < COUNT; index++) print1525_receiver_edge(&receiver, &edges[index], &received, details);
+        buffer[0] = received.kind;
+    }
+}
 
 static void make(int call, uint8_t *buffer, size_t room, print1525_details *details) {
     static const uint16_t inputs[] = {65, 66, PRINT1525_SELECT_LOWER, 67, 13, 8, 255, 13};
@@ -99,6 +142,10 @@ static void make(int call, uint8_t *buffer, size_t room, print1525_details *deta
     uint16_t received[8], input = 0;
     size_t index;
     memset(details, 0, sizeof *details);
+    if (call >= 18) {
+        make_more(call, buffer, room, details);
+        return;
+    }
     settings.from = call == 5 || call == 8 || call == 9 ? PRINT1525_FROM_PETCAT : PRINT1525_FROM_TEXT;
     if (call < 5) settings.page = (uint8_t)call;
     settings.trace = call == 7;

@@ -14,6 +14,8 @@
 
 #define ROOM (1 << 18)
 #define UNTOUCHED 0xA5
+/* How many settings are numbers of a byte, from `present` on. */
+#define SETTINGS 12
 
 void *__real_malloc(size_t size);
 void *__real_realloc(void *old, size_t size);
@@ -71,7 +73,9 @@ static uint8_t *guard(void) {
 static const char *const pieces[] = {
     "OPEN 4,4\n", "OPEN 5,5,7\n", "OPEN 1,4,7\n", "CMD 4\n", "CMD 4,\"X\";\n", "PRINT#4,\"HELLO\"\n", "PRINT#5,CHR$(14)\"WIDE\"\n", "PRINT \"A\"\n", "CLOSE 4\n",
     "10 PRINT#4,CHR$(8)\"ABC\"CHR$(26)CHR$(9)\"X\"\n", "PRINT#9\n", "OPEN 4,4:OPEN 4,4\n", "REM\n", "\n", "10 open4,4\n", "20 print#4,\"{rvon}a{2 down}\"\n",
-    "printer 4\n", "0 111\n", "100 011\n", "1100 001\n", "1110 000\n", "1300 010\n", "1310 011\n", "lawful\n", "upper 65\n#####.\n", "\001\010\010\010\012\000\231\"A\"\000",
+    "printer 4\n", "0 111\n", "100 011\n", "1100 001\n", "1110 000\n", "1300 010\n", "1310 011\n", "lawful\n", "upper 65\n#####.\n",
+    "$timescale 1 us $end\n", "$var wire 1 ! ATN $end\n$var wire 1 \" CLOCK $end\n$var wire 1 # DATA $end\n$enddefinitions $end\n#0\n1!\n1\"\n1#\n",
+    "#100\n0!\n", "#1100\n0\"\n0#\n", "time,ATN,CLOCK,DATA\n0,1,1,1\n", "100,0,1,1\n1100,0,0,1\n", "\001\010\010\010\012\000\231\"A\"\000",
 };
 
 /* An input at the end of its memory: pieces of scripts, listings and traces, with some bytes changed. */
@@ -116,8 +120,17 @@ static print1525_settings made_settings(uint8_t *memories[4]) {
     if (bad == 0) {
         size_t index;
         uint8_t *const bytes = (uint8_t *)(void *)&made.present;
-        for (index = 0; index < 6; index++) bytes[index] = (uint8_t)drawn();
+        for (index = 0; index < SETTINGS; index++) bytes[index] = (uint8_t)drawn();
     } else {
+        made.printer = (uint8_t)(below(4) ? 0 : 4 + below(2));
+        made.recording = (uint8_t)below(5);
+        made.words = (uint8_t)below(3);
+        made.intervals = (uint8_t)below(2);
+        made.bounds = (uint8_t)below(2);
+        made.inverted = (uint8_t)below(2);
+        made.sheet = below(4) ? 0 : below(3);
+        made.start = below(4) ? 0 : below(2000);
+        made.rate = below(4) ? 0 : drawn() >> below(64);
         made.present = (uint8_t)below(4);
         made.mode = (uint8_t)below(2);
         made.from = (uint8_t)(below(4) ? 0 : below(3));
@@ -126,7 +139,11 @@ static print1525_settings made_settings(uint8_t *memories[4]) {
         made.set = (uint8_t)below(2);
     }
     if (bad == 1) made.size = below(2) ? below(100) : (size_t)drawn();
-    if (bad == 2) made.reserved[below(2)] = (uint8_t)drawn();
+    if (bad == 2) made.reserved[below(sizeof made.reserved)] = (uint8_t)drawn();
+    if (below(6) == 0) {
+        made.data.bytes = "CLK";
+        made.data.length = below(4);
+    }
     made.computer_delays.numbers = made_numbers(memories[0], 50, &made.computer_delays.length);
     made.printer4_delays.numbers = made_numbers(memories[1], 9, &made.printer4_delays.length);
     made.printer5_delays.numbers = made_numbers(memories[2], 9, &made.printer5_delays.length);
@@ -141,8 +158,8 @@ static int is_untouched(const uint8_t *bytes, size_t count) {
     return 1;
 }
 
-/* The details belong to the status. */
-static void test_details(const char *call, int status, const print1525_details *details, size_t capacity) {
+/* The details belong to the status; with a text before its fault they may be those of a recording. */
+static void test_details(const char *call, int status, const print1525_details *details, size_t capacity, int may_be_cut) {
     char message[99];
     const size_t length = print1525_message(details, message, sizeof message);
     if (status != details->status || status < 0 || status > 3) is_wrong(call, "the status");
@@ -150,26 +167,47 @@ static void test_details(const char *call, int status, const print1525_details *
     if ((status == PRINT1525_STOPPED) != (details->fault > 100)) is_wrong(call, "a BASIC error");
     if ((status == PRINT1525_FAILED) != (details->fault == PRINT1525_FAULT_NO_MEMORY || details->fault == PRINT1525_FAULT_TOO_SMALL)) is_wrong(call, "a failure");
     if ((details->length > capacity) != (details->fault == PRINT1525_FAULT_TOO_SMALL)) is_wrong(call, "the length");
-    if (status == PRINT1525_REFUSED && details->length != 0) is_wrong(call, "the length of nothing");
+    if (status == PRINT1525_REFUSED && details->length != 0 && !may_be_cut) is_wrong(call, "the length of nothing");
     if ((length == 0) != (status == PRINT1525_DONE) || length >= sizeof message || strlen(message) != length) is_wrong(call, "the message");
     if (status != PRINT1525_DONE && strcmp(print1525_strerror(details->fault), "no fault") == 0) is_wrong(call, "a fault without words");
 }
 
-static int make(size_t call, const void *input, size_t length, const print1525_settings *settings, void *buffer, size_t capacity, print1525_details *details) {
-    switch (call) {
-    case 0: return print1525_pages(input, length, settings, buffer, capacity, details);
-    case 1: return print1525_bus(input, length, settings, buffer, capacity, details);
-    case 2: return print1525_listing(input, length, settings, buffer, capacity, details);
-    case 3: return print1525_raw(input, length, settings, buffer, capacity, details);
-    case 4: return print1525_check(input, length, settings, buffer, capacity, details);
-    default: return print1525_print((const uint16_t *)input, length, settings, buffer, capacity, details);
-    }
+/* The calls that take an input and settings, by their numbers; print is the last. */
+typedef int text_call(const void *, size_t, const print1525_settings *, void *, size_t, print1525_details *);
+
+/* Edges as items of sixteen bytes. */
+static int edges(const void *input, size_t length, const print1525_settings *settings, void *buffer, size_t capacity, print1525_details *details) {
+    const int status = print1525_edges(input, length, settings, (print1525_edge *)buffer, capacity / sizeof(print1525_edge), details);
+    details->length *= sizeof(print1525_edge);
+    return status;
 }
 
+static int stop(const void *input, size_t length, const print1525_settings *settings, void *buffer, size_t capacity, print1525_details *details) {
+    details->fault = PRINT1525_STOP_TOO_MANY_FILES + (int)(length % 7);
+    details->place = length % 5;
+    return print1525_explain_stop(input, length, settings, details, buffer, capacity, details);
+}
+
+static int print(const void *input, size_t length, const print1525_settings *settings, void *buffer, size_t capacity, print1525_details *details) {
+    return print1525_print((const uint16_t *)input, length, settings, buffer, capacity, details);
+}
+
+static const struct {
+    const char *name;
+    text_call *call;
+    int may_be_cut;
+} calls[] = {
+    {"edges", edges, 1}, {"pages", print1525_pages, 0}, {"bus", print1525_bus, 0}, {"listing", print1525_listing, 0}, {"raw", print1525_raw, 0},
+    {"check", print1525_check, 1}, {"readings", print1525_readings, 1}, {"reprint", print1525_reprint, 1}, {"explain_script", print1525_explain_script, 0},
+    {"explain_stop", stop, 0}, {"explain_trace", print1525_explain_trace, 0}, {"explain_reading", print1525_explain_reading, 0}, {"print", print, 0},
+};
+#define CALLS (sizeof calls / sizeof *calls)
+#define PRINT (CALLS - 1)
+
 static void try_text(uint8_t *memories[6]) {
-    static const char *const names[] = {"pages", "bus", "listing", "raw", "check", "print"};
     static uint8_t before[8192], text[ROOM];
-    const size_t call = below(6);
+    const size_t call = below(CALLS);
+    const char *const name = calls[call].name;
     const print1525_settings drawn_settings = made_settings(memories);
     print1525_settings settings = drawn_settings;
     const print1525_settings *const with = below(30) ? &settings : NULL;
@@ -178,36 +216,37 @@ static void try_text(uint8_t *memories[6]) {
     const void *input;
     uint8_t *buffer;
     int status;
-    if (call == 5) input = made_numbers(memories[4], 300, &length);
+    if (call == PRINT) input = made_numbers(memories[4], 300, &length);
     else input = made_input(memories[4], &length);
-    size = call == 5 ? 2 * length : length;
+    size = call == PRINT ? 2 * length : length;
     if (size) memcpy(before, input, size);
     live = taken = 0;
     refused_one = below(6) ? 0 : 1 + (long)below(60);
     capacity = below(3) ? ROOM : below(3000);
+    if (call == 0) capacity = capacity / sizeof(print1525_edge) * sizeof(print1525_edge);
     buffer = capacity || below(2) ? memories[5] + ROOM - capacity : NULL;
     memset(memories[5], UNTOUCHED, ROOM);
-    if (overlap == 0 && size > 0 && capacity > 0) {
+    if (overlap == 0 && size > 0 && capacity > 0 && call != 0) {
         /* The buffer begins within the input. */
         uint8_t *const inside = (uint8_t *)memories[4] + ROOM - size + below(size);
         capacity = 1 + below((size_t)(memories[4] + ROOM - inside));
-        status = make(call, input, length, &settings, inside, capacity, &details);
-        if (status != PRINT1525_REFUSED || (details.fault != PRINT1525_FAULT_OVERLAP && details.fault != PRINT1525_FAULT_BAD_SETTINGS)) is_wrong(names[call], "an overlap");
-        if (memcmp(before, input, size) != 0) is_wrong(names[call], "an input beside an overlap");
+        status = calls[call].call(input, length, &settings, inside, capacity, &details);
+        if (status != PRINT1525_REFUSED || (details.fault != PRINT1525_FAULT_OVERLAP && details.fault != PRINT1525_FAULT_BAD_SETTINGS)) is_wrong(name, "an overlap");
+        if (memcmp(before, input, size) != 0) is_wrong(name, "an input beside an overlap");
         return;
     }
-    status = make(call, input, length, with, buffer, capacity, &details);
-    test_details(names[call], status, &details, capacity);
-    if (live != 0) is_wrong(names[call], "memory");
-    if (size && memcmp(before, input, size) != 0) is_wrong(names[call], "the input");
-    if (memcmp(&settings, &drawn_settings, sizeof settings) != 0) is_wrong(names[call], "the settings");
+    status = calls[call].call(input, length, with, buffer, capacity, &details);
+    test_details(name, status, &details, capacity, calls[call].may_be_cut);
+    if (live != 0) is_wrong(name, "memory");
+    if (size && memcmp(before, input, size) != 0) is_wrong(name, "the input");
+    if (memcmp(&settings, &drawn_settings, sizeof settings) != 0) is_wrong(name, "the settings");
     size = length;
-    length = status <= PRINT1525_STOPPED ? details.length : 0;
-    if (!is_untouched(memories[5], ROOM - capacity) || !is_untouched(memories[5] + ROOM - capacity + length, capacity - length)) is_wrong(names[call], "the buffer");
+    length = status <= PRINT1525_REFUSED ? details.length : 0;
+    if (!is_untouched(memories[5], ROOM - capacity) || !is_untouched(memories[5] + ROOM - capacity + length, capacity - length)) is_wrong(name, "the buffer");
     if (refused_one || buffer == NULL) return;
     memcpy(text, buffer, length);
-    if (make(call, input, size, with, buffer, capacity, &again) != status || memcmp(&again, &details, sizeof again) != 0 || memcmp(text, buffer, length) != 0)
-        is_wrong(names[call], "another answer");
+    if (calls[call].call(input, size, with, buffer, capacity, &again) != status || memcmp(&again, &details, sizeof again) != 0 || memcmp(text, buffer, length) != 0)
+        is_wrong(name, "another answer");
 }
 
 /* An edge: mostly a little later than the last. */
@@ -247,12 +286,12 @@ static void try_decoder(uint8_t *memories[6]) {
         if (below(30) == 0) damage(decoder, sizeof *decoder);
         *edge = made_edge(&time);
         before = other = *decoder;
-        test_details("decoder_edge", print1525_decoder_edge(decoder, edge, reading, details), details, 1);
+        test_details("decoder_edge", print1525_decoder_edge(decoder, edge, reading, details), details, 1, 0);
         if (details->status != PRINT1525_DONE && memcmp(&before, decoder, sizeof before) != 0) is_wrong("decoder_edge", "a decoder that refuses");
         if ((details->length == 1) != (reading->kind != PRINT1525_NO_READING) || reading->kind > PRINT1525_INCOMPLETE_END) is_wrong("decoder_edge", "the reading");
         print1525_decoder_edge(&other, edge, &settled, &told);
         if (memcmp(&told, details, sizeof told) != 0 || settled.kind != reading->kind || settled.end != reading->end) is_wrong("decoder_edge", "another answer");
-        test_details("decoder_end", print1525_decoder_end(decoder, reading, details), details, 1);
+        test_details("decoder_end", print1525_decoder_end(decoder, reading, details), details, 1, 0);
     }
 }
 
@@ -272,7 +311,7 @@ static void try_receiver(uint8_t *memories[6]) {
         if (below(30) == 0) damage(receiver, sizeof *receiver);
         *edge = made_edge(&time);
         before = other = *receiver;
-        test_details("receiver_edge", print1525_receiver_edge(receiver, edge, came, details), details, 1);
+        test_details("receiver_edge", print1525_receiver_edge(receiver, edge, came, details), details, 1, 0);
         if (details->status != PRINT1525_DONE && memcmp(&before, receiver, sizeof before) != 0) is_wrong("receiver_edge", "a receiver that refuses");
         if ((details->length == 1) != (came->kind != PRINT1525_NOTHING_RECEIVED) || came->kind > PRINT1525_RECEIVED_UNLISTEN || came->eoi > 1) is_wrong("receiver_edge", "what came");
         print1525_receiver_edge(&other, edge, &again, &told);
@@ -296,13 +335,13 @@ static void try_strict(uint8_t *memories[6]) {
         if (index == 0 && below(5)) memset(edges, 1, sizeof *edges), edges->time = time = 0;
         if (below(30) == 0) damage(strict, sizeof *strict);
         *input = 999;
-        test_details("strict_edge", print1525_strict_edge(strict, &edges[index], input, details), details, 1);
+        test_details("strict_edge", print1525_strict_edge(strict, &edges[index], input, details), details, 1, 0);
         if ((details->length == 1) != (*input < 258) || (details->length == 0) != (*input == PRINT1525_NO_INPUT)) is_wrong("strict_edge", "the input");
-        test_details("strict_end", print1525_strict_end(strict, details), details, 0);
+        test_details("strict_end", print1525_strict_end(strict, details), details, 0, 0);
     }
     memset(memories[5], UNTOUCHED, ROOM);
     test_details("strict_edges", print1525_strict_edges(device, count ? edges : NULL, count, room ? (uint16_t *)(void *)(memories[5] + ROOM - 2 * room) : NULL, room, details),
-                 details, room);
+                 details, room, 0);
     index = details->status == PRINT1525_DONE ? details->length : 0;
     if (!is_untouched(memories[5], ROOM - 2 * room) || !is_untouched(memories[5] + ROOM - 2 * (room - index), 2 * (room - index))) is_wrong("strict_edges", "the buffer");
 }

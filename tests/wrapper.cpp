@@ -40,6 +40,21 @@ static void texts() {
     CHECK(message_of([] { print1525::pages("A\n"); }) == "line 1: unknown word");
     CHECK(message_of([] { print1525::check("0 11\n"); }) == "line 1: bad trace line");
     CHECK(print1525::pages(std::string_view()).text == print1525::pages("").text);
+    const print1525::result why = print1525::explain_stop("REM\nPRINT#5", stopped.details);
+    CHECK(why.details.place == 2 && why.text.find("line 2: PRINT#5") != std::string::npos);
+    CHECK(print1525::explain_script("REM\nA\n").details.place == 2 && print1525::explain_script("REM\n").text.empty());
+    CHECK(message_of([&] { print1525::explain_stop("REM\n", {}); }) == "no such error");
+    /* Two sheets, of which one is shown: it is the second alone, and there is no third. */
+    const std::string lines = "OPEN 4,4\n" + [] {
+        std::string made;
+        for (int line = 0; line < 70; line++) made += "PRINT#4,\"A\"\n";
+        return made;
+    }();
+    print1525::settings all = PRINT1525_PAGE_SVG, one = PRINT1525_PAGE_SVG;
+    CHECK(print1525::pages(lines, one.shows(4, 2)).text.size() < print1525::pages(lines, all).text.size() / 4);
+    CHECK(print1525::pages(lines, one.shows(4, 1)).text != print1525::pages(lines, print1525::settings(one).shows(4, 2)).text);
+    CHECK(message_of([&] { print1525::pages(lines, one.shows(0, 3)); }) == "no such sheet");
+    CHECK(message_of([&] { print1525::pages(lines, print1525::settings(PRINT1525_PAGE_PDF).shows(0, 1)); }) == "no such format");
 }
 
 static void printers(const char *name) {
@@ -74,6 +89,32 @@ static void recordings() {
         if (reading && reading->kind == PRINT1525_BYTE_ACKNOWLEDGED && !reading->byte.command) bytes += static_cast<char>(reading->byte.byte);
     }
     CHECK(bytes == "HI\r" && received == "HI\r" && !decoder.end());
+    const std::vector<print1525_edge> edges = print1525::edges(trace);
+    CHECK(edges.size() == 110 && edges[0].time == 0 && edges[0].data == 1 && edges[1].time == 100 && edges[1].atn == 0);
+    print1525::settings vcd, json, story;
+    vcd.trace = PRINT1525_TRACE_VCD;
+    const std::string dump = print1525::bus("OPEN 4,4\nPRINT#4,\"HI\"\n", vcd).text;
+    vcd.reads(PRINT1525_RECORDING_VCD);
+    CHECK(print1525::edges(dump, vcd).size() == edges.size() && print1525::check(dump, vcd).text == print1525::check(trace).text);
+    CHECK(message_of([&] { print1525::edges(dump, print1525::settings(vcd).names("ATN", "CLOCK", "SRQ")); }).find("no signal DATA") != std::string::npos);
+    json.writes(PRINT1525_WORDS_JSON);
+    CHECK(print1525::readings(trace).text.find("HI") == std::string::npos && print1525::readings(trace, json).text[0] == '{');
+    CHECK(print1525::check(trace, story.writes(PRINT1525_WORDS_STORY)).text != print1525::check(trace).text);
+    CHECK(print1525::reprint(trace).text.find("cell 72") != std::string::npos);
+    try {
+        print1525::readings(trace + "x\n");
+        CHECK(false);
+    } catch (const print1525::error &why) {
+        CHECK(why.what() == std::string("line 111: bad trace line") && why.text.size() > 100 && why.text.size() == why.details.length);
+    }
+    try {
+        print1525::edges(trace + "x\n");
+        CHECK(false);
+    } catch (const print1525::error &why) {
+        CHECK(why.edges.size() == 110 && why.edges[109].time == edges[109].time);
+    }
+    CHECK(print1525::explain_reading(trace + "x\n").details.place == 111 && print1525::explain_trace(trace + "x\n").details.place == 111);
+    CHECK(print1525::explain_trace(trace).text.empty() && print1525::explain_reading(trace).details.place == 0);
     CHECK(message_of([&] { receiver.edge({0, 1, 1, 1}); }) == "time goes back");
     CHECK(message_of([] { print1525::receiver(31); }) == "no such device");
     CHECK(message_of([&] { decoder.edge({0, 1, 1, 1}); }) == "time goes back");

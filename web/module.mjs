@@ -16,8 +16,8 @@
 //                 `explain` what its option --explain tells on standard error
 //     sheets      where a sheet is asked for that there is not, how many there are, else 0
 //
-// The methods `edges`, `readings`, `statementLines`, `scriptFault` and `bounds` give numbers in place of a text: see
-// print1525.d.mts.
+// The methods `edges`, `readings`, `intervals`, `statementLines`, `scriptFault`, `bounds` and `task` give numbers in place
+// of a text: see print1525.d.mts.
 //
 // The numbers are those of include/print1525.h, and for recordings those of crates/pr_web/src/answer.rt.
 // `module.words(answer)` says a stop or a fault in the program's words.
@@ -28,56 +28,65 @@ export const loadPrint1525 = (() => {
   const PAGE = 65536;
   // An instance whose memory has grown beyond this many bytes is not kept for the next call.
   const KEPT = 2 ** 28;
-  // The room that a text gets at first, if eight times the input is less. Where it is too small, the answer says how much it needs.
-  const ROOM = 2 ** 20;
+  // The room that a text gets at first, if WIDER times the input is less: a picture has some 27 bytes for each character that
+  // is printed. Where it is too small, the answer says how much it needs, and the call is made again.
+  const ROOM = 2 ** 20, WIDER = 32;
+  // The smallest block has 2^LEAST bytes: a statement's vectors grow to these at once, and not step by step.
+  const LEAST = 8;
 
   // The heap that the module imports, which has the page's own buffers too: the memory above `__heap_base`.
-  // A block has 2^c bytes, c from 4 on, after 16 bytes of which the first holds c. Freed blocks are kept by c.
+  // A block has 2^c bytes, c from LEAST to 31, after 16 bytes of which the first holds c. Freed blocks are kept by c.
+  // The module never grows its memory itself, so the views are made anew where this heap grows it.
   function makeHeap(exports) {
     const { memory } = exports;
-    const free = Array.from({ length: 48 }, () => []);
+    const free = Array.from({ length: 32 }, () => []);
     let top = Math.ceil(Number(exports.__heap_base.value) / 16) * 16;
-    let view = new DataView(memory.buffer);
-    const data = () => (view.buffer === memory.buffer ? view : (view = new DataView(memory.buffer)));
-    const classOf = size => {
-      let c = 4;
-      while (2 ** c < size) c++;
-      return c;
-    };
+    let bytes = new Uint8Array(memory.buffer), halves = new Uint32Array(memory.buffer);
 
     // Grows the memory by some pages, and says whether it has grown.
     function grow(pages) {
       try {
         memory.grow(pages);
-        return true;
       } catch {
         return false;
       }
+      bytes = new Uint8Array(memory.buffer);
+      halves = new Uint32Array(memory.buffer);
+      return true;
+    }
+
+    // The power of two that is the size of a block of `size` bytes, by its exponent; 32 where there is no such block.
+    const classOf = size => (!(size >= 0 && size <= 2 ** 31) ? 32 : size <= 2 ** LEAST ? LEAST : 32 - Math.clz32(size - 1));
+
+    // Makes a block of 2^c bytes at the top of the heap, or the last block one of 2^c bytes, and says whether the browser gives the memory.
+    function place(at, c) {
+      const missing = at + 2 ** c - bytes.length;
+      // A memory that cannot grow in place is copied: so it grows by half of what it is, if the browser gives that.
+      const pages = size => Math.ceil(size / PAGE);
+      if (missing > 0 && !grow(pages(Math.max(missing, bytes.length / 2))) && !grow(pages(missing))) return false;
+      top = at + 2 ** c;
+      bytes[at - 16] = c;
+      return true;
     }
 
     // The address of a new block of at least `size` bytes, a multiple of 16; 0 where the browser gives no more memory.
     function get(size) {
-      const c = classOf(size);
-      if (c >= free.length) return 0;
-      if (free[c].length) return free[c].pop();
-      const at = top + 16;
-      const missing = at + 2 ** c - memory.buffer.byteLength;
-      // A memory that cannot grow in place is copied: so it grows by half of what it is, if the browser gives that.
-      const pages = size => Math.ceil(size / PAGE);
-      if (missing > 0 && !grow(pages(Math.max(missing, memory.buffer.byteLength / 2))) && !grow(pages(missing))) return 0;
-      top = at + 2 ** c;
-      data().setUint8(at - 16, c);
-      return at;
+      const c = classOf(size), at = top + 16;
+      if (c > 31) return 0;
+      return free[c].length ? free[c].pop() : place(at, c) ? at : 0;
     }
 
     function put(at) {
-      free[data().getUint8(at - 16)].push(at);
+      free[bytes[at - 16]].push(at);
     }
 
-    // Writes what an allocation came to: whether there is a block, and its address.
+    // Writes what an allocation came to: whether there is a block, and its address, as two numbers of 64 bits.
     function tell(to, at) {
-      data().setBigUint64(Number(to), at ? 1n : 0n, true);
-      data().setBigUint64(Number(to) + 8, BigInt(at || 16), true);
+      const first = Number(to) / 4;
+      halves[first] = at ? 1 : 0;
+      halves[first + 1] = 0;
+      halves[first + 2] = at || 16;
+      halves[first + 3] = 0;
     }
 
     return {
@@ -87,11 +96,12 @@ export const loadPrint1525 = (() => {
         tell(to, get(Number(size)));
       },
       rattle_realloc(to, block, kept, size) {
-        const at = Number(block);
-        if (Number(size) <= 2 ** data().getUint8(at - 16)) return tell(to, at);
-        const next = get(Number(size));
+        const at = Number(block), wanted = Number(size), had = bytes[at - 16], c = classOf(wanted);
+        // (the last block grows where it is)
+        if (c <= had || (c <= 31 && at + 2 ** had === top && place(at, c))) return tell(to, at);
+        const next = get(wanted);
         if (next) {
-          new Uint8Array(memory.buffer).copyWithin(next, at, at + Number(kept));
+          bytes.copyWithin(next, at, at + Number(kept));
           put(at);
         }
         return tell(to, next);
@@ -145,6 +155,8 @@ export const loadPrint1525 = (() => {
       return numbers;
     },
   };
+  // Numbers of 64 bits as they are.
+  const EXACT = { size: 8, read: (buffer, at, length) => new BigUint64Array(buffer, at, length).slice() };
   // Edges: the moment and the levels of each.
   const EDGES = {
     size: 8,
@@ -161,11 +173,11 @@ export const loadPrint1525 = (() => {
   const FAULTS = {
     1: 'unknown word', 2: 'bad number', 3: 'bad device', 4: 'bad secondary address', 5: 'bad byte', 6: 'too long',
     7: 'too many statements', 8: 'bad trace line', 9: 'input too large', 11: 'bad start', 12: 'bad order', 13: 'too early',
-    14: 'too late', 15: 'bad shape', 16: 'truncated', 20: 'no such wording', 22: 'no such printers', 23: 'no such status', 24: 'no such format',
+    14: 'too late', 15: 'bad shape', 16: 'truncated', 20: 'no such wording', 21: 'no such device', 22: 'no such printers', 23: 'no such status', 24: 'no such format',
     25: 'no such character set', 28: 'no such input', 29: 'no such source', 30: 'no such stop', 31: 'no signal ATN', 32: 'no signal CLOCK',
     33: 'no signal DATA', 34: 'no level of ATN', 35: 'no level of CLOCK', 36: 'no level of DATA', 41: 'bad word', 42: 'no $end',
     43: 'no $enddefinitions', 44: 'no timescale', 45: 'bad time', 46: 'time goes back', 47: 'level x', 48: 'level z',
-    49: 'bad level', 50: 'no such sheet', 51: 'document too large', 52: 'bad character line', 60: 'no such form', 61: 'not a saved program', 62: 'cut off',
+    49: 'bad level', 50: 'no such sheet', 51: 'document too large', 52: 'bad character line', 53: 'words not UTF-8', 54: 'no task', 60: 'no such form', 61: 'not a saved program', 62: 'cut off',
     63: 'unknown name', 64: 'bad byte', 70: 'bad timescale', 71: 'no time', 72: 'UTF-16 text', 73: 'zip archive',
     75: 'another signal ATN', 76: 'another signal CLOCK', 77: 'another signal DATA',
   };
@@ -174,6 +186,10 @@ export const loadPrint1525 = (() => {
   // The numbers of a reading's row, and the kinds of delay, in their orders.
   const ROW = ['end', 'endMoment', 'bits', 'byte', 'isCommand', 'readyToSend', 'readyForData', 'hasEoi', 'pulled', 'released', 'firstPull', 'lastPull',
     'shortestLow', 'longestLow', 'shortestHigh', 'longestHigh', 'textLength'];
+  // The intervals of a byte, in the order of the summary, and what the lengths of each come to.
+  const INTERVALS = ['ready', 'first pull', 'answer', 'answer length', 'pull after answer', 'shortest low half', 'longest low half', 'shortest high half',
+    'longest high half', 'acknowledgement'];
+  const FIGURES = ['count', 'least', 'middle', 'greatest', 'from', 'to', 'outside'];
   const ENDS = ['acknowledged', 'not acknowledged', 'ended by ATN', 'CLOCK released too long', 'cut'];
   const DELAYS = ['Bb', 'Aw', 'Ne', 'Ry', 'S', 'V', 'R', 'Cr', 'At', 'H', 'Ye', 'Ei', 'F', 'Dr', 'answers'];
 
@@ -207,6 +223,9 @@ export const loadPrint1525 = (() => {
     return number;
   }
 
+  // 'found' and 'found csv' are the format that the first bytes show, or else a text or a table.
+  const INPUTS = ['text', 'vcd', 'csv', 'found', 'found csv'];
+  const encode = text => new TextEncoder().encode(text);
   const bytesOf = bytes => (bytes instanceof Uint8Array ? bytes : new Uint8Array(bytes));
   const pageFormat = format => numberOf(format, ['list', 'text', 'svg', 'png', 'pdf'], 'format');
 
@@ -218,10 +237,12 @@ export const loadPrint1525 = (() => {
   const wordingOf = ({ intervals = false, bounds = 'profile' }) => (intervals ? 1 : 0) + 2 * numberOf(bounds, ['profile', 'guide'], 'bounds');
   const JSON_WORDING = 4;
 
-  // The call that draws a file of characters, and its further argument; an empty file means the module's own characters.
-  function drawing(name, { characters, device, sheet }) {
-    const file = characters ? bytesOf(characters) : new Uint8Array(0);
-    if (file.length && isPart({ device, sheet })) throw new Error('print1525: a device or a sheet alone is drawn with the module\'s own characters');
+  // A file of characters; an empty one means the module's own.
+  const fileOf = ({ characters }) => (characters ? bytesOf(characters) : new Uint8Array(0));
+
+  // The call that draws a file of characters, and its further argument.
+  function drawing(name, asked) {
+    const file = fileOf(asked);
     return file.length ? [`${name}_with`, [file]] : [name, []];
   }
 
@@ -240,9 +261,18 @@ export const loadPrint1525 = (() => {
   // A recording: its format, the names of its signals, whether its levels are inverted, the microsecond at which it starts,
   // and how many samples a second a table without times has (0 where that is not said).
   function recordingWords({ bytes, input = 'text', names = ['ATN', 'CLOCK', 'DATA'], inverted = false, start = 0, rate = 0 }) {
-    const source = numberOf(input, ['text', 'vcd', 'csv'], 'input');
-    return [bytesOf(bytes), source, ...names.map(name => new TextEncoder().encode(name)), inverted ? 1 : 0, BigInt(start), BigInt(rate)];
+    const source = numberOf(input, INPUTS, 'input');
+    return [bytesOf(bytes), source, ...names.map(name => (typeof name === 'string' ? encode(name) : bytesOf(name))), inverted ? 1 : 0, BigInt(start), BigInt(rate)];
   }
+
+  // The printers that are present, whether the status is kept, and the delays, where each printer is a number of its own.
+  function runWords(asked) {
+    const [script, , status, ...delays] = scriptWords(asked), { printers = 3 } = asked;
+    return [script, printers & 1, printers >> 1, status, ...delays];
+  }
+
+  // The words of a command line, with the program's name in front.
+  const lineOf = words => encode(['print1525', ...words].join('\0'));
 
   return async function loadPrint1525(bytes) {
     if (typeof WebAssembly !== 'object' || typeof BigUint64Array !== 'function') {
@@ -280,9 +310,22 @@ export const loadPrint1525 = (() => {
     }
 
     function call(name, passed) {
-      const told = made(name, passed, TEXT, Math.max(rooms[name] || 0, ROOM, Math.min(8 * passed[0].byteLength, KEPT / 4))), answer = answerOf(told);
+      const told = made(name, passed, TEXT, Math.max(rooms[name] || 0, ROOM, Math.min(WIDER * passed[0].byteLength, KEPT / 4))), answer = answerOf(told);
       rooms[name] = Math.min(told.length * 1.25, KEPT / 4) | 0;
       return { ...answer, text: answer.column || !told.made ? new Uint8Array(0) : told.made };
+    }
+
+    // Bytes that a printer hears, and what they do not say: that the first comes in the lower/upper case set, and that they come in both.
+    function heard(name, passed) {
+      const told = made(name, passed, TEXT, ROOM), said = told.code ? 0 : told.place;
+      return { ...answerOf(told), heard: { lower: said % 2 === 1, reselected: said > 1 }, text: told.made || new Uint8Array(0) };
+    }
+
+    // What another call makes of a run, with how the run ended.
+    function endedAs(ended, make) {
+      if (ended.code > 1) return ended;
+      const other = make();
+      return other.code ? other : { ...other, ...ended, text: other.text };
     }
 
     const numbers = (name, passed, room) => {
@@ -297,13 +340,14 @@ export const loadPrint1525 = (() => {
       // `device` (4 or 5) and `sheet` (from 1) show a part of the pages, where the format can. `characters` is a file of the
       // shapes of characters that pictures draw.
       pages(asked) {
-        const [script, , , ...delays] = scriptWords(asked), { printers = 3, status = 0 } = asked, [name, characters] = drawing('print1525_pages', asked);
-        const whole = format => call(name, [script, printers, status, ...delays, pageFormat(format), ...characters]);
+        const [name, characters] = drawing('print1525_pages', asked), whole = format => call(name, [...scriptWords(asked), pageFormat(format), ...characters]);
         if (!isPart(asked)) return whole(asked.format || 'list');
-        const ended = whole('list');
-        if (ended.code > 1) return ended;
-        const part = call('print1525_part_of_pages', [script, printers & 1, printers >> 1, status, ...delays, ...partWords(asked)]);
-        return part.code ? part : { ...ended, text: part.text };
+        return endedAs(whole('list'), () => call('print1525_part_of_pages', [...runWords(asked), ...partWords(asked), fileOf(asked)]));
+      },
+      // The bytes that printer 4 or 5 hears in a script's run, and what they do not say.
+      runBytes: asked => {
+        const ended = call('print1525_pages', [...scriptWords(asked), 0]);
+        return endedAs(ended, () => heard('print1525_run_bytes', [...runWords(asked), Number(asked.device || 4)]));
       },
       bus: asked => call('print1525_bus', [...scriptWords(asked), numberOf(asked.format || 'text', ['text', 'vcd'], 'format')]),
       // The text of the script that a listing says: 'text' (the listing itself), 'prg' (a saved program) or 'petcat' (petcat's text).
@@ -311,7 +355,7 @@ export const loadPrint1525 = (() => {
       // The bytes that a printer gets, and the character set before them: 0 graphic/upper case, 1 lower/upper case.
       raw: asked => {
         const { bytes, set = 0, format = 'list' } = asked, [name, characters] = drawing('print1525_raw', asked);
-        return isPart(asked) ? call('print1525_part_of_raw', [bytesOf(bytes), set, ...partWords(asked)]) : call(name, [bytesOf(bytes), set, pageFormat(format), ...characters]);
+        return isPart(asked) ? call('print1525_part_of_raw', [bytesOf(bytes), set, ...partWords(asked), fileOf(asked)]) : call(name, [bytesOf(bytes), set, pageFormat(format), ...characters]);
       },
       // What a printer hears: 0 to 255 a byte, 256 and 257 the selection of the graphic/upper case or the lower/upper case set.
       print: asked => {
@@ -321,12 +365,15 @@ export const loadPrint1525 = (() => {
       check: ({ text }) => call('print1525_check', [bytesOf(text)]),
       // The frames of a trace in any format, or their story. With code 2 a story is what comes before the fault.
       report: asked => call('print1525_report', [...recordingWords(asked), asked.story ? 1 : 0]),
+      // The readings of a trace as JSON, and whether it is lawful. With code 2 the text is what comes before the fault.
+      checkJson: asked => call('print1525_check_json', recordingWords(asked)),
       // What a recording says. With code 2 the text is what comes before the fault.
       decode: asked => {
         const output = asked.output || 'readings';
         if (output === 'readings') return call('print1525_readings', [...recordingWords(asked), wordingOf(asked)]);
         if (output === 'json') return call('print1525_readings', [...recordingWords(asked), JSON_WORDING]);
-        return call('print1525_reprint', [...recordingWords(asked), ...partWords({ ...asked, format: output })]);
+        if (output === 'bytes') return heard('print1525_heard', [...recordingWords(asked), Number(asked.device || 4)]);
+        return call('print1525_reprint', [...recordingWords(asked), ...partWords({ ...asked, format: output }), fileOf(asked)]);
       },
       // The edges of a recording, up to its fault.
       edges: asked => {
@@ -339,10 +386,32 @@ export const loadPrint1525 = (() => {
         const { numbers: rows, ...answer } = numbers('print1525_reading_rows', [...words, wordingOf(asked)], room);
         return { ...answer, readings: Array.from({ length: rows.length / ROW.length }, (_, row) => readingOf(rows, row * ROW.length)) };
       },
+      // What the lengths of each interval of a recording come to.
+      intervals: asked => {
+        const { numbers: all, ...answer } = numbers('print1525_intervals', recordingWords(asked), INTERVALS.length * FIGURES.length);
+        const intervals = INTERVALS.map((name, index) => ({ name, ...Object.fromEntries(FIGURES.map((figure, at) => [figure, all[index * FIGURES.length + at]])) }));
+        return { ...answer, intervals: all.length ? intervals : [] };
+      },
       // The least and the greatest delay of each kind, and of an answer to end-or-identify that two listeners make together.
       bounds: () => {
         const { numbers: all } = numbers('print1525_bounds', [], 30);
         return Object.fromEntries(DELAYS.map((kind, index) => [kind, [all[2 * index], all[2 * index + 1]]]));
+      },
+      // The task that the words of a command line ask for, as numbers (crates/pr_web/src/words.rt says which); code 2 where they ask
+      // for none.
+      task: ({ words }) => {
+        const told = made('print1525_task', [lineOf(words)], EXACT, 1024);
+        return { ...answerOf(told), numbers: told.made || new BigUint64Array(0) };
+      },
+      // What the program tells of words that ask for no task, and its exit status.
+      refusal: ({ words, explained = false }) => {
+        const told = made('print1525_refusal', [lineOf(words), explained ? 1 : 0], TEXT, ROOM);
+        return { ...answerOf(told), status: told.place, text: told.made };
+      },
+      // The trace of a script's run, as the words of a command line ask for it.
+      busAsked: asked => {
+        const ended = call('print1525_pages', [...scriptWords(asked), 0]);
+        return endedAs(ended, () => call('print1525_bus_asked', [lineOf(asked.words), bytesOf(asked.script)]));
       },
       // The line of each statement of a script, from 1.
       statementLines: ({ script }) => {
@@ -362,6 +431,11 @@ export const loadPrint1525 = (() => {
       // Why a trace is refused, as `check` reads it, or why a recording can not be read to its end, as `decode` reads it.
       explainTrace: asked => call('print1525_explain_trace', recordingWords(asked)),
       explainReading: asked => call('print1525_explain_reading', recordingWords(asked)),
+      // What is odd about a recording, and how many microseconds later than asked for its trace begins.
+      remarks: asked => {
+        const told = made('print1525_remarks', recordingWords(asked), TEXT, ROOM);
+        return { ...answerOf(told), later: told.code ? 0 : told.place, text: told.made || new Uint8Array(0) };
+      },
     };
   };
 })();

@@ -8,6 +8,7 @@ const PICA = 210;              // units of the picture
 const SHEET_AND_MARGINS = 13860;
 const WHOLE = 60000;           // characters: a shorter picture is in the page as a whole
 const LEAST = 6 / 126;         // pixels of a unit: a character is never less than six pixels wide
+const AROUND = 0.5;            // of a long picture, the rows of so much of the window's height are in the page above and below it
 const SHADED = 30000;          // units: shorter sheets have a shadow, which takes a browser too long on longer ones
 
 export class Paper {
@@ -43,8 +44,11 @@ export class Paper {
 
   /** Shows a picture, or nothing. */
   show(text) {
+    const wasLong = Boolean(this.part);
+    clearTimeout(this.wider);
     this.text = text;
     this.found = [];
+    this.part = null;
     this.picture = text ? sheetsOf(text) : null;
     if (!text) {
       this.svg = null;
@@ -53,10 +57,9 @@ export class Paper {
       return this.onTabs([], 0);
     }
     if (text.length <= WHOLE) {
-      this.part = null;
       this.put(0, this.picture.height);
       this.svg.classList.toggle('shaded', this.picture.height <= SHADED);
-    } else this.part = { from: 0, to: 0 };
+    } else this.part = { from: 0, to: 0, isNarrow: !wasLong };
     this.lay();
     this.focus();
   }
@@ -89,8 +92,9 @@ export class Paper {
       elements.delete(name);
     }
     if (!missing.length) return;
-    const made = new DOMParser().parseFromString(`<svg xmlns="http://www.w3.org/2000/svg">${missing.map(part => part.text).join('')}</svg>`, 'image/svg+xml');
-    [...made.documentElement.children].forEach((element, index) => elements.set(missing[index].name, document.importNode(element, true)));
+    const made = document.createElementNS('http://www.w3.org/2000/svg', 'svg');
+    made.innerHTML = missing.map(part => part.text).join('');
+    [...made.children].forEach((element, index) => elements.set(missing[index].name, element));
     const next = places.map(place => place.firstChild);
     for (const { place, name } of parts) {
       const element = elements.get(name);
@@ -144,7 +148,7 @@ export class Paper {
     this.room.style.width = `${width * scale}px`;
     this.room.style.height = `${height * scale}px`;
     this.onTabs(sheet ? this.inFocus().map(({ printer }) => printer) : [], sheet?.printer);
-    if (this.part) { this.part.to = 0; this.drawPart(); return; }
+    if (this.part) { this.part.to = 0; return this.drawPart(this.part.isNarrow ? 0 : AROUND); }
     this.svg.setAttribute('viewBox', `${left} 0 ${width} ${height}`);
     Object.assign(this.svg.style, { width: `${width * scale}px`, height: `${height * scale}px` });
   }
@@ -172,13 +176,15 @@ export class Paper {
     return { x: this.across().left + (x - box.left) / scale, y: (y - box.top) / scale };
   }
 
-  /** Draws the part of a long picture around what can be seen. */
-  drawPart() {
+  /** Draws the part of a long picture around what can be seen: `around` times as much above and below, which comes a little later in a new one. */
+  drawPart(around = AROUND) {
     if (!this.part || !this.picture) return;
     const scale = this.scale(), seen = this.element.clientHeight / scale, top = this.element.scrollTop / scale;
     if (top >= this.part.from && top + seen <= this.part.to) return;
-    const from = Math.max(top - seen / 2, 0), to = Math.min(top + 1.5 * seen, this.picture.height), { left, width } = this.across();
-    this.part = { from, to };
+    const from = Math.max(top - around * seen, 0), to = Math.min(top + (1 + around) * seen, this.picture.height), { left, width } = this.across();
+    clearTimeout(this.wider);
+    if (!around) this.wider = setTimeout(() => { this.part.to = 0; this.drawPart(); }, 100);
+    this.part = { from, to, isNarrow: !around };
     this.put(from, to);
     this.svg.setAttribute('viewBox', `${left} ${from} ${width} ${to - from}`);
     Object.assign(this.svg.style, {

@@ -47,16 +47,16 @@ export interface Part {
 
 /** What characters are drawn in svg, png and pdf. */
 export interface Drawn {
-  /** a file of the shapes of characters, as of the option --characters; without one, or with an empty one, the module's own. Not with a part of the pages */
+  /** a file of the shapes of characters, as of the option --characters; without one, or with an empty one, the module's own */
   characters?: Bytes;
 }
 
 export interface Recording {
   bytes: Bytes;
-  /** a trace as `print1525 bus` writes it (the default), a Value Change Dump, or a table of samples */
-  input?: 'text' | 'vcd' | 'csv';
+  /** a trace as `print1525 bus` writes it (the default), a Value Change Dump, a table of samples, or what the first bytes show, and else a text or a table */
+  input?: 'text' | 'vcd' | 'csv' | 'found' | 'found csv';
   /** the names of the signals ATN, CLOCK and DATA */
-  names?: [string, string, string];
+  names?: (string | Bytes)[];
   /** whether 0 is released and 1 is pulled */
   inverted?: boolean;
   /** the microsecond at which the recording starts */
@@ -70,6 +70,17 @@ export interface Detail {
   intervals?: boolean;
   bounds?: 'profile' | 'guide';
 }
+
+/** What the bytes that a printer hears do not say. */
+export interface Heard {
+  /** the first byte comes in the lower/upper case set */
+  lower: boolean;
+  /** bytes come in both sets */
+  reselected: boolean;
+}
+
+/** What the lengths of an interval come to, in microseconds: how many there are, the least, the middle, the greatest, the profile's bounds, and how many lie outside. */
+export interface Interval { name: string; count: number; least: number; middle: number; greatest: number; from: number; to: number; outside: number }
 
 /** What a recording says at one place, in microseconds. */
 export interface Reading {
@@ -120,14 +131,28 @@ export interface Print1525 {
   check(asked: { text: Bytes }): TextAnswer;
   /** the frames of a trace in any format, or their story; with code 2 a story is what comes before the fault */
   report(asked: Recording & { story?: boolean }): TextAnswer;
+  /** the readings of a trace as JSON, and whether it is lawful; with code 2 the text is what comes before the fault */
+  checkJson(asked: Recording): TextAnswer;
+  /** what is odd about a recording that is checked, and how many microseconds later than asked for its trace begins */
+  remarks(asked: Recording): TextAnswer & { later: number };
   /** what a recording says; with code 2 the text is what comes before the fault */
-  decode(asked: Recording & Omit<Part, 'format'> & Detail & { output?: 'readings' | 'json' | PageFormat }): TextAnswer;
+  decode(asked: Recording & Omit<Part, 'format'> & Drawn & Detail & { output?: 'readings' | 'json' | 'bytes' | PageFormat }): TextAnswer & { heard?: Heard };
+  /** the bytes that printer 4 (the default) or 5 hears in a script's run */
+  runBytes(asked: Run & { device?: 4 | 5 }): TextAnswer & { heard?: Heard };
   /** the edges of a recording, up to its fault: moments in microseconds, and levels (4 for ATN, 2 for CLOCK, 1 for DATA, where released) */
   edges(asked: Recording): Answer & { times: Float64Array; levels: Uint8Array };
   /** what a recording says, as numbers: the readings whose lines `decode` gives */
   readings(asked: Recording & Detail): Answer & { readings: Reading[] };
+  /** what the lengths of each interval come to; an input that has a fault has those before it */
+  intervals(asked: Recording): Answer & { intervals: Interval[] };
   /** the least and the greatest delay of each kind, in microseconds */
   bounds(): Record<Delay, [number, number]>;
+  /** the task that the words of a command line ask for (crates/pr_web/src/words.rt has its numbers); code 2 where they ask for none */
+  task(asked: { words: string[] }): Answer & { numbers: BigUint64Array };
+  /** what the program tells of such words, and its exit status */
+  refusal(asked: { words: string[]; explained?: boolean }): TextAnswer & { status: number };
+  /** the trace of a script's run, as the words of a command line ask for it */
+  busAsked(asked: Run & { words: string[] }): TextAnswer;
   /** the line of each statement of a script, from 1; with code 2 there are none */
   statementLines(asked: { script: Bytes }): Answer & { lines: Float64Array };
   /** where the first fault of a script is, line and column from 1; null where it has none */

@@ -4,11 +4,11 @@
 //     node print1525.mjs pages hello.bas -o hello.pdf
 //     import { openPrint1525 } from './print1525.mjs';
 //
-// The texts come from the WebAssembly module of the proved crates. It is beside this file, as print1525.wasm or in
-// print1525.html. What is done here is not proved: the words are read (commandline.mjs), files are opened and written,
-// and the format of a recording is found by its first bytes. README.md says what the program does that this one does not.
+// The texts come from the WebAssembly module of the proved crates, which reads the words too. It is beside this file, as
+// print1525.wasm or in print1525.html. What is done here is not proved: files are opened and written, the module's calls
+// are chosen by the job that the words ask for, and hints are given. README.md says what the program does that this one
+// does not.
 
-import { NoJob, readJob, shown } from './commandline.mjs';
 import { loadPrint1525 } from './module.mjs';
 
 export { loadPrint1525 };
@@ -23,6 +23,17 @@ export async function openPrint1525() {
   const [, packed] = /<script type="text\/plain" id="module">([^<]*)</.exec(page);
   return loadPrint1525(inflateRawSync(Buffer.from(packed, 'base64')));
 }
+
+/** Words that ask for no job, or a job that failed: what is written and where, and the exit status. */
+class NoJob extends Error {
+  constructor(status, text) {
+    super(text);
+    this.status = status;
+  }
+}
+
+/** A text with its control characters escaped, as the program shows a name. */
+const shown = text => text.replace(/[\0-\x1f\x7f-\x9f]/g, sign => ({ '\t': '\\t', '\n': '\\n', '\r': '\\r' }[sign] || `\\u{${sign.charCodeAt(0).toString(16)}}`));
 
 // what the program says beside the module's texts
 
@@ -87,31 +98,76 @@ function hintsOnScript({ code, line }, bytes) {
   return code < 2 && hasTypedStrings(bytes) ? [TYPED_STRINGS] : [];
 }
 
-/** The format that the first 4096 bytes of a recording show, or else another. */
-function foundSource(bytes, otherwise) {
-  const text = Buffer.from(bytes.subarray(0, 4096)).toString('latin1'), [front] = /[^\t\n\f\r ]/.exec(text) || [''];
-  if (front === '$') return 'vcd';
-  return front === ';' || front === '#' || /^[^,\n]*,/.test(text) ? 'csv' : otherwise;
+const INPUTS = ['text', 'vcd', 'csv'], FORMATS = ['list', 'text', 'svg', 'png', 'pdf'], FORMS = ['text', 'prg', 'petcat'];
+
+const REPORTS = ['frames', 'story', 'json'];
+
+/** The job of a task's numbers, as the module gives them: crates/pr_web/src/words.rt says in which order. */
+function jobOf(numbers) {
+  let at = 0;
+  const exactly = () => numbers[at++], next = () => Number(exactly()), flag = () => next() === 1;
+  const text = () => { const length = next(); return Uint8Array.from(numbers.subarray(at, at += length), Number); };
+  const name = () => (flag() ? Buffer.from(text()).toString() : null);
+  const format = () => ({ format: FORMATS[next()], device: next(), sheet: exactly() });
+  const output = () => {
+    const [kind, wording, device, sheet] = [next(), next(), next(), exactly()];
+    if (kind === 0) return { format: FORMATS[wording], device, sheet };
+    return kind === 1 ? { format: 'bytes', device } : { format: wording === 4 ? 'json' : 'readings', intervals: wording % 2 === 1, bounds: wording > 1 ? 'guide' : 'profile' };
+  };
+  const recording = () => ({ input: INPUTS[next()], inverted: flag(), start: exactly(), rate: exactly(), names: [text(), text(), text()] });
+  const before = () => [flag(), exactly()][0];
+  const run = () => ({ form: FORMS[next()], printers: next() + 2 * next(), status: next() });
+  const jobs = {
+    pages: () => ({ ...run(), ...output() }),
+    bus: () => ({ ...run(), format: ['text', 'vcd'][next()] }),
+    check: () => ({ format: REPORTS[next()], ...recording() }),
+    decode: () => ({ isFound: flag(), ...output(), ...recording() }),
+    raw: () => ({ set: next(), ...format() }),
+  };
+  const [command, job] = Object.entries(jobs)[next()];
+  return { command, ...job(), isBefore: before(), file: name(), output: name(), characters: name() };
+}
+
+/** The job that words ask for, or throws what is told of them where they ask for none. `help COMMAND` is `COMMAND --help`. */
+function readJob(module, given) {
+  const words = given[0] === 'help' && given.length < 3 ? [...given.slice(1), '--help'] : given;
+  const isExplained = words.includes('--explain') || process.env.PRINT1525_EXPLAIN === '1', { code, numbers } = module.task({ words });
+  const job = code === 0 ? { ...jobOf(numbers), words, isExplained } : null;
+  if (job && job.isBefore) throw new NoJob(2, 'print1525: here --from-time is not below 0\n');
+  if (job) return job;
+  if (code === 3) throw new NoJob(3, 'print1525: out of memory\n');
+  const { status, text } = module.refusal({ words, explained: isExplained });
+  throw new NoJob(status, Buffer.from(text).toString());
 }
 
 const CHARACTERS_LIMIT = 65536;      // bytes of a file of characters
-const partOf = job => ({ device: job.device || 0, sheet: job.sheet || 0 });
-const runOf = job => ({ printers: job.present, status: job.status, delays: job.delays });
-const recordingOf = job => ({ input: job.from, names: job.names, inverted: job.inverted, start: job['from-time'] });
+
+/** What a printer's bytes do not say, and what to do about it. */
+function heardTold({ lower, reselected }) {
+  if (!reselected) return lower ? 'the bytes are for the lower case set: raw --set lower prints them' : '';
+  return `the character set changes after the first byte: raw prints all bytes in one set${lower ? ', with --set lower in that of the first byte' : ''}`;
+}
 
 /** What --explain says of a sheet that there is not, and else what a call of the module explains. */
 function explained(answer, call) {
+  if (!answer.code) return '';
   if (answer.fault === 50) return `  the paper has ${answer.sheets === 1 ? 'one sheet' : `${answer.sheets} sheets`}\n`;
   return answer.fault === 51 ? '' : Buffer.from(call().text).toString('latin1');
 }
 
+/** What --explain says of a trace: why it is refused, and of a recording where its trace begins, if later than asked for, and what is odd about it. */
+function traceTold(module, asked, answer) {
+  if (answer.fault === 9) return '';
+  const why = explained(answer, () => module.explainTrace(asked));
+  if (asked.input === 'text') return why;
+  const { later, text } = module.remarks(asked), lines = Buffer.from(text).toString('latin1').split('\n').slice(0, -1);
+  const begins = `  the trace begins at microsecond ${BigInt(asked.start) + BigInt(later)} of the recording, where the levels of all three lines are first known\n`;
+  return (later ? begins : '') + why + lines.map(line => `  ${line}\n`).join('');
+}
+
 /** The file of characters that a job names, or throws the line that says why it has none. No other file is opened before. */
-function charactersOf(module, job, files) {
-  const { characters: name } = job;
+function charactersOf(module, { characters: name }, files) {
   if (name === null) return undefined;
-  if (job.name === 'decode' || job.device || job.sheet) {
-    throw new NoJob(2, 'print1525: here --characters goes with pages and raw, without --device and --sheet\n');
-  }
   const bytes = trying(() => files.readAll(files.open(name), CHARACTERS_LIMIT), error => failedFile(name, error));
   if (bytes.length > CHARACTERS_LIMIT) throw new NoJob(2, `print1525: ${shown(name)}: too large for a file of characters\n`);
   const answer = bytes.length ? module.print({ inputs: [], characters: bytes }) : { code: 2, fault: 52, line: 1 };
@@ -121,28 +177,27 @@ function charactersOf(module, job, files) {
 
 /** Calls the module for a job over an input: the answer, and what --explain says of it. */
 function answerOf(module, job, bytes, characters) {
-  if (job.name === 'raw') {
-    const answer = module.raw({ bytes, set: job.set, format: job.as, characters, ...partOf(job) });
+  if (job.command === 'raw') {
+    const answer = module.raw({ ...job, bytes, characters });
     const hints = answer.code ? [] : isSaved(bytes) ? [SAVED_BYTES] : isDisk(bytes) ? [DISK_BYTES] : [];
     return { answer, explain: () => explained(answer, () => ({ text: '' })), hints };
   }
-  if (job.name === 'check') {
-    const asked = { bytes, ...recordingOf(job) }, isPlain = job.from === 'text' && job.as !== 'story';
-    const answer = isPlain ? module.check({ text: bytes }) : module.report({ ...asked, story: job.as === 'story' });
-    return { answer, explain: () => explained(answer, () => module.explainTrace(asked)), hints: [] };
+  if (job.command === 'check') {
+    const asked = { ...job, bytes, story: job.format === 'story' }, isPlain = job.input === 'text' && job.format === 'frames';
+    const answer = isPlain ? module.check({ text: bytes }) : job.format === 'json' ? module.checkJson(asked) : module.report(asked);
+    return { answer, explain: () => traceTold(module, asked, answer), hints: [] };
   }
-  if (job.name === 'decode') {
-    const asked = { bytes, ...recordingOf({ ...job, from: job.isFound ? foundSource(bytes, job.from) : job.from }) };
-    const { intervals, bounds } = job;
-    const answer = module.decode({ ...asked, intervals, bounds, output: job.as === 'list' ? 'readings' : job.as, ...partOf(job) });
+  if (job.command === 'decode') {
+    const asked = { ...job, bytes, characters, input: job.isFound ? (job.input === 'csv' ? 'found csv' : 'found') : job.input };
+    const answer = module.decode({ ...asked, output: job.format });
     return { answer, explain: () => explained(answer, () => module.explainReading(asked)), hints: [] };
   }
-  const listing = job.from === 'text' ? { code: 0, text: bytes } : module.listing({ bytes, form: job.from });
+  const listing = job.form === 'text' ? { code: 0, text: bytes } : module.listing({ bytes, form: job.form });
   if (listing.code) return { answer: listing, explain: () => '', hints: hintsOnListing(listing, bytes) };
-  const asked = { script: listing.text, ...runOf(job) }, { script } = asked;
-  const answer = job.name === 'pages' ? module.pages({ ...asked, format: job.as, characters, ...partOf(job) }) : module.bus({ ...asked, format: job.as });
-  const why = () => answer.code === 1 ? module.explainStop({ ...asked, stop: answer.fault, statement: answer.statement }) : module.explainScript({ script });
-  return { answer, explain: () => explained(answer, why), hints: job.from === 'text' ? hintsOnScript(answer, bytes) : [] };
+  const asked = { ...job, script: listing.text, characters };
+  const answer = job.command === 'bus' ? module.busAsked(asked) : job.format === 'bytes' ? module.runBytes(asked) : module.pages(asked);
+  const why = () => answer.code === 1 ? module.explainStop({ ...asked, stop: answer.fault, statement: answer.statement }) : module.explainScript(asked);
+  return { answer, explain: () => explained(answer, why), hints: job.form === 'text' ? hintsOnScript(answer, bytes) : [] };
 }
 
 /** The files of a job, read and written with Node. */
@@ -221,12 +276,11 @@ function trying(call, tellOf) {
 /** Does the job that words ask for, and gives the exit status. */
 async function run(words, files) {
   const tell = text => { try { files.writeAll(2, Buffer.from(text)); } catch { /* there is nowhere to tell it */ } };
-  const job = readJob(words, process.env.PRINT1525_EXPLAIN === '1');
-  const inputFailed = error => (job.input === null ? failed('read failed') : failedFile(job.input, error));
-  const module = await openPrint1525(), characters = charactersOf(module, job, files);
+  const module = await openPrint1525(), job = readJob(module, words), characters = charactersOf(module, job, files);
+  const inputFailed = error => (job.file === null ? failed('read failed') : failedFile(job.file, error));
   const outputFailed = error => (job.output === null || STANDARD_OUTPUT.includes(job.output) ? failed('write failed') : failedFile(job.output, error));
-  if (job.input === null && process.stdin.isTTY) tell(`print1525: reading ${WAITS_FOR[job.name]} from the terminal; Ctrl-D on a new line ends it\n`);
-  const input = job.input === null ? 0 : trying(() => files.open(job.input), inputFailed);
+  if (job.file === null && process.stdin.isTTY) tell(`print1525: reading ${WAITS_FOR[job.command]} from the terminal; Ctrl-D on a new line ends it\n`);
+  const input = job.file === null ? 0 : trying(() => files.open(job.file), inputFailed);
   const standard = { write: bytes => files.writeAll(1, bytes), keep() {}, discard() {} };
   const output = job.output === null || STANDARD_OUTPUT.includes(job.output) ? standard : trying(() => files.save(job.output), outputFailed);
   try {
@@ -234,7 +288,8 @@ async function run(words, files) {
     const { answer, explain, hints } = answerOf(module, job, bytes, characters);
     trying(() => output.write(answer.text), outputFailed);
     if (answer.code > 1) tell(`print1525: ${module.words(answer)}\n`);
-    if (job.isExplained) tell((answer.code && answer.code < 3 ? explain() : '') + hints.map(hint => `  ${hint}\n`).join(''));
+    else if (answer.heard && heardTold(answer.heard)) tell(`print1525: ${heardTold(answer.heard)}\n`);
+    if (job.isExplained) tell((answer.code < 3 ? explain() : '') + hints.map(hint => `  ${hint}\n`).join(''));
     if (answer.code > 1) output.discard(); else trying(() => output.keep(), outputFailed);
     return answer.code;
   } catch (error) {

@@ -57,7 +57,7 @@ export function framesOf(readings, text) {
       byte: isWhole ? reading.byte : null, name: isHeard ? nameIn(lines, reading) : nameOfLost(reading), eoi: isHeard && reading.hasEoi,
       fault: isHeard ? '' : reading.end === 'cut' ? 'cut by the end' : reading.end, line: line + heading,
       ready: reading.readyForData, pulled: reading.hasEoi ? reading.pulled : null, released: reading.released, pull: reading.firstPull, last: reading.lastPull,
-      bits: reading.bits, halves: [reading.shortestLow, reading.longestLow, reading.shortestHigh, reading.longestHigh],
+      bits: reading.bits,
     };
     from += reading.textLength;
     line += lines.length;
@@ -73,34 +73,6 @@ export function countsOf(frames) {
     count('not acknowledged', whole.filter(frame => frame.fault === 'not acknowledged')), count('glitches', frames.filter(frame => frame.kind === 'glitch')),
     count('cut by the recording\'s end', frames.filter(frame => frame.end === Infinity)),
   ];
-}
-
-/** How long each interval of a frame is, or null where the frame has it not; of the halves of bits the shortest and the longest. */
-const LENGTHS = {
-  'ready': ({ look, ready }) => ready - look,
-  'first pull': ({ ready, pulled, pull }) => (pulled === null ? pull - ready : null),
-  'answer': ({ ready, pulled }) => (pulled === null ? null : pulled - ready),
-  'answer length': ({ pulled, released }) => (pulled === null ? null : released - pulled),
-  'pull after answer': ({ pulled, released, pull }) => (pulled === null ? null : pull - released),
-  'shortest low half': ({ bits, halves }) => (bits ? halves[0] : null),
-  'longest low half': ({ bits, halves }) => (bits ? halves[1] : null),
-  'shortest high half': ({ bits, halves }) => (bits ? halves[2] : null),
-  'longest high half': ({ bits, halves }) => (bits ? halves[3] : null),
-  'acknowledgement': ({ fault, end, last }) => (fault ? null : end - last),
-};
-
-/**
- * Each interval over all frames: `{ name, count, least, middle, greatest, from, to, outside }`. The middle is the least length
- * that at least half of them do not exceed.
- */
-export function intervalsOf(frames) {
-  return Object.entries(LENGTHS).map(([name, lengthOf]) => {
-    const lengths = Float64Array.from(frames.map(lengthOf).filter(length => length !== null)).sort(), count = lengths.length;
-    if (!count) return { name, count };
-    const [from, to] = bounds[DELAY_OF[name.replace(/^(shortest|longest) /, '')]];
-    const outside = lengths.reduce((sum, length) => sum + (length < from || length > to ? 1 : 0), 0);
-    return { name, count, least: lengths[0], middle: lengths[(count - 1) >> 1], greatest: lengths[count - 1], from, to, outside };
-  });
 }
 
 /** The index of the last edge at or before a moment, or -1. */

@@ -3,10 +3,10 @@
 
 import { loadPrint1525 } from './module.mjs';
 import { marksMore, marksOf } from './sheets.js';
-import { countsOf, delayNumbers, edgeAt, framesOf, intervalsOf, lineStarts, textOfEdges, useBounds } from './wire.js';
+import { countsOf, delayNumbers, edgeAt, framesOf, lineStarts, textOfEdges, useBounds } from './wire.js';
 
 let print1525 = null;
-const shown = { run: 0, kind: '', ask: null, svg: '', lines: null };   // what is on paper; `run` is the number of its print
+const shown = { run: 0, kind: '', ask: null, lines: null };   // what is on paper; `run` is the number of its print
 const wire = { run: 0, ask: null, bytes: null, input: 'text', starts: null, edges: null, frames: [], readings: null };
 let running = 0;                                                       // the run of the job under way
 
@@ -48,14 +48,18 @@ function endOf(lines) {
   return { statuses: Uint8Array.from(numbers('Statuses').map(status => status === '0' ? 0 : 1)), screen: Uint8Array.from(numbers('Screen').map(Number)) };
 }
 
-/** Prints on paper by one of the module's calls, as a picture, and keeps it. */
+/** Prints on paper by one of the module's calls, as a picture, and keeps by which. */
 function picture(kind, ask, answer) {
-  shown.run = running;
-  shown.kind = kind;
-  shown.ask = ask;
-  shown.svg = text(answer.text);
-  shown.lines = null;
+  Object.assign(shown, { run: running, kind, ask, lines: null });
   return answer.text;
+}
+
+/** What is on paper, in a format of pages: made again, since the picture itself is the page's by then. */
+async function madeAgain(format) {
+  const { kind, ask } = shown;
+  if (kind === 'script') return (await print1525.pages({ ...ask, format })).text;
+  if (kind === 'raw') return (await print1525.raw({ ...ask, format })).text;
+  return (await print1525.decode({ ...ask, output: format })).text;
 }
 
 /** The pages of what is on the wire before an edge, as a picture. */
@@ -82,10 +86,11 @@ async function verdictOf(ask) {
 
 /** Keeps a recording, and gives its edges and what is said of it; `ask` has its bytes and their format. */
 async function keepWire(ask, said, verdict) {
-  const { times, levels } = await print1525.edges(ask), { readings } = await print1525.readings(ask), { bytes, input = 'text' } = ask;
+  const { times, levels } = await print1525.edges(ask), { readings } = await print1525.readings(ask), { intervals } = await print1525.intervals(ask);
+  const { bytes, input = 'text' } = ask;
   const frames = said.code === 3 ? [] : framesOf(readings, latin(said.text)), edges = { times, levels };
   Object.assign(wire, { run: running, bytes, input, starts: input === 'text' ? lineStarts(bytes) : null, edges, frames, readings: said.text });
-  return { times: times.slice(), levels: levels.slice(), frames, counts: countsOf(frames), intervals: intervalsOf(frames), verdict };
+  return { times: times.slice(), levels: levels.slice(), frames, counts: countsOf(frames), intervals, verdict };
 }
 
 /** The first lines of the script that the wire shows, or how many lines it has. */
@@ -215,14 +220,10 @@ const jobs = {
 
   /** A text of what is shown: `svg`, `list`, `text`; `trace`, `vcd`, `readings`. */
   async text({ what, delays }) {
-    if (what === 'svg') return new TextEncoder().encode(shown.svg);
     if (what === 'readings') return wire.readings.slice();
     if (what === 'trace') return wire.input === 'text' ? wire.bytes.slice() : textOfEdges(wire.edges, wire.edges.times.length);
     if (what === 'vcd') return (await print1525.bus({ ...shown.ask, delays, format: 'vcd' })).text;
-    if (what === 'text' && shown.lines) return shown.lines.slice();
-    if (shown.kind === 'script') return (await print1525.pages({ ...shown.ask, format: what })).text;
-    if (shown.kind === 'raw') return (await print1525.raw({ ...shown.ask, format: what })).text;
-    return (await print1525.decode({ ...shown.ask, output: what })).text;
+    return what === 'text' && shown.lines ? shown.lines.slice() : madeAgain(what);
   },
 
   /** The marks that a frame's byte makes: those that the pages have with its last edge and not without it. */
@@ -234,7 +235,7 @@ const jobs = {
   /** The byte that made a mark: the first frame (or raw byte) with which the pages have the mark as often as they do in the end. */
   async byte({ mark }) {
     const count = svg => marksOf(svg, mark).get(mark.name) || 0;
-    const often = count(shown.svg);
+    const often = count(text(await madeAgain('svg')));
     if (shown.kind === 'raw') {
       const { bytes, set } = shown.ask;
       const raw = async end => text((await print1525.raw({ bytes: bytes.subarray(0, end), set, format: 'svg' })).text);
@@ -257,7 +258,9 @@ onmessage = async ({ data: { number, job, ask, run } }) => {
   try {
     if (isLate(job, ask, run)) { postMessage({ number, answer: null }); return; }
     running = run;
-    postMessage({ number, answer: await jobs[job](ask) });
+    const answer = await jobs[job](ask);
+    // (a picture can have millions of bytes: the page gets these themselves, not a copy)
+    postMessage({ number, answer }, { transfer: answer?.svg ? [answer.svg.buffer] : [] });
   } catch (error) {
     postMessage({ number, error: error instanceof Error ? error.message : String(error) });
   }

@@ -4,13 +4,17 @@
     import print1525
     print1525.pages('OPEN 4,4\\nPRINT#4,"HELLO"\\n', page="svg").text
 
-`pages`, `bus`, `listing`, `raw`, `print_inputs` and `check` take text or bytes, and settings by their names in print1525.h.
-Each gives a Result: the text as bytes, and the BASIC error that stopped the run, if one did. Where the call refuses, it
-raises print1525.Refused with the program's words; MemoryError where there is no memory. `decode` reads a recording.
+`pages`, `bus`, `listing`, `raw`, `print_inputs`, `check`, `readings`, `reprint` and the calls `explain_..` take text or
+bytes, and settings by their names in print1525.h. Each gives a Result: the text as bytes, and the BASIC error that stopped
+the run, if one did. Where the call refuses, it raises print1525.Refused with the program's words, and with the text of what
+a recording says before its fault; MemoryError where there is no memory. `edges` gives the edges of a recording in any
+format. `decode` reads edges one by one, and so does `receive`, which gives what comes to a device.
 
 The library is found by its name, or by PRINT1525_LIBRARY in the environment. As a program:
 
-    print1525.py pages|bus|listing|raw|check [SETTING=VALUE..] < INPUT          as print1525.py pages page=svg < SCRIPT
+    print1525.py pages|bus|listing|raw|check|readings|reprint [SETTING=VALUE..] < INPUT
+
+as print1525.py pages page=svg < SCRIPT.
 """
 
 import ctypes
@@ -20,7 +24,7 @@ from ctypes import POINTER, Structure, byref, c_char_p, c_int, c_int32, c_size_t
 from typing import NamedTuple, Optional
 
 DONE, STOPPED, REFUSED, FAILED = range(4)
-NO_MEMORY, TOO_SMALL = 90, 91
+NO_SUCH_DEVICE, NO_MEMORY, TOO_SMALL = 21, 90, 91
 SELECT_UPPER, SELECT_LOWER = 256, 257
 # The settings whose values have names, in the order of their numbers.
 NAMES = {
@@ -30,7 +34,16 @@ NAMES = {
     "page": ("list", "text", "svg", "png", "pdf"),
     "trace": ("text", "vcd"),
     "set": ("upper", "lower"),
+    "printer": ("all",),
+    "recording": ("text", "vcd", "csv", "found", "found-or-csv"),
+    "words": ("list", "story", "json"),
+    "intervals": ("no", "yes"),
+    "bounds": ("profile", "guide"),
+    "inverted": ("no", "yes"),
 }
+NUMBERS = ("sheet", "start", "rate")
+SIGNALS = ("atn", "clock", "data")
+RECEIVED = (None, "byte", "select", "listen", "unlisten")
 KINDS = (None, "acknowledged", "unacknowledged", "last", "incomplete-atn", "incomplete-silence", "incomplete-end")
 
 
@@ -42,11 +55,17 @@ class Delays(Structure):
     _fields_ = [("numbers", POINTER(c_uint16)), ("length", c_size_t)]
 
 
+class Name(Structure):
+    _fields_ = [("bytes", c_char_p), ("length", c_size_t)]
+
+
 class Settings(Structure):
     _fields_ = [("size", c_size_t)]
     _fields_ += [(name, c_uint8) for name in NAMES]
-    _fields_ += [("reserved", c_uint8 * 2)]
+    _fields_ += [("reserved", c_uint8 * 4)]
+    _fields_ += [(name, c_uint64) for name in NUMBERS]
     _fields_ += [(f"{party}_delays", Delays) for party in ("computer", "printer4", "printer5")]
+    _fields_ += [(name, Name) for name in SIGNALS]
     _fields_ += [("characters", c_char_p), ("characters_length", c_size_t)]
 
 
@@ -69,24 +88,43 @@ class Decoder(Structure):
     _fields_ += [(name, c_uint8) for name in ("begun", "called", "turns", "sent")]
 
 
+class Received(Structure):
+    _fields_ = [("kind", c_uint8), ("byte", c_uint8), ("eoi", c_uint8)]
+
+
+class Receiver(Structure):
+    _fields_ = [("decoder", Decoder)] + [(name, c_uint8) for name in ("device", "listens", "called")]
+
+
 class Result(NamedTuple):
-    """A text, and the message of the BASIC error that stopped the run."""
+    """A text; the message of the BASIC error that stopped the run, its number, and its statement, which of an explanation is
+    the place that it is about."""
 
     text: bytes
     stop: Optional[str]
+    fault: int = 0
+    place: int = 0
 
 
 class Refused(Exception):
-    """Why there is no text, in the program's words."""
+    """Why a call refuses, in the program's words, with its details, and the text of what a recording says before its fault."""
+
+    def __init__(self, details, text=b""):
+        super().__init__(_message(details))
+        self.details, self.text = details, text
 
 
 _LIBRARY = ctypes.CDLL(os.environ.get("PRINT1525_LIBRARY", "libprint1525.so.1"))
 _LIBRARY.print1525_version.restype = c_char_p
 _LIBRARY.print1525_message.restype = c_size_t
 _LIBRARY.print1525_message.argtypes = [POINTER(Details), c_char_p, c_size_t]
-for _name in ("pages", "bus", "listing", "raw", "print", "check"):
+_CALLS = ("pages", "bus", "listing", "raw", "check", "readings", "reprint", "explain_script", "explain_trace", "explain_reading")
+for _name in (*_CALLS, "print", "edges"):
     getattr(_LIBRARY, f"print1525_{_name}").argtypes = [c_void_p, c_size_t, POINTER(Settings), c_void_p, c_size_t, POINTER(Details)]
-    getattr(_LIBRARY, f"print1525_{_name}").restype = c_int
+_LIBRARY.print1525_explain_stop.argtypes = [c_void_p, c_size_t, POINTER(Settings), POINTER(Details), c_void_p, c_size_t, POINTER(Details)]
+for _name in ("decoder", "receiver"):
+    getattr(_LIBRARY, f"print1525_{_name}_edge").argtypes = [c_void_p, POINTER(Edge), c_void_p, POINTER(Details)]
+_LIBRARY.print1525_receiver_begin.argtypes = [POINTER(Receiver), c_uint8]
 
 
 def version():
@@ -106,7 +144,12 @@ def _settings(words):
     for word, value in words.items():
         name = word.rstrip("_")
         if name in NAMES:
-            setattr(made, name, NAMES[name].index(value) if isinstance(value, str) else value)
+            setattr(made, name, NAMES[name].index(value) if value in NAMES[name] else int(value))
+        elif name in NUMBERS:
+            setattr(made, name, int(value))
+        elif name in SIGNALS:
+            value = value.encode() if isinstance(value, str) else bytes(value)
+            setattr(made, name, Name(value, len(value)))
         elif name == "characters":
             made.characters, made.characters_length = value, len(value)
         elif name in ("computer_delays", "printer4_delays", "printer5_delays"):
@@ -116,35 +159,66 @@ def _settings(words):
     return made
 
 
-def _text(call, given, length, words):
+def _text(make, given, length, words):
     settings, details, text = _settings(words), Details(), ctypes.create_string_buffer(4096)
-    make = getattr(_LIBRARY, f"print1525_{call}")
     status = make(given, length, byref(settings), text, len(text), byref(details))
     while details.fault == TOO_SMALL:
         text = ctypes.create_string_buffer(details.length)
         status = make(given, length, byref(settings), text, len(text), byref(details))
     if details.fault == NO_MEMORY:
         raise MemoryError
+    made = text.raw[: details.length]
     if status > STOPPED:
-        raise Refused(_message(details))
-    return Result(text.raw[: details.length], _message(details) if status == STOPPED else None)
+        raise Refused(details, made)
+    return Result(made, _message(details) if status == STOPPED else None, details.fault, details.place)
+
+
+def _bytes(given):
+    return given.encode() if isinstance(given, str) else bytes(given)
 
 
 def _of_bytes(call):
     def made(given, **settings):
-        given = given.encode() if isinstance(given, str) else bytes(given)
-        return _text(call, given, len(given), settings)
+        given = _bytes(given)
+        return _text(getattr(_LIBRARY, f"print1525_{call}"), given, len(given), settings)
 
     made.__name__, made.__doc__ = call, f"print1525_{call} of print1525.h."
     return made
 
 
-pages, bus, listing, raw, check = (_of_bytes(it) for it in ("pages", "bus", "listing", "raw", "check"))
+pages, bus, listing, raw, check, readings, reprint, explain_script, explain_trace, explain_reading = map(_of_bytes, _CALLS)
+
+
+def explain_stop(script, stopped, **settings):
+    """print1525_explain_stop: why the run stopped that gave this Result."""
+    script, stop = _bytes(script), Details(status=STOPPED, fault=stopped.fault, place=stopped.place)
+
+    def make(given, length, chosen, *rest):
+        return _LIBRARY.print1525_explain_stop(given, length, chosen, byref(stop), *rest)
+
+    return _text(make, script, len(script), settings)
 
 
 def print_inputs(inputs, **settings):
     """print1525_print: the page of a printer's inputs, bytes and SELECT_UPPER or SELECT_LOWER."""
-    return _text("print", (c_uint16 * len(inputs))(*inputs), len(inputs), settings)
+    return _text(_LIBRARY.print1525_print, (c_uint16 * len(inputs))(*inputs), len(inputs), settings)
+
+
+def edges(recording, **settings):
+    """The edges of a recording, each its microsecond and the levels of ATN, CLOCK and DATA; Refused has those before its fault."""
+    recording, chosen, details, room = _bytes(recording), _settings(settings), Details(), 0
+    while True:
+        made = (Edge * room)()
+        status = _LIBRARY.print1525_edges(recording, len(recording), byref(chosen), made, room, byref(details))
+        if details.fault != TOO_SMALL:
+            break
+        room = details.length
+    if details.fault == NO_MEMORY:
+        raise MemoryError
+    found = [(it.time, it.atn, it.clock, it.data) for it in made[: details.length]]
+    if status > STOPPED:
+        raise Refused(details, found)
+    return found
 
 
 def decode(edges):
@@ -153,12 +227,25 @@ def decode(edges):
     _LIBRARY.print1525_decoder_begin(byref(decoder))
     for edge in edges:
         if _LIBRARY.print1525_decoder_edge(byref(decoder), byref(Edge(*edge)), byref(reading), byref(details)) != DONE:
-            raise Refused(_message(details))
+            raise Refused(details)
         if details.length:
             yield KINDS[reading.kind], Reading.from_buffer_copy(reading)
     _LIBRARY.print1525_decoder_end(byref(decoder), byref(reading), byref(details))
     if details.length:
         yield KINDS[reading.kind], reading
+
+
+def receive(edges, device=4):
+    """What comes to a device on any bus: for each thing its kind (`listen`, `select`, `byte` or `unlisten`), the number of the
+    byte or of the secondary address, and whether the byte is the last of its sender."""
+    receiver, received, details = Receiver(), Received(), Details()
+    if _LIBRARY.print1525_receiver_begin(byref(receiver), device) != DONE:
+        raise Refused(Details(status=REFUSED, fault=NO_SUCH_DEVICE))
+    for edge in edges:
+        if _LIBRARY.print1525_receiver_edge(byref(receiver), byref(Edge(*edge)), byref(received), byref(details)) != DONE:
+            raise Refused(details)
+        if details.length:
+            yield RECEIVED[received.kind], received.byte, bool(received.eoi)
 
 
 class Mark(Structure):
@@ -212,12 +299,13 @@ def pixels(marks, x, y, width, height):
 
 def main(words):
     """The calls as commands."""
-    calls = {"pages": pages, "bus": bus, "listing": listing, "raw": raw, "check": check}
+    calls = {it.__name__: it for it in (pages, bus, listing, raw, check, readings, reprint)}
     if not words or words[0] not in calls or not all("=" in word for word in words[1:]):
         sys.exit(__doc__)
     try:
         result = calls[words[0]](sys.stdin.buffer.read(), **dict(word.split("=", 1) for word in words[1:]))
     except Refused as why:
+        sys.stdout.buffer.write(why.text)
         print(why, file=sys.stderr)
         return REFUSED
     sys.stdout.buffer.write(result.text)

@@ -25,6 +25,12 @@ struct RawDelays {
 }
 
 #[repr(C)]
+struct RawName {
+    bytes: *const u8,
+    length: usize,
+}
+
+#[repr(C)]
 struct RawSettings {
     size: usize,
     present: u8,
@@ -33,8 +39,18 @@ struct RawSettings {
     page: u8,
     trace: u8,
     set: u8,
-    reserved: [u8; 2],
+    printer: u8,
+    recording: u8,
+    words: u8,
+    intervals: u8,
+    bounds: u8,
+    inverted: u8,
+    reserved: [u8; 4],
+    sheet: u64,
+    start: u64,
+    rate: u64,
     delays: [RawDelays; 3],
+    names: [RawName; 3],
     characters: *const c_void,
     characters_length: usize,
 }
@@ -90,7 +106,32 @@ pub struct Decoder {
     sent: u8,
 }
 
-const _: () = assert!(size_of::<Details>() == 32 && size_of::<RawSettings>() == 80);
+/// What comes to a device: its kind is a number of `print1525_received_kind`, as `RECEIVED_BYTE`.
+#[repr(C)]
+#[derive(Clone, Copy, Debug, Default, PartialEq, Eq)]
+pub struct Received {
+    pub kind: u8,
+    pub byte: u8,
+    pub eoi: u8,
+}
+
+pub const RECEIVED_BYTE: u8 = 1;
+pub const RECEIVED_SELECT: u8 = 2;
+pub const RECEIVED_LISTEN: u8 = 3;
+pub const RECEIVED_UNLISTEN: u8 = 4;
+
+/// A receiver of a device on any bus.
+#[repr(C)]
+#[derive(Clone, Copy, Debug, PartialEq, Eq)]
+pub struct Receiver {
+    decoder: Decoder,
+    device: u8,
+    listens: u8,
+    called: u8,
+}
+
+const _: () = assert!(size_of::<Details>() == 32 && size_of::<RawSettings>() == 160);
+const _: () = assert!(size_of::<Received>() == 3 && size_of::<Receiver>() == 200);
 const _: () = assert!(size_of::<Edge>() == 16 && size_of::<Reading>() == 104 && size_of::<Decoder>() == 192);
 
 type Call<Item> =
@@ -143,6 +184,70 @@ unsafe extern "C" {
         s: *const RawSettings,
         to: *mut c_void,
         room: usize,
+        d: *mut Details,
+    ) -> c_int;
+    fn print1525_readings(
+        bytes: *const u8,
+        length: usize,
+        s: *const RawSettings,
+        to: *mut c_void,
+        room: usize,
+        d: *mut Details,
+    ) -> c_int;
+    fn print1525_reprint(
+        bytes: *const u8,
+        length: usize,
+        s: *const RawSettings,
+        to: *mut c_void,
+        room: usize,
+        d: *mut Details,
+    ) -> c_int;
+    fn print1525_explain_script(
+        bytes: *const u8,
+        length: usize,
+        s: *const RawSettings,
+        to: *mut c_void,
+        room: usize,
+        d: *mut Details,
+    ) -> c_int;
+    fn print1525_explain_trace(
+        bytes: *const u8,
+        length: usize,
+        s: *const RawSettings,
+        to: *mut c_void,
+        room: usize,
+        d: *mut Details,
+    ) -> c_int;
+    fn print1525_explain_reading(
+        bytes: *const u8,
+        length: usize,
+        s: *const RawSettings,
+        to: *mut c_void,
+        room: usize,
+        d: *mut Details,
+    ) -> c_int;
+    fn print1525_explain_stop(
+        script: *const u8,
+        length: usize,
+        s: *const RawSettings,
+        stopped: *const Details,
+        to: *mut c_void,
+        room: usize,
+        d: *mut Details,
+    ) -> c_int;
+    fn print1525_edges(
+        recording: *const u8,
+        length: usize,
+        s: *const RawSettings,
+        to: *mut Edge,
+        room: usize,
+        d: *mut Details,
+    ) -> c_int;
+    fn print1525_receiver_begin(receiver: *mut Receiver, device: u8) -> c_int;
+    fn print1525_receiver_edge(
+        receiver: *mut Receiver,
+        edge: *const Edge,
+        received: *mut Received,
         d: *mut Details,
     ) -> c_int;
     fn print1525_decoder_edge(
@@ -204,6 +309,40 @@ pub enum Set {
     Lower = 1,
 }
 
+/// The printer whose pages are shown.
+#[derive(Clone, Copy, Debug, Default, PartialEq, Eq)]
+pub enum Device {
+    #[default]
+    All = 0,
+    Four = 4,
+    Five = 5,
+}
+
+#[derive(Clone, Copy, Debug, Default, PartialEq, Eq)]
+pub enum Recording {
+    #[default]
+    Text = 0,
+    Vcd = 1,
+    Csv = 2,
+    Found = 3,
+    FoundOrCsv = 4,
+}
+
+#[derive(Clone, Copy, Debug, Default, PartialEq, Eq)]
+pub enum Words {
+    #[default]
+    List = 0,
+    Story = 1,
+    Json = 2,
+}
+
+#[derive(Clone, Copy, Debug, Default, PartialEq, Eq)]
+pub enum Bounds {
+    #[default]
+    Profile = 0,
+    Guide = 1,
+}
+
 /// What the options of the program say; `default()` is the program's own.
 #[derive(Clone, Copy, Debug, Default)]
 pub struct Settings<'a> {
@@ -213,6 +352,20 @@ pub struct Settings<'a> {
     pub page: Page,
     pub trace: Trace,
     pub set: Set,
+    /// The part of the pages that is shown: one printer, and one sheet from 1; 0 for all.
+    pub printer: Device,
+    pub sheet: u64,
+    /// What a recording is: its format, the names of ATN, CLOCK and DATA (empty: the usual ones), whether levels are
+    /// inverted, the microsecond at which it starts, and samples in a second, or 0.
+    pub recording: Recording,
+    pub names: [&'a [u8]; 3],
+    pub inverted: bool,
+    pub start: u64,
+    pub rate: u64,
+    /// How what it says is written.
+    pub words: Words,
+    pub intervals: bool,
+    pub bounds: Bounds,
     /// The delay numbers of the computer, of printer 4 and of printer 5.
     pub delays: [&'a [u16]; 3],
     /// A file of characters; empty for this project's own.
@@ -229,8 +382,18 @@ impl Settings<'_> {
             page: self.page as u8,
             trace: self.trace as u8,
             set: self.set as u8,
-            reserved: [0; 2],
+            printer: self.printer as u8,
+            recording: self.recording as u8,
+            words: self.words as u8,
+            intervals: u8::from(self.intervals),
+            bounds: self.bounds as u8,
+            inverted: u8::from(self.inverted),
+            reserved: [0; 4],
+            sheet: self.sheet,
+            start: self.start,
+            rate: self.rate,
             delays: self.delays.map(|it| RawDelays { numbers: it.as_ptr(), length: it.len() }),
+            names: self.names.map(|it| RawName { bytes: it.as_ptr(), length: it.len() }),
             characters: self.characters.as_ptr().cast(),
             characters_length: self.characters.len(),
         }
@@ -265,23 +428,62 @@ pub fn version() -> &'static str {
     unsafe { CStr::from_ptr(print1525_version()) }.to_str().unwrap_or("")
 }
 
-fn text_of<Item>(call: Call<Item>, given: &[Item], settings: &Settings) -> Result<Printed, Error> {
-    const TOO_SMALL: i32 = 91;
-    let raw = settings.raw();
-    let make = |to: *mut c_void, room: usize| {
-        let mut details = Details::default();
-        // SAFETY: slices and settings live as long as the call, which keeps no pointer and writes no more than there is room for.
-        unsafe { call(given.as_ptr(), given.len(), &raw, to, room, &mut details) };
-        details
-    };
-    let mut details = make(null_mut(), 0);
-    let mut text = vec![0; details.length];
+const NO_SUCH_DEVICE: i32 = 21;
+const TOO_SMALL: i32 = 91;
+
+/// Makes a call without a buffer, and with one of the size that it needs.
+fn filled<Item: Clone + Default>(mut make: impl FnMut(*mut Item, usize, &mut Details)) -> (Vec<Item>, Details) {
+    let mut details = Details::default();
+    make(null_mut(), 0, &mut details);
+    let mut items = vec![Item::default(); details.length];
     if details.fault == TOO_SMALL {
-        details = make(text.as_mut_ptr().cast(), text.len());
+        make(items.as_mut_ptr(), items.len(), &mut details);
     }
+    items.truncate(details.length);
+    (items, details)
+}
+
+fn made_by<Item>(call: Call<Item>, given: &[Item], settings: &Settings) -> (Vec<u8>, Details) {
+    let raw = settings.raw();
+    filled(|to: *mut u8, room, details| {
+        // SAFETY: slices and settings live as long as the call, which keeps no pointer and writes no more than there is room for.
+        unsafe { call(given.as_ptr(), given.len(), &raw, to.cast(), room, details) };
+    })
+}
+
+fn text_of<Item>(call: Call<Item>, given: &[Item], settings: &Settings) -> Result<Printed, Error> {
+    match made_by(call, given, settings) {
+        (text, Details { status: 0, .. }) => Ok(Printed { text, stop: None }),
+        (text, details @ Details { status: 1, .. }) => Ok(Printed { text, stop: Some(Error(details)) }),
+        (_, details) => Err(Error(details)),
+    }
+}
+
+/// What a call says of a recording, and its fault, before which that is.
+#[derive(Clone, Debug, PartialEq, Eq)]
+pub struct Said<Item> {
+    pub items: Vec<Item>,
+    pub fault: Option<Error>,
+}
+
+fn said<Item>((items, details): (Vec<Item>, Details)) -> Result<Said<Item>, Error> {
     match details.status {
-        0 => Ok(Printed { text, stop: None }),
-        1 => Ok(Printed { text, stop: Some(Error(details)) }),
+        0 => Ok(Said { items, fault: None }),
+        2 if !items.is_empty() => Ok(Said { items, fault: Some(Error(details)) }),
+        _ => Err(Error(details)),
+    }
+}
+
+/// An explanation, and the line or the edge that it is about. There is no text where there is nothing to explain.
+#[derive(Clone, Debug, PartialEq, Eq)]
+pub struct Explained {
+    pub text: Vec<u8>,
+    pub place: usize,
+}
+
+fn explained((text, details): (Vec<u8>, Details)) -> Result<Explained, Error> {
+    match details.status {
+        0 => Ok(Explained { text, place: details.place }),
         _ => Err(Error(details)),
     }
 }
@@ -306,9 +508,52 @@ pub fn raw(bytes: &[u8], settings: &Settings) -> Result<Printed, Error> {
     text_of(print1525_raw, bytes, settings)
 }
 
-/// The frames that a trace text spells.
-pub fn check(trace: &[u8], settings: &Settings) -> Result<Printed, Error> {
-    text_of(print1525_check, trace, settings)
+/// The frames that a trace spells, or its story.
+pub fn check(trace: &[u8], settings: &Settings) -> Result<Said<u8>, Error> {
+    said(made_by(print1525_check, trace, settings))
+}
+
+/// What a recording says.
+pub fn readings(recording: &[u8], settings: &Settings) -> Result<Said<u8>, Error> {
+    said(made_by(print1525_readings, recording, settings))
+}
+
+/// The pages that the printers of a recording print.
+pub fn reprint(recording: &[u8], settings: &Settings) -> Result<Said<u8>, Error> {
+    said(made_by(print1525_reprint, recording, settings))
+}
+
+/// The edges of a recording in any format.
+pub fn edges(recording: &[u8], settings: &Settings) -> Result<Said<Edge>, Error> {
+    let raw = settings.raw();
+    said(filled(|to, room, details| {
+        // SAFETY: as in `made_by`.
+        unsafe { print1525_edges(recording.as_ptr(), recording.len(), &raw, to, room, details) };
+    }))
+}
+
+/// Why a script is refused.
+pub fn explain_script(script: &[u8], settings: &Settings) -> Result<Explained, Error> {
+    explained(made_by(print1525_explain_script, script, settings))
+}
+
+/// Why the run of a script stopped.
+pub fn explain_stop(script: &[u8], settings: &Settings, stop: &Error) -> Result<Explained, Error> {
+    let raw = settings.raw();
+    explained(filled(|to: *mut u8, room, details| {
+        // SAFETY: as in `made_by`.
+        unsafe { print1525_explain_stop(script.as_ptr(), script.len(), &raw, &stop.0, to.cast(), room, details) };
+    }))
+}
+
+/// Why `check` refuses a trace.
+pub fn explain_trace(trace: &[u8], settings: &Settings) -> Result<Explained, Error> {
+    explained(made_by(print1525_explain_trace, trace, settings))
+}
+
+/// Why a recording cannot be read to its end.
+pub fn explain_reading(recording: &[u8], settings: &Settings) -> Result<Explained, Error> {
+    explained(made_by(print1525_explain_reading, recording, settings))
 }
 
 impl Decoder {
@@ -328,6 +573,28 @@ impl Decoder {
         // SAFETY: as above.
         unsafe { print1525_decoder_end(self, &mut reading, &mut details) };
         (details.length > 0).then_some(reading)
+    }
+}
+
+impl Receiver {
+    /// A receiver of a device of 4 to 30, before its first edge.
+    pub fn new(device: u8) -> Result<Receiver, Error> {
+        let mut receiver = Receiver { decoder: Decoder::default(), device: 0, listens: 0, called: 0 };
+        // SAFETY: the structure lives as long as the call.
+        match unsafe { print1525_receiver_begin(&mut receiver, device) } {
+            0 => Ok(receiver),
+            status => Err(Error(Details { status, fault: NO_SUCH_DEVICE, ..Details::default() })),
+        }
+    }
+
+    /// Takes the next edge, and gives what comes to the device with it; refuses an edge that goes back.
+    pub fn edge(&mut self, edge: Edge) -> Result<Option<Received>, Error> {
+        let (mut received, mut details) = (Received::default(), Details::default());
+        // SAFETY: the structures live as long as the call.
+        match unsafe { print1525_receiver_edge(self, &edge, &mut received, &mut details) } {
+            0 => Ok((details.length > 0).then_some(received)),
+            _ => Err(Error(details)),
+        }
     }
 }
 

@@ -3,19 +3,22 @@
 ghost use Rattle.std.specs.Prelude.{◌≡◌, length, IfOk, Ok};
 ghost use Rattle.pr_bus.specs.DelaysLeft.{numbers_left};
 ghost use Rattle.pr_c.specs.Asked.{AsksShapes, TellsBus, TellsCheck, TellsListing, TellsPages, TellsPrint, TellsRaw, WithShapes, delays_of};
-ghost use Rattle.pr_c.specs.Settings.{form_of, format_of, lower_of, mode_of, present_of, trace_format_of};
+ghost use Rattle.pr_c.specs.Settings.{form_of, format_of, lower_of, mode_of, present_of, shown_of, trace_format_of};
 ghost use Rattle.pr_dots.specs.Shapes.{own_shapes};
 ghost use Rattle.pr_wire.specs.Choices.{left};
 
 use crate::calls::{bus, check, pages, raw};
 use crate::listings::{answer_for, listing};
 use crate::printing::print;
-use crate::settings::{form_for, format_for, lower_for, mode_for, present_for, trace_format_for};
+use crate::settings::{
+    form_for, format_for, lower_for, mode_for, present_for, shown_for, trace_format_for,
+};
 use crate::told::{Answer, Told, numbered, refused};
 use pr_bus::Delays;
 use pr_characters::{CharactersFault, read_shapes};
 use pr_cli::CliFault;
 use pr_dots::Shapes;
+use pr_render::Format;
 use pr_wire::Choices;
 use std::alloc::{AllocError, Global};
 
@@ -64,12 +67,12 @@ fn tell_pages(
     computer: &[u16],
     four: &[u16],
     five: &[u16],
-    format: u8,
+    shown: Option<Format>,
     shapes: Result<Shapes, CharactersFault>,
     out: &mut [u8],
     answer: &mut Answer,
 )
-    ensures tells { TellsPages (present_of printers) (mode_of status) (format_of format) shapes
+    ensures tells { TellsPages (present_of printers) (mode_of status) shown shapes
         (delays_of computer.now four.now five.now) script.now out.old out.new answer.new }
     ensures length { length out.new ≡ length out.old }
 {
@@ -81,7 +84,7 @@ fn tell_pages(
         *answer = refused(23, 0);
         return;
     };
-    let Some(format) = format_for(format) else {
+    let Some(format) = shown else {
         *answer = refused(24, 0);
         return;
     };
@@ -120,9 +123,10 @@ pub extern "C" fn print1525_pages(
         (delays_of computer.now four.now five.now) script.now out.old out.new answer.new }
     ensures length { length out.new ≡ length out.old }
 {
+    let shown = format_for(format);
     let shapes = Ok(Shapes::own());
     tell_pages(
-        alloc, script, printers, status, computer, four, five, format, shapes, out, answer,
+        alloc, script, printers, status, computer, four, five, shown, shapes, out, answer,
     );
 }
 
@@ -149,9 +153,43 @@ pub extern "C" fn print1525_pages_with(
         (delays_of computer.now four.now five.now) script.now out.old out.new answer.new) }
     ensures length { length out.new ≡ length out.old }
 {
+    let shown = format_for(format);
     let shapes = shapes_for(characters);
     tell_pages(
-        alloc, script, printers, status, computer, four, five, format, shapes, out, answer,
+        alloc, script, printers, status, computer, four, five, shown, shapes, out, answer,
+    );
+}
+
+/// Runs a script, and puts the text of its pages, or of a part of them, at the front of the caller's buffer, with the
+/// characters of a file.
+///
+/// It does what [`print1525_pages_with`] does. `device` is 4 or 5 for the pages of one printer, `sheet` is the number
+/// of one sheet from 1; 0 means all of them. A format that cannot show this part is refused as one that there is not,
+/// and a sheet that the pages do not have is refused with how many they have.
+#[unsafe(no_mangle)]
+pub extern "C" fn print1525_pages_part(
+    alloc: Global,
+    script: &[u8],
+    printers: u8,
+    status: u8,
+    computer: &[u16],
+    four: &[u16],
+    five: &[u16],
+    format: u8,
+    device: u8,
+    sheet: u64,
+    characters: &[u8],
+    out: &mut [u8],
+    answer: &mut Answer,
+)
+    ensures tells { WithShapes characters.now (λ shapes. TellsPages (present_of printers) (mode_of status) (shown_of format device sheet)
+        shapes (delays_of computer.now four.now five.now) script.now out.old out.new answer.new) }
+    ensures length { length out.new ≡ length out.old }
+{
+    let shown = shown_for(format, device, sheet);
+    let shapes = shapes_for(characters);
+    tell_pages(
+        alloc, script, printers, status, computer, four, five, shown, shapes, out, answer,
     );
 }
 
@@ -222,19 +260,19 @@ fn tell_raw(
     alloc: Global,
     bytes: &[u8],
     set: u8,
-    format: u8,
+    shown: Option<Format>,
     shapes: Result<Shapes, CharactersFault>,
     out: &mut [u8],
     answer: &mut Answer,
 )
-    ensures tells { TellsRaw (lower_of set) (format_of format) shapes bytes.now out.old out.new answer.new }
+    ensures tells { TellsRaw (lower_of set) shown shapes bytes.now out.old out.new answer.new }
     ensures length { length out.new ≡ length out.old }
 {
     let Some(lower) = lower_for(set) else {
         *answer = refused(25, 0);
         return;
     };
-    let Some(format) = format_for(format) else {
+    let Some(format) = shown else {
         *answer = refused(24, 0);
         return;
     };
@@ -260,7 +298,8 @@ pub extern "C" fn print1525_raw(
     ensures tells { TellsRaw (lower_of set) (format_of format) (Ok own_shapes) bytes.now out.old out.new answer.new }
     ensures length { length out.new ≡ length out.old }
 {
-    tell_raw(alloc, bytes, set, format, Ok(Shapes::own()), out, answer);
+    let shown = format_for(format);
+    tell_raw(alloc, bytes, set, shown, Ok(Shapes::own()), out, answer);
 }
 
 /// Puts the page that a printer prints of some bytes at the front of the caller's buffer, with the
@@ -282,23 +321,49 @@ pub extern "C" fn print1525_raw_with(
         TellsRaw (lower_of set) (format_of format) shapes bytes.now out.old out.new answer.new) }
     ensures length { length out.new ≡ length out.old }
 {
+    let shown = format_for(format);
     let shapes = shapes_for(characters);
-    tell_raw(alloc, bytes, set, format, shapes, out, answer);
+    tell_raw(alloc, bytes, set, shown, shapes, out, answer);
+}
+
+/// Puts the page that a printer prints of some bytes, or a part of it, at the front of the caller's buffer, with the
+/// characters of a file.
+///
+/// It does what [`print1525_raw_with`] does, and shows the part of [`print1525_pages_part`], with its refusals.
+#[unsafe(no_mangle)]
+pub extern "C" fn print1525_raw_part(
+    alloc: Global,
+    bytes: &[u8],
+    set: u8,
+    format: u8,
+    device: u8,
+    sheet: u64,
+    characters: &[u8],
+    out: &mut [u8],
+    answer: &mut Answer,
+)
+    ensures tells { WithShapes characters.now (λ shapes.
+        TellsRaw (lower_of set) (shown_of format device sheet) shapes bytes.now out.old out.new answer.new) }
+    ensures length { length out.new ≡ length out.old }
+{
+    let part = shown_for(format, device, sheet);
+    let shapes = shapes_for(characters);
+    tell_raw(alloc, bytes, set, part, shapes, out, answer);
 }
 
 /// Puts the page of a printer's inputs at the front of the caller's buffer, in plain numbers.
 fn tell_print(
     alloc: Global,
     inputs: &[u16],
-    format: u8,
+    shown: Option<Format>,
     shapes: Result<Shapes, CharactersFault>,
     out: &mut [u8],
     answer: &mut Answer,
 )
-    ensures tells { TellsPrint (format_of format) shapes inputs.now out.old out.new answer.new }
+    ensures tells { TellsPrint shown shapes inputs.now out.old out.new answer.new }
     ensures length { length out.new ≡ length out.old }
 {
-    let Some(format) = format_for(format) else {
+    let Some(format) = shown else {
         *answer = refused(24, 0);
         return;
     };
@@ -323,7 +388,8 @@ pub extern "C" fn print1525_print(
     ensures tells { TellsPrint (format_of format) (Ok own_shapes) inputs.now out.old out.new answer.new }
     ensures length { length out.new ≡ length out.old }
 {
-    tell_print(alloc, inputs, format, Ok(Shapes::own()), out, answer);
+    let shown = format_for(format);
+    tell_print(alloc, inputs, shown, Ok(Shapes::own()), out, answer);
 }
 
 /// Puts the page that a printer prints of its inputs at the front of the caller's buffer, with the
@@ -344,8 +410,33 @@ pub extern "C" fn print1525_print_with(
         TellsPrint (format_of format) shapes inputs.now out.old out.new answer.new) }
     ensures length { length out.new ≡ length out.old }
 {
+    let shown = format_for(format);
     let shapes = shapes_for(characters);
-    tell_print(alloc, inputs, format, shapes, out, answer);
+    tell_print(alloc, inputs, shown, shapes, out, answer);
+}
+
+/// Puts the page that a printer prints of its inputs, or a part of it, at the front of the caller's buffer, with the
+/// characters of a file.
+///
+/// It does what [`print1525_print_with`] does, and shows the part of [`print1525_pages_part`], with its refusals.
+#[unsafe(no_mangle)]
+pub extern "C" fn print1525_print_part(
+    alloc: Global,
+    inputs: &[u16],
+    format: u8,
+    device: u8,
+    sheet: u64,
+    characters: &[u8],
+    out: &mut [u8],
+    answer: &mut Answer,
+)
+    ensures tells { WithShapes characters.now (λ shapes.
+        TellsPrint (shown_of format device sheet) shapes inputs.now out.old out.new answer.new) }
+    ensures length { length out.new ≡ length out.old }
+{
+    let part = shown_for(format, device, sheet);
+    let shapes = shapes_for(characters);
+    tell_print(alloc, inputs, part, shapes, out, answer);
 }
 
 /// Puts the frames that a trace text spells at the front of the caller's buffer.

@@ -23,8 +23,9 @@ mod told;
 
 pub use calls::{bus, check, pages, raw};
 pub use exports::{
-    print1525_bus, print1525_check, print1525_listing, print1525_pages, print1525_pages_with,
-    print1525_print, print1525_print_with, print1525_raw, print1525_raw_with,
+    print1525_bus, print1525_check, print1525_listing, print1525_pages, print1525_pages_part,
+    print1525_pages_with, print1525_print, print1525_print_part, print1525_print_with,
+    print1525_raw, print1525_raw_part, print1525_raw_with,
 };
 pub use listings::{Listed, listing};
 pub use printing::{bytes_are_inputs, print};

@@ -1,12 +1,12 @@
 //! What the numbers that a caller passes mean.
 
 ghost use Rattle.std.specs.Prelude.{◌≡◌};
-ghost use Rattle.pr_c.specs.Settings.{form_of, format_of, lower_of, mode_of, present_of, trace_format_of};
+ghost use Rattle.pr_c.specs.Settings.{device_of, form_of, format_of, lower_of, mode_of, present_of, sheet_of, shown_of, trace_format_of};
 
 use pr_basic::StatusMode;
 use pr_capture::TraceFormat;
 use pr_listing::ListingForm;
-use pr_render::{Format, Part};
+use pr_render::{Device, Format, Part};
 use pr_serial::Present;
 
 /// The printers present: 0 none, 1 printer 4, 2 printer 5, 3 both.
@@ -34,7 +34,7 @@ pub fn mode_for(status: u8) -> Option<StatusMode>
     }
 }
 
-/// The format: 0 the page text, 1 lines of 80 columns, 2 an SVG document, 3 the first sheet as a PNG file, 4 a PDF document.
+/// The format: 0 the page text, 1 lines of 80 columns, 2 an SVG document, 3 a sheet as a PNG file, 4 a PDF document.
 pub fn format_for(format: u8) -> Option<Format>
     ensures { result ≡ format_of format }
 {
@@ -46,6 +46,45 @@ pub fn format_for(format: u8) -> Option<Format>
         4 => Some(Format::Pdf(None)),
         _ => None,
     }
+}
+
+/// The printer whose pages are shown: 0 all printers, or 4 or 5; `None` for another number.
+fn device_for(number: u8) -> Option<Option<Device>>
+    ensures { result ≡ device_of number }
+{
+    match number {
+        0 => Some(None),
+        4 => Some(Some(Device::Four)),
+        5 => Some(Some(Device::Five)),
+        _ => None,
+    }
+}
+
+/// The sheet that is shown, from 1; 0 for all of them, in a PNG file the first.
+fn sheet_for(number: u64) -> Option<u64>
+    ensures { result ≡ sheet_of number }
+{
+    match number {
+        0 => None,
+        sheet => Some(sheet),
+    }
+}
+
+/// The format and what of the pages it shows: one printer or all (0), one sheet or all (0). `None` where a number
+/// means no such setting, or the format cannot show this part.
+pub fn shown_for(format: u8, device: u8, sheet: u64) -> Option<Format>
+    ensures { result ≡ shown_of format device sheet }
+{
+    let Some(format) = format_for(format) else {
+        return None;
+    };
+    let Some(device) = device_for(device) else {
+        return None;
+    };
+    format.showing(Part {
+        device,
+        sheet: sheet_for(sheet),
+    })
 }
 
 /// The format of a trace: 0 the trace text, 1 a Value Change Dump.

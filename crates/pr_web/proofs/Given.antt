@@ -15,16 +15,27 @@ use Rattle.pr_cli.specs.declared.pages.Ending.{Ending}
 use Rattle.pr_cli.specs.Check.{trace_limit}
 use Rattle.pr_render.specs.declared.format.Format.{Format}
 use Rattle.pr_capture.specs.declared.format.TraceInput.{TraceInput}
+use Rattle.pr_recording.specs.Bytes.{AnswersBytes}
 use Rattle.pr_recording.specs.Decoded.{AnswersDecode}
-use Rattle.pr_dots.specs.Shapes.{own_shapes}
+use Rattle.pr_recording.specs.RunBytes.{AnswersRunBytes}
+use Rattle.pr_recording.specs.declared.byte_log.Heard.{Heard}
+use Rattle.pr_capture.specs.declared.format.TraceFormat.{TraceFormat}
+use Rattle.pr_cli.specs.Bus.{AnswersBus}
+use Rattle.pr_decode.specs.declared.reading.Reading.{Reading}
+use Rattle.pr_render.specs.declared.format.Device.{Device}
+use Rattle.pr_report.specs.Intervals.{intervals}
+use Rattle.pr_web.specs.Answers.{answer_of}
+use Rattle.pr_web.specs.declared.answer.Answer.{Answer}
+use Rattle.pr_dots.specs.declared.character_sets.Shapes.{Shapes}
 use Rattle.pr_recording.specs.Pages.{AnswersPages, readings_up_to}
 use Rattle.pr_report.specs.declared.report.Report.{Report}
 use Rattle.pr_recording.specs.declared.wording.Wording.{Wording}
 use Rattle.pr_report.specs.declared.detail.Detail.{Detail}
 use Rattle.pr_report.specs.Contexts.{at_start}
-use Rattle.pr_web.specs.Giving.{Gives, GivesEdges, GivesFault, GivesLines, GivesPages, GivesRaw, GivesReadings, GivesReport, GivesRows, GivesRun, Made, made_of, without_ending}
+use Rattle.pr_web.specs.Giving.{Gives, GivesBus, GivesEdges, GivesFault, GivesIntervals, GivesLines, GivesPages, GivesRaw, GivesReadings, GivesReport, GivesRows, GivesRun, HandsBytes, HandsRunBytes, Made, beside, heard_in_run, made_of, without_value}
+use Rattle.pr_web.specs.Lengths.{interval_numbers}
 use Rattle.pr_web.specs.Numbers.{AreLineNumbers, IsFaultRow, edge_numbers, reading_rows}
-use Rattle.pr_web.specs.Rows.{EndsRows}
+use Rattle.pr_web.specs.Rows.{EndsReadings}
 use Rattle.pr_web.specs.declared.answer.Told.{Told}
 use Rattle.pr_web.specs.declared.answer.Told.TheVariants.{Refused}
 use Rattle.pr_web.specs.declared.rows.Ended.{Ended}
@@ -35,9 +46,9 @@ pub gives-readings : (input : TraceInput) (wording : Wording) (bytes text old ne
 gives-readings input wording bytes text old new made told a g = (made, text, a, g)
 
 -- so are its pages
-pub gives-pages : (input : TraceInput) (format : Format) (bytes text old new : List ℕ) (made : Made) (told : Told)
-    → AnswersPages own_shapes input format bytes (Some []) (Some text) made → Gives made text old new told → GivesPages input format bytes old new told
-gives-pages input format bytes text old new made told a g = (made, text, a, g)
+pub gives-pages : (shapes : Shapes) (input : TraceInput) (format : Format) (bytes text old new : List ℕ) (made : Made) (told : Told)
+    → AnswersPages shapes input format bytes (Some []) (Some text) made → Gives made text old new told → GivesPages shapes input format bytes old new told
+gives-pages shapes input format bytes text old new made told a g = (made, text, a, g)
 
 -- so is a report on a trace
 pub gives-report : (input : TraceInput) (report : Report) (bytes text old new : List ℕ) (made : Made) (told : Told)
@@ -45,14 +56,14 @@ pub gives-report : (input : TraceInput) (report : Report) (bytes text old new : 
 gives-report input report bytes text old new made told a g = (made, text, a, g)
 
 -- so are the pages of a run
-pub gives-run : (start : Start) (format : Format) (script text old new : List ℕ) (made : Result Ending CliFault) (told : Told)
-    → AnswersRun own_shapes start format script (Some []) (Some text) made → Gives (without_ending made) text old new told → GivesRun start format script old new told
-gives-run start format script text old new made told a g = (made, text, a, g)
+pub gives-run : (shapes : Shapes) (start : Start) (format : Format) (script text old new : List ℕ) (made : Result Ending CliFault) (told : Told)
+    → AnswersRun shapes start format script (Some []) (Some text) made → Gives (without_value made) text old new told → GivesRun shapes start format script old new told
+gives-run shapes start format script text old new made told a g = (made, text, a, g)
 
 -- and the page of a printer's bytes
-pub gives-raw : (is_lower : Bool) (format : Format) (bytes text old new : List ℕ) (made : Made) (told : Told)
-    → AnswersRaw own_shapes is_lower format bytes (Some []) (Some text) made → Gives made text old new told → GivesRaw is_lower format bytes old new told
-gives-raw is_lower format bytes text old new made told a g = (made, text, a, g)
+pub gives-raw : (shapes : Shapes) (is_lower : Bool) (format : Format) (bytes text old new : List ℕ) (made : Made) (told : Told)
+    → AnswersRaw shapes is_lower format bytes (Some []) (Some text) made → Gives made text old new told → GivesRaw shapes is_lower format bytes old new told
+gives-raw shapes is_lower format bytes text old new made told a g = (made, text, a, g)
 
 -- so are edges
 pub gives-edges : (input : TraceInput) (bytes : List ℕ) (edges : List Edge) (own : Option CliFault) (numbers old new : List ℕ) (told : Told)
@@ -62,12 +73,40 @@ gives-edges input bytes edges own numbers old new told says are g =
     inl (edges, own, says, subst Q are g)
 
 -- so are the rows of readings
-pub gives-rows : (input : TraceInput) (detail : Detail) (bytes : List ℕ) (edges : List Edge) (own : Option CliFault) (ended : Ended) (old new : List ℕ) (told : Told)
-    → Says input bytes edges own → EndsRows detail edges own ended → Gives (made_of ended.stop) ended.rows.items old new told → GivesRows input detail bytes old new told
-gives-rows input detail bytes edges own ended old new told says ends g =
+pub gives-rows : (input : TraceInput) (detail : Detail) (bytes : List ℕ) (edges : List Edge) (own : Option CliFault) (ended : Ended) (rows old new : List ℕ) (told : Told)
+    → Says input bytes edges own → EndsReadings edges own ended → rows ≡ reading_rows detail at_start ended.readings.items → Gives (made_of ended.stop) rows old new told
+    → GivesRows input detail bytes old new told
+gives-rows input detail bytes edges own ended rows old new told says ends are g =
     let P : Option CliFault → Type 0 = λ s. Gives (made_of s) (reading_rows detail at_start (readings_up_to s edges)) old new told in
     let Q : List ℕ → Type 0 = λ l. Gives (made_of ended.stop) l old new told in
-    inl (edges, own, says, subst P ends.stop (subst Q ends.rows g))
+    let R : List Reading → Type 0 = λ l. Gives (made_of ended.stop) (reading_rows detail at_start l) old new told in
+    inl (edges, own, says, subst P ends.stop (subst R ends.readings (subst Q are g)))
+
+-- so is what the lengths of intervals come to
+pub gives-intervals : (input : TraceInput) (bytes : List ℕ) (edges : List Edge) (own : Option CliFault) (ended : Ended) (numbers old new : List ℕ) (told : Told)
+    → Says input bytes edges own → EndsReadings edges own ended → numbers ≡ interval_numbers intervals ended.readings.items → Gives (made_of ended.stop) numbers old new told
+    → GivesIntervals input bytes old new told
+gives-intervals input bytes edges own ended numbers old new told says ends are g =
+    let P : Option CliFault → Type 0 = λ s. Gives (made_of s) (interval_numbers intervals (readings_up_to s edges)) old new told in
+    let Q : List ℕ → Type 0 = λ l. Gives (made_of ended.stop) l old new told in
+    let R : List Reading → Type 0 = λ l. Gives (made_of ended.stop) (interval_numbers intervals l) old new told in
+    inl (edges, own, says, subst P ends.stop (subst R ends.readings (subst Q are g)))
+
+-- so are the bytes that a printer hears of a recording, or in a run
+pub hands-bytes : (input : TraceInput) (device : Device) (bytes text old new : List ℕ) (made : Result Heard CliFault) (told : Told) (answer : Answer)
+    → AnswersBytes input device bytes (Some []) (Some text) made → Gives (without_value made) text old new told → answer ≡ beside made (answer_of told)
+    → HandsBytes input device bytes old new answer
+hands-bytes input device bytes text old new made told answer a g is = (made, text, a, told, g, is)
+
+pub hands-run-bytes : (start : Start) (device : Device) (script text old new : List ℕ) (made : Result (Ending × Heard) CliFault) (told : Told) (answer : Answer)
+    → AnswersRunBytes start device script (Some []) (Some text) made → Gives (without_value made) text old new told → answer ≡ beside (heard_in_run made) (answer_of told)
+    → HandsRunBytes start device script old new answer
+hands-run-bytes start device script text old new made told answer a g is = (made, text, a, told, g, is)
+
+-- and the trace of a run
+pub gives-bus : (start : Start) (format : TraceFormat) (script text old new : List ℕ) (made : Result Ending CliFault) (told : Told)
+    → AnswersBus start format script (Some []) (Some text) made → Gives (without_value made) text old new told → GivesBus start format script old new told
+gives-bus start format script text old new made told a g = (made, text, a, g)
 
 -- so are the lines of statements, or a script's fault
 pub gives-lines : (script : List ℕ) (statements : List Statement) (numbers old new : List ℕ) (told : Told)

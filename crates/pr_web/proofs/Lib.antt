@@ -1,5 +1,7 @@
 pub mod Given
 pub mod Inputs
 pub mod Backs
-pub mod Logging
+pub mod Kept
 pub mod Lines
+pub mod Middles
+pub mod CutWords

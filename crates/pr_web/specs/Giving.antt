@@ -1,11 +1,13 @@
 -- Trusted: what the page's buffer holds after a call, for the text that was made.
-use Rattle.std.specs.Prelude.{◌≡◌, ◌⊎◌, ℕ, ◌<◌, ◌≤◌, Bool, true, false, List, [], ◌++◌, length, drop, Option, Some, None, Result, Ok, Err}
+use Rattle.std.specs.Prelude.{◌≡◌, ◌⊎◌, ℕ, ◌+◌, ◌*◌, ◌<◌, ◌≤◌, Bool, true, false, List, [], ◌++◌, length, drop, Option, Some, None, Result, Ok, Err}
 use Rattle.pr_wire.specs.declared.Edge.{Edge}
 use Rattle.pr_base.specs.Lines.{lines_of}
 use Rattle.pr_basic.specs.Faults.{IsFirstFault}
 use Rattle.pr_basic.specs.Grammar.{IsScript}
 use Rattle.pr_basic.specs.declared.fault.ScriptFault.{ScriptFault}
 use Rattle.pr_basic.specs.declared.statement.Statement.{Statement}
+use Rattle.pr_capture.specs.declared.format.TraceFormat.{TraceFormat}
+use Rattle.pr_cli.specs.Bus.{AnswersBus}
 use Rattle.pr_cli.specs.Check.{trace_limit}
 use Rattle.pr_cli.specs.Pages.{AnswersPages as AnswersRun, Start}
 use Rattle.pr_cli.specs.Raw.{AnswersRaw}
@@ -13,17 +15,24 @@ use Rattle.pr_cli.specs.Report.{AnswersReport, Says}
 use Rattle.pr_cli.specs.declared.pages.Ending.{Ending}
 use Rattle.pr_cli.specs.declared.fault.CliFault.{CliFault}
 use Rattle.pr_cli.specs.declared.fault.CliFault.TheVariants.{Script, Trace, Wave, Capture, NoMemory}
+use Rattle.pr_render.specs.declared.format.Device.{Device}
 use Rattle.pr_render.specs.declared.format.Format.{Format}
 use Rattle.pr_capture.specs.declared.format.TraceInput.{TraceInput}
-use Rattle.pr_dots.specs.Shapes.{own_shapes}
+use Rattle.pr_dots.specs.declared.character_sets.Shapes.{Shapes}
+use Rattle.pr_recording.specs.Bytes.{AnswersBytes}
+use Rattle.pr_recording.specs.Checked.{AnswersJson}
 use Rattle.pr_recording.specs.Decoded.{AnswersDecode, back_in, stop_at}
+use Rattle.pr_recording.specs.RunBytes.{AnswersRunBytes}
+use Rattle.pr_recording.specs.declared.byte_log.Heard.{Heard}
 use Rattle.pr_recording.specs.Pages.{AnswersPages, readings_up_to}
 use Rattle.pr_recording.specs.declared.wording.Wording.{Wording}
 use Rattle.pr_report.specs.declared.detail.Detail.{Detail}
 use Rattle.pr_report.specs.Contexts.{at_start}
 use Rattle.pr_report.specs.declared.report.Report.{Report}
 use Rattle.pr_web.specs.Answers.{answer_of}
-use Rattle.pr_web.specs.Numbers.{AreLineNumbers, IsFaultRow, edge_numbers, reading_rows}
+use Rattle.pr_report.specs.Intervals.{intervals}
+use Rattle.pr_web.specs.Lengths.{interval_numbers}
+use Rattle.pr_web.specs.Numbers.{AreLineNumbers, IsFaultRow, edge_numbers, flag, reading_rows}
 use Rattle.pr_web.specs.declared.answer.Answer.{Answer}
 use Rattle.pr_web.specs.declared.answer.Told.{Told}
 use Rattle.pr_web.specs.declared.answer.Told.TheVariants.{Written, TooSmall, Refused}
@@ -69,9 +78,9 @@ GivesReadings input wording bytes old new told =
     × Gives made text old new told
 
 -- the buffer gets the pages that printers print of a recording
-abbrev pub GivesPages : TraceInput → Format → List ℕ → (old new : List ℕ) → Told → Type 0
-GivesPages input format bytes old new told =
-    (made : Made) × (text : List ℕ) × AnswersPages own_shapes input format bytes (Some []) (Some text) made
+abbrev pub GivesPages : Shapes → TraceInput → Format → List ℕ → (old new : List ℕ) → Told → Type 0
+GivesPages shapes input format bytes old new told =
+    (made : Made) × (text : List ℕ) × AnswersPages shapes input format bytes (Some []) (Some text) made
     × Gives made text old new told
 
 -- the buffer gets a report on a trace
@@ -80,21 +89,33 @@ GivesReport input report bytes old new told =
     (made : Made) × (text : List ℕ) × AnswersReport input report bytes (Some []) (Some text) made
     × Gives made text old new told
 
--- what was made, however the run ended
-abbrev pub without_ending : Result Ending CliFault → Made
-without_ending (Ok ending) = Ok tt
-without_ending (Err fault) = Err fault
+-- the buffer gets the readings of a trace as JSON, and whether it is lawful
+abbrev pub GivesJson : TraceInput → List ℕ → (old new : List ℕ) → Told → Type 0
+GivesJson input bytes old new told =
+    (made : Made) × (text : List ℕ) × AnswersJson input bytes (Some []) (Some text) made
+    × Gives made text old new told
+
+-- what was made, whatever else came of it
+abbrev pub without_value : {X : Type 0} → Result X CliFault → Made
+without_value (Ok value) = Ok tt
+without_value (Err fault) = Err fault
 
 -- the buffer gets the pages of a script's run
-abbrev pub GivesRun : Start → Format → List ℕ → (old new : List ℕ) → Told → Type 0
-GivesRun start format script old new told =
-    (made : Result Ending CliFault) × (text : List ℕ) × AnswersRun own_shapes start format script (Some []) (Some text) made
-    × Gives (without_ending made) text old new told
+abbrev pub GivesRun : Shapes → Start → Format → List ℕ → (old new : List ℕ) → Told → Type 0
+GivesRun shapes start format script old new told =
+    (made : Result Ending CliFault) × (text : List ℕ) × AnswersRun shapes start format script (Some []) (Some text) made
+    × Gives (without_value made) text old new told
+
+-- the buffer gets the trace of a script's run
+abbrev pub GivesBus : Start → TraceFormat → List ℕ → (old new : List ℕ) → Told → Type 0
+GivesBus start format script old new told =
+    (made : Result Ending CliFault) × (text : List ℕ) × AnswersBus start format script (Some []) (Some text) made
+    × Gives (without_value made) text old new told
 
 -- the buffer gets the page of a printer's bytes
-abbrev pub GivesRaw : (is_lower : Bool) → Format → List ℕ → (old new : List ℕ) → Told → Type 0
-GivesRaw is_lower format bytes old new told =
-    (made : Made) × (text : List ℕ) × AnswersRaw own_shapes is_lower format bytes (Some []) (Some text) made
+abbrev pub GivesRaw : Shapes → (is_lower : Bool) → Format → List ℕ → (old new : List ℕ) → Told → Type 0
+GivesRaw shapes is_lower format bytes old new told =
+    (made : Made) × (text : List ℕ) × AnswersRaw shapes is_lower format bytes (Some []) (Some text) made
     × Gives made text old new told
 
 -- memory was refused, and the buffer is as it was
@@ -115,6 +136,43 @@ GivesRows input detail bytes old new told =
     × Gives (made_of (stop_at (back_in edges) own))
     (reading_rows detail at_start (readings_up_to (stop_at (back_in edges) own) edges)) old new told)
     ⊎ HasNoMemory old new told
+
+-- the buffer gets what the lengths of each interval come to, over the readings up to where the recording stops
+abbrev pub GivesIntervals : TraceInput → List ℕ → (old new : List ℕ) → Told → Type 0
+GivesIntervals input bytes old new told =
+    ((edges : List Edge) × (own : Option CliFault) × Says input bytes edges own
+    × Gives (made_of (stop_at (back_in edges) own))
+    (interval_numbers intervals (readings_up_to (stop_at (back_in edges) own) edges)) old new told)
+    ⊎ HasNoMemory old new told
+
+-- what the bytes that a printer hears do not say: 1 that the first comes in the lower/upper case set, 2 that they come in
+-- both sets
+abbrev pub heard_number : Heard → ℕ
+heard_number h = flag h.lower + 2 * flag h.reselected
+
+-- it is beside the bytes, where there is no fault
+abbrev pub beside : Result Heard CliFault → Answer → Answer
+beside (Ok heard) answer = record answer { place = heard_number heard }
+beside (Err fault) answer = answer
+
+-- the buffer gets the bytes that a printer hears of a recording
+abbrev pub HandsBytes : TraceInput → Device → List ℕ → (old new : List ℕ) → Answer → Type 0
+HandsBytes input device bytes old new answer =
+    (made : Result Heard CliFault) × (text : List ℕ) × AnswersBytes input device bytes (Some []) (Some text) made
+    × (told : Told) × Gives (without_value made) text old new told × (answer ≡ beside made (answer_of told))
+
+-- what the bytes of a run do not say, however it ended
+abbrev pub heard_in_run : Result (Ending × Heard) CliFault → Result Heard CliFault
+heard_in_run (Ok answer) = Ok answer.1
+heard_in_run (Err fault) = Err fault
+
+-- the buffer gets the bytes that a printer hears in a script's run
+abbrev pub HandsRunBytes : Start → Device → (script : List ℕ) → (old new : List ℕ) → Answer → Type 0
+HandsRunBytes start device script old new answer =
+    (made : Result (Ending × Heard) CliFault) × (text : List ℕ)
+    × AnswersRunBytes start device script (Some []) (Some text) made
+    × (told : Told) × Gives (without_value made) text old new told
+    × (answer ≡ beside (heard_in_run made) (answer_of told))
 
 -- the buffer gets the line of each statement of a script
 abbrev pub GivesLines : (script : List ℕ) → (old new : List ℕ) → Told → Type 0

@@ -1,6 +1,9 @@
 pub mod Settings
 pub mod Answers
+pub mod Lengths
 pub mod Numbers
 pub mod Giving
 pub mod Asked
 pub mod Rows
+pub mod Words
+pub mod Refusals

@@ -1,8 +1,13 @@
 -- Trusted: what the numbers and bytes that the page passes mean.
-use Rattle.std.specs.Prelude.{◌≡◌, ℕ, ◌==◌, Bool, true, false, List, if◌then◌else◌, not, option_map, Option, Some, None}
+use Rattle.std.specs.Prelude.{◌≡◌, ℕ, ◌==◌, Bool, true, false, List, [], ◌∷◌, if◌then◌else◌, not, option_map, Option, Some, None, Result, Ok, take}
 use Rattle.pr_basic.specs.declared.session.StatusMode.{StatusMode}
 use Rattle.pr_basic.specs.declared.session.StatusMode.TheVariants as mode
 use Rattle.pr_channels.specs.declared.faults.Stop.{Stop}
+use Rattle.pr_characters.specs.File.{AnswersFile}
+use Rattle.pr_characters.specs.declared.fault.CharactersFault.{CharactersFault}
+use Rattle.pr_dots.specs.Shapes.{own_shapes}
+use Rattle.pr_dots.specs.declared.character_sets.Shapes.{Shapes}
+use Rattle.pr_options.specs.Found.{found_source}
 use Rattle.pr_channels.specs.declared.faults.Stop.TheVariants as stop
 use Rattle.pr_render.specs.declared.format.Format.{Format}
 use Rattle.pr_render.specs.declared.format.Device.{Device}
@@ -21,11 +26,28 @@ use Rattle.pr_capture.specs.declared.format.TraceInput.{TraceInput}
 use Rattle.pr_serial.specs.Bus.{DelayNumbers}
 use Rattle.pr_serial.specs.declared.Present.{Present}
 
--- the format of a recording: a trace text, a Value Change Dump, a table of comma separated values
-abbrev pub source_of : ℕ → Option Source
-source_of number =
+-- the format of a recording: a trace text, a Value Change Dump, a table of comma separated values, or the one that its
+-- first 4096 bytes show and else a text, or else a table
+abbrev pub source_of : ℕ → (bytes : List ℕ) → Option Source
+source_of number bytes =
     if number == 0 then Some source.Text
-    else (if number == 1 then Some source.Vcd else (if number == 2 then Some source.Csv else None))
+    else (if number == 1 then Some source.Vcd
+    else (if number == 2 then Some source.Csv
+    else (if number == 3 then Some (found_source source.Text (take 4096 bytes))
+    else (if number == 4 then Some (found_source source.Csv (take 4096 bytes)) else None))))
+
+-- the shapes that are asked for: those of a file of characters, or this project's own where it is empty
+abbrev pub AsksShapes : List ℕ → Result Shapes CharactersFault → Type 0
+AsksShapes [] asked = asked ≡ Ok own_shapes
+AsksShapes (b ∷ bs) asked = AnswersFile (b ∷ bs) asked
+
+-- what is answered with them
+abbrev pub WithShapes : List ℕ → (Result Shapes CharactersFault → Type 0) → Type 0
+WithShapes characters Answers = (asked : Result Shapes CharactersFault) × AsksShapes characters asked × Answers asked
+
+-- the printer with a number
+abbrev pub printer_of : ℕ → Option Device
+printer_of number = if number == 4 then Some Four else (if number == 5 then Some Five else None)
 
 -- the BASIC error with a number
 abbrev pub stop_of : ℕ → Option Stop

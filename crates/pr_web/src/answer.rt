@@ -2,11 +2,12 @@
 
 ghost use Rattle.std.specs.Prelude.{◌≡◌, length};
 ghost use Rattle.pr_web.specs.Answers.{answer_of, capture_numbers, fault_numbers, picture_numbers, refusal, script_numbers, signal_number, wave_numbers};
-ghost use Rattle.pr_web.specs.Giving.{FindsText, Gives, is_of_input, made_of};
+ghost use Rattle.pr_web.specs.Giving.{FindsText, Gives, beside, heard_number, is_of_input, made_of, without_value};
 
 use pr_basic::ScriptFault;
 use pr_capture::{CaptureFault, Wire};
 use pr_cli::{CliFault, PictureFault};
+use pr_recording::Heard;
 use pr_wire::{TraceFault, WaveFault};
 
 /// What came of a call that gives a text, or numbers.
@@ -28,11 +29,12 @@ pub struct Answer {
     /// 0 done, 2 refused, 3 out of memory, 4 the buffer is too small.
     pub code: usize,
     /// With code 2 the number of the fault: 1 to 7 those of a script, 8 a bad line of a trace text, 9 too
-    /// large, 11 to 16 those of edges (12: an edge is earlier than the one before it), 20, 24, 29 and 30 a
+    /// large, 11 to 16 those of edges (12: an edge is earlier than the one before it), 20, 21, 24, 29 and 30 a
     /// number that means no setting, 31 to 49 and 70 to 77 those of a recording, 50 a sheet that there
-    /// is not, 51 a document that is too large. Else 0.
+    /// is not, 51 a document that is too large, 52 a bad line of a file of characters. Else 0.
     pub fault: usize,
-    /// The line of the fault, from 1, or the index of its edge; with 50 how many sheets there are; or 0.
+    /// The line of the fault, from 1, or the index of its edge; with 50 how many sheets there are; beside bytes that
+    /// a printer hears what [`crate::print1525_heard`] says; or 0.
     pub place: usize,
     /// The number of the text's bytes, or how many numbers there are, or 0.
     pub length: usize,
@@ -53,6 +55,42 @@ pub fn give<T: Copy>(made: Result<(), CliFault>, items: &[T], out: &mut [T]) -> 
     }
     out[..size].copy_from_slice(items);
     Told::Written(stop, size)
+}
+
+/// What was made, whatever else came of it.
+pub fn without_value<T: Copy>(made: Result<T, CliFault>) -> Result<(), CliFault>
+    ensures { result ≡ without_value made }
+{
+    match made {
+        Ok(_) => Ok(()),
+        Err(fault) => Err(fault),
+    }
+}
+
+/// The answer beside bytes that a printer hears: where there is no fault, its place says what they do not.
+pub fn beside(made: Result<Heard, CliFault>, answer: Answer) -> Answer
+    ensures { result ≡ beside made answer }
+{
+    match made {
+        Ok(heard) => Answer {
+            place: heard_number(heard),
+            ..answer
+        },
+        Err(_) => answer,
+    }
+}
+
+/// What the bytes that a printer hears do not say: 1 that the first comes in the lower/upper case set, 2 that they
+/// come in both sets.
+fn heard_number(heard: Heard) -> usize
+    ensures { result ≡ heard_number heard }
+{
+    match (heard.lower, heard.reselected) {
+        (false, false) => 0,
+        (true, false) => 1,
+        (false, true) => 2,
+        (true, true) => 3,
+    }
 }
 
 /// An input that was read to its end, or to this fault.

@@ -1,9 +1,9 @@
-//! Why a script, a trace or a recording is refused, and the error that stopped a run.
+//! Why a script, a trace or a recording is refused, the error that stopped a run, and what is odd about a recording.
 
 ghost use Rattle.std.specs.Prelude.{◌≡◌, length};
 ghost use Rattle.std.specs.Option.{option_map_or};
 ghost use Rattle.pr_web.specs.Answers.{number_read, place_of_trace, plain};
-ghost use Rattle.pr_web.specs.Asked.{ExplainsReading, ExplainsScript, ExplainsStop, ExplainsTrace};
+ghost use Rattle.pr_web.specs.Asked.{ExplainsReading, ExplainsScript, ExplainsStop, ExplainsTrace, TellsRemarks};
 ghost use Rattle.pr_web.specs.Giving.{Hands};
 ghost use Rattle.pr_web.specs.Settings.{presence, source_of, stop_of};
 
@@ -12,17 +12,25 @@ use crate::settings::{input_for, mode_for, source_for, stop_for};
 use pr_cli::CliFault;
 use pr_explain::{
     ReadingPlace, ScriptPlace, StopPlace, TracePlace, explain_reading, explain_script,
-    explain_stop, explain_trace,
+    explain_stop, explain_trace, remark_on,
 };
 use pr_serial::Present;
 use std::alloc::Global;
 
 /// Puts an explanation of this place at the front of a buffer, and answers the place.
-fn explained(place: usize, text: &str, out: &mut [u8]) -> Answer
+pub fn explained(place: usize, text: &str, out: &mut [u8]) -> Answer
     ensures hands { Hands place text.now out.old out.new result }
     ensures length { length out.new ≡ length out.old }
 {
-    let told = give(Ok(()), text.as_bytes(), out);
+    handed(place, text.as_bytes(), out)
+}
+
+/// Puts bytes at the front of a buffer, and answers a place.
+fn handed(place: usize, text: &[u8], out: &mut [u8]) -> Answer
+    ensures hands { Hands place text.now out.old out.new result }
+    ensures length { length out.new ≡ length out.old }
+{
+    let told = give(Ok(()), text, out);
     Answer {
         place,
         ..numbered(told)
@@ -162,10 +170,10 @@ pub extern "C" fn print1525_explain_trace(
     out: &mut [u8],
     answer: &mut Answer,
 )
-    ensures tells { ExplainsTrace (source_of source) atn.now clock.now line.now inverted start rate bytes.now out.old out.new answer.new }
+    ensures tells { ExplainsTrace (source_of source bytes.now) atn.now clock.now line.now inverted start rate bytes.now out.old out.new answer.new }
     ensures length { length out.new ≡ length out.old }
 {
-    let Some(source) = source_for(source) else {
+    let Some(source) = source_for(source, bytes) else {
         *answer = refused(29, 0);
         return;
     };
@@ -196,16 +204,49 @@ pub extern "C" fn print1525_explain_reading(
     out: &mut [u8],
     answer: &mut Answer,
 )
-    ensures tells { ExplainsReading (source_of source) atn.now clock.now line.now inverted start rate bytes.now out.old out.new answer.new }
+    ensures tells { ExplainsReading (source_of source bytes.now) atn.now clock.now line.now inverted start rate bytes.now out.old out.new answer.new }
     ensures length { length out.new ≡ length out.old }
 {
-    let Some(source) = source_for(source) else {
+    let Some(source) = source_for(source, bytes) else {
         *answer = refused(29, 0);
         return;
     };
     let input = input_for(source, atn, clock, line, inverted != 0, start, rate);
     *answer = match explain_reading(alloc, bytes, input) {
         Ok(told) => explained(place_of_reading(told.place), told.text.as_str(), out),
+        Err(_) => unexplained(),
+    };
+}
+
+/// Puts the last lines of what `print1525 decode` writes of a recording, which say what is odd about it, at the front of
+/// the page's buffer, and answers how many microseconds later than at the start asked for its trace begins: the text and
+/// the number of [`pr_explain::remark_on`].
+///
+/// The recording is passed as to [`crate::print1525_readings`], with the refusals of [`print1525_explain_trace`].
+#[unsafe(no_mangle)]
+pub extern "C" fn print1525_remarks(
+    alloc: Global,
+    bytes: &[u8],
+    source: u8,
+    atn: &[u8],
+    clock: &[u8],
+    line: &[u8],
+    inverted: u8,
+    start: u64,
+    rate: u64,
+    out: &mut [u8],
+    answer: &mut Answer,
+)
+    ensures tells { TellsRemarks (source_of source bytes.now) atn.now clock.now line.now inverted start rate bytes.now out.old out.new answer.new }
+    ensures length { length out.new ≡ length out.old }
+{
+    let Some(source) = source_for(source, bytes) else {
+        *answer = refused(29, 0);
+        return;
+    };
+    let input = input_for(source, atn, clock, line, inverted != 0, start, rate);
+    *answer = match remark_on(alloc, bytes, input) {
+        Ok(remarks) => handed(remarks.later as usize, remarks.oddities.as_slice(), out),
         Err(_) => unexplained(),
     };
 }

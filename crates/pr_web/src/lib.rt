@@ -1,5 +1,6 @@
 //! The calls of the page in a browser beside those of `pr_c`: what a recording says, as text and as numbers, why a
-//! script, a trace or a recording is refused, and parts of pages. Memory in, memory out, no pointer kept.
+//! script, a trace or a recording is refused, parts of pages, and the words of a command line. Memory in, memory out, no
+//! pointer kept.
 //!
 //! The page owns every buffer. Each slice is a pointer and then a length. A call puts its text at
 //! the buffer's front where it has room, with the rest of the buffer as it was, and writes the
@@ -8,9 +9,11 @@
 //! - `recordings` and `explanations` have the calls, made as those of pr_c: a slice as the reader, a `Vec`
 //!   as the writer, and the text copied to the front of the buffer (`answer`). A recording that cannot be
 //!   read to its end answers its fault, and the text of what comes before it too.
-//! - `numbers` has the calls that give numbers in place of a text: edges, readings (`rows`) and delays. `scripts` has
+//! - `numbers` has the calls that give numbers in place of a text: edges, readings (`rows`), what the lengths of their
+//!   intervals come to (`lengths`), and delays. `scripts` has
 //!   the line of each statement, the place of a fault, and parts of pages. The page draws and marks by these, and
 //!   reads no text for them.
+//! - `words` reads the words of a command line, for the program in JavaScript, and `refusals` says why they ask for no task.
 //! - `settings` gives the numbers that the page passes their meaning.
 //!
 //! `web/module` puts this crate and pr_c into one WebAssembly module: web/README.md.
@@ -23,23 +26,30 @@
 
 mod answer;
 mod explanations;
+mod lengths;
 mod numbers;
 mod recordings;
+mod refusals;
 mod rows;
 mod scripts;
 mod settings;
+mod words;
 
 pub use answer::{Answer, Told};
 pub use explanations::{
     print1525_explain_reading, print1525_explain_script, print1525_explain_stop,
-    print1525_explain_trace,
+    print1525_explain_trace, print1525_remarks,
 };
-pub use numbers::{print1525_bounds, print1525_edges, print1525_reading_rows};
-pub use recordings::{print1525_readings, print1525_report, print1525_reprint};
+pub use numbers::{print1525_bounds, print1525_edges, print1525_intervals, print1525_reading_rows};
+pub use recordings::{
+    print1525_check_json, print1525_heard, print1525_readings, print1525_report, print1525_reprint,
+};
+pub use refusals::print1525_refusal;
 pub use scripts::{
-    print1525_part_of_pages, print1525_part_of_raw, print1525_script_fault,
+    print1525_part_of_pages, print1525_part_of_raw, print1525_run_bytes, print1525_script_fault,
     print1525_statement_lines,
 };
+pub use words::{print1525_bus_asked, print1525_task};
 
 #[cfg(test)]
 mod tests;

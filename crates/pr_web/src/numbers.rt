@@ -3,15 +3,15 @@
 ghost use Rattle.std.specs.Prelude.{◌≡◌, ◌+◌, ◌-◌, ◌<◌, ◌≤◌, ◌++◌, ◌∷◌, [], List, length, IfErr, IfOk, IfSome, OnOk};
 ghost use Rattle.pr_wire.specs.Delays.{bounds_of};
 ghost use Rattle.pr_cli.specs.Report.{IsOwnFault, Says};
-ghost use Rattle.pr_report.specs.Intervals.{longest_answer};
-ghost use Rattle.pr_web.specs.Asked.{TellsBounds, TellsEdges, TellsRows};
-ghost use Rattle.pr_web.specs.Giving.{GivesEdges, GivesRows};
+ghost use Rattle.pr_web.specs.Asked.{TellsBounds, TellsEdges, TellsIntervals, TellsRows};
+ghost use Rattle.pr_web.specs.Giving.{GivesEdges, GivesIntervals, GivesRows};
 ghost use Rattle.pr_web.specs.Numbers.{bounds_numbers, edge_numbers, kind_numbers, level_number};
-ghost use Rattle.pr_web.specs.Rows.{EndsRows};
+ghost use Rattle.pr_web.specs.Rows.{EndsReadings};
 ghost use Rattle.pr_web.specs.Settings.{detail_of, source_of};
 
 use crate::answer::{Answer, Told, ended, give, numbered, refused};
-use crate::rows::{Ended, RecordingRows, flag};
+use crate::lengths::{MEASURES, figures_of};
+use crate::rows::{Ended, RecordingReadings, flag, longest_answer, rows_of};
 use crate::settings::{detail_for, input_for, source_for};
 use pr_capture::TraceInput;
 use pr_cli::{CliFault, EdgeReader, LastEdges};
@@ -66,18 +66,13 @@ fn numbers_of(alloc: Global, edges: &[Edge]) -> Result<Vec<u64>, NoMemory>
     Ok(numbers)
 }
 
-/// The rows of the readings of edges whose input has this fault, if it has one, and why there are no more.
-fn rows_of(
-    alloc: Global,
-    detail: Detail,
-    edges: &[Edge],
-    own: Option<CliFault>,
-) -> Result<Ended, NoMemory>
-    ensures { IfOk result (λ ended. EndsRows detail edges.now own ended) }
+/// The readings of edges whose input has this fault, if it has one, and why there are no more.
+fn readings_of(alloc: Global, edges: &[Edge], own: Option<CliFault>) -> Result<Ended, NoMemory>
+    ensures { IfOk result (λ ended. EndsReadings edges.now own ended) }
 {
-    let mut rows = RecordingRows::new(alloc, detail);
-    rows.take_all(edges)?;
-    rows.finish(own)
+    let mut readings = RecordingReadings::new(alloc);
+    readings.take_all(edges)?;
+    readings.finish(own)
 }
 
 /// Reads a recording, and puts the numbers of its edges at the front of a buffer.
@@ -102,10 +97,30 @@ fn rows(alloc: Global, bytes: &[u8], input: TraceInput<'_>, detail: Detail, out:
     let Ok(said) = read_input(alloc, bytes, input) else {
         return Told::Refused(CliFault::NoMemory);
     };
-    let Ok(made) = rows_of(alloc, detail, said.edges.as_slice(), said.fault) else {
+    let Ok(read) = readings_of(alloc, said.edges.as_slice(), said.fault) else {
         return Told::Refused(CliFault::NoMemory);
     };
-    give(ended(made.stop), made.rows.as_slice(), out)
+    let Ok(numbers) = rows_of(alloc, detail, read.readings.as_slice()) else {
+        return Told::Refused(CliFault::NoMemory);
+    };
+    give(ended(read.stop), numbers.as_slice(), out)
+}
+
+/// Reads a recording, and puts what the lengths of each interval come to at the front of a buffer.
+fn intervals(alloc: Global, bytes: &[u8], input: TraceInput<'_>, out: &mut [u64]) -> Told
+    ensures told { GivesIntervals input.entry bytes.now out.old out.new result }
+    ensures length { length out.new ≡ length out.old }
+{
+    let Ok(said) = read_input(alloc, bytes, input) else {
+        return Told::Refused(CliFault::NoMemory);
+    };
+    let Ok(read) = readings_of(alloc, said.edges.as_slice(), said.fault) else {
+        return Told::Refused(CliFault::NoMemory);
+    };
+    let Ok(numbers) = figures_of(alloc, &MEASURES, read.readings.as_slice()) else {
+        return Told::Refused(CliFault::NoMemory);
+    };
+    give(ended(read.stop), numbers.as_slice(), out)
 }
 
 /// Adds the least and the greatest delay of each of some kinds.
@@ -117,15 +132,6 @@ fn push_kinds(numbers: &mut Vec<u64>, kinds: &[Kind]) -> Result<(), NoMemory>
         numbers.extend_from_slice(&[u64::from(least), u64::from(greatest)])?;
     }
     Ok(())
-}
-
-/// How long DATA is pulled at most in answer to end-or-identify, if two listeners pull it as one.
-fn longest_answer() -> u64
-    ensures { result ≡ longest_answer }
-{
-    let (earliest, _, latest) = bounds(Kind::Ye);
-    let (_, _, greatest) = bounds(Kind::Ei);
-    u64::from(latest) + u64::from(greatest) - u64::from(earliest)
 }
 
 /// The bounds of the delays.
@@ -160,10 +166,10 @@ pub extern "C" fn print1525_edges(
     out: &mut [u64],
     answer: &mut Answer,
 )
-    ensures tells { TellsEdges (source_of source) atn.now clock.now line.now inverted start rate bytes.now out.old out.new answer.new }
+    ensures tells { TellsEdges (source_of source bytes.now) atn.now clock.now line.now inverted start rate bytes.now out.old out.new answer.new }
     ensures length { length out.new ≡ length out.old }
 {
-    let Some(source) = source_for(source) else {
+    let Some(source) = source_for(source, bytes) else {
         *answer = refused(29, 0);
         return;
     };
@@ -202,10 +208,10 @@ pub extern "C" fn print1525_reading_rows(
     out: &mut [u64],
     answer: &mut Answer,
 )
-    ensures tells { TellsRows (source_of source) atn.now clock.now line.now inverted start rate (detail_of detail) bytes.now out.old out.new answer.new }
+    ensures tells { TellsRows (source_of source bytes.now) atn.now clock.now line.now inverted start rate (detail_of detail) bytes.now out.old out.new answer.new }
     ensures length { length out.new ≡ length out.old }
 {
-    let Some(source) = source_for(source) else {
+    let Some(source) = source_for(source, bytes) else {
         *answer = refused(29, 0);
         return;
     };
@@ -215,6 +221,38 @@ pub extern "C" fn print1525_reading_rows(
     };
     let input = input_for(source, atn, clock, line, inverted != 0, start, rate);
     *answer = numbered(rows(alloc, bytes, input, detail, out));
+}
+
+/// Reads a recording, and puts what the lengths of each interval come to at the front of the page's buffer, in
+/// the order of the lines of a summary: seven numbers for each of ten intervals. They are how many readings have the
+/// interval, its least, its middle and its greatest length (0 where none has it), its bounds by the profile, and how many
+/// lengths lie outside them; lengths are in microseconds. The middle is the least length that at least half of the
+/// lengths do not exceed.
+///
+/// The recording is passed as to [`crate::print1525_readings`], with the refusals of [`print1525_reading_rows`].
+#[unsafe(no_mangle)]
+pub extern "C" fn print1525_intervals(
+    alloc: Global,
+    bytes: &[u8],
+    source: u8,
+    atn: &[u8],
+    clock: &[u8],
+    line: &[u8],
+    inverted: u8,
+    start: u64,
+    rate: u64,
+    out: &mut [u64],
+    answer: &mut Answer,
+)
+    ensures tells { TellsIntervals (source_of source bytes.now) atn.now clock.now line.now inverted start rate bytes.now out.old out.new answer.new }
+    ensures length { length out.new ≡ length out.old }
+{
+    let Some(source) = source_for(source, bytes) else {
+        *answer = refused(29, 0);
+        return;
+    };
+    let input = input_for(source, atn, clock, line, inverted != 0, start, rate);
+    *answer = numbered(intervals(alloc, bytes, input, out));
 }
 
 /// Puts the bounds of the profile's delays at the front of the page's buffer, the least and the

@@ -1,17 +1,20 @@
 //! What a recording says, as text.
 
 ghost use Rattle.std.specs.Prelude.{◌≡◌, ◌≢◌, length};
-ghost use Rattle.pr_web.specs.Asked.{TellsReadings, TellsReport, TellsReprint};
-ghost use Rattle.pr_web.specs.Giving.{GivesPages, GivesReadings, GivesReport};
-ghost use Rattle.pr_web.specs.Settings.{is_yes, report_of, shown_of, source_of, wording_of};
+ghost use Rattle.pr_web.specs.Asked.{TellsBytes, TellsJson, TellsReadings, TellsReport, TellsReprint};
+ghost use Rattle.pr_web.specs.Giving.{GivesJson, GivesPages, GivesReadings, GivesReport, HandsBytes};
+ghost use Rattle.pr_web.specs.Settings.{WithShapes, is_yes, printer_of, report_of, shown_of, source_of, wording_of};
 
-use crate::answer::{Answer, Told, give, numbered, refused};
-use crate::settings::{input_for, report_for, shown_for, source_for, wording_for};
+use crate::answer::{Answer, Told, beside, give, numbered, refused, without_value};
+use crate::settings::{
+    input_for, printer_for, report_for, shapes_for, shown_for, source_for, wording_for,
+};
 use pr_capture::TraceInput;
+use pr_characters::CharactersFault;
 use pr_cli::{Watched, check_as_over};
 use pr_dots::Shapes;
-use pr_recording::{Wording, decode_over, reprint_over};
-use pr_render::Format;
+use pr_recording::{Wording, bytes_over, check_json_over, decode_over, reprint_over};
+use pr_render::{Device, Format};
 use pr_report::Report;
 use std::alloc::Global;
 
@@ -38,22 +41,34 @@ fn reprint(
     bytes: &[u8],
     input: TraceInput<'_>,
     format: Format,
+    shapes: &Shapes,
     out: &mut [u8],
 ) -> Told
-    ensures told { GivesPages input.entry format bytes.now out.old out.new result }
+    ensures told { GivesPages shapes.now input.entry format bytes.now out.old out.new result }
     ensures length { length out.new ≡ length out.old }
 {
     let mut reader = Watched::new(bytes);
     let mut output = Watched::new(Vec::new(alloc));
-    let made = reprint_over(
-        alloc,
-        &mut reader,
-        &mut output,
-        input,
-        format,
-        &Shapes::own(),
-    );
+    let made = reprint_over(alloc, &mut reader, &mut output, input, format, shapes);
     give(made, &output.into_inner(), out)
+}
+
+/// Reads a recording, and puts the bytes that a printer hears in it at the front of a buffer.
+fn heard(
+    alloc: Global,
+    bytes: &[u8],
+    input: TraceInput<'_>,
+    device: Device,
+    out: &mut [u8],
+) -> Answer
+    ensures hands { HandsBytes input.entry device bytes.now out.old out.new result }
+    ensures length { length out.new ≡ length out.old }
+{
+    let mut reader = Watched::new(bytes);
+    let mut output = Watched::new(Vec::new(alloc));
+    let made = bytes_over(alloc, &mut reader, &mut output, input, device);
+    let told = give(without_value(made), &output.into_inner(), out);
+    beside(made, numbered(told))
 }
 
 /// Reads a trace, and puts a report on it at the front of a buffer.
@@ -73,10 +88,22 @@ fn report(
     give(made, &output.into_inner(), out)
 }
 
+/// Reads a trace, and puts its readings as JSON, and whether it is lawful, at the front of a buffer.
+fn json(alloc: Global, bytes: &[u8], input: TraceInput<'_>, out: &mut [u8]) -> Told
+    ensures told { GivesJson input.entry bytes.now out.old out.new result }
+    ensures length { length out.new ≡ length out.old }
+{
+    let mut reader = Watched::new(bytes);
+    let mut output = Watched::new(Vec::new(alloc));
+    let made = check_json_over(alloc, &mut reader, &mut output, input);
+    give(made, &output.into_inner(), out)
+}
+
 /// Reads a recording, and puts what it says, as `print1525 decode` writes it, at the front of the
 /// page's buffer.
 ///
-/// `source` is 0 for a trace text, 1 for a Value Change Dump, 2 for a table. `atn`, `clock` and
+/// `source` is 0 for a trace text, 1 for a Value Change Dump, 2 for a table, 3 and 4 for the format that the first
+/// bytes show, or else a text or a table. `atn`, `clock` and
 /// `line` are the names of the signals, `inverted` is whether their levels are inverted (0 for no),
 /// `start` is the microsecond at which the recording starts, and `rate` is how many samples a table
 /// without times has in a second (0 where it is not said). `wording` is 0 for lines, 1 for lines with
@@ -102,11 +129,11 @@ pub extern "C" fn print1525_readings(
     out: &mut [u8],
     answer: &mut Answer,
 )
-    ensures tells { TellsReadings (source_of source) atn.now clock.now line.now inverted start rate (wording_of wording) bytes.now out.old out.new
+    ensures tells { TellsReadings (source_of source bytes.now) atn.now clock.now line.now inverted start rate (wording_of wording) bytes.now out.old out.new
         answer.new }
     ensures length { length out.new ≡ length out.old }
 {
-    let Some(source) = source_for(source) else {
+    let Some(source) = source_for(source, bytes) else {
         *answer = refused(29, 0);
         return;
     };
@@ -125,8 +152,9 @@ pub extern "C" fn print1525_readings(
 ///
 /// `format` is 0 for the page text, 1 for lines of 80 columns, 2 for an SVG document, 3 for a sheet
 /// as a PNG file, 4 for a PDF document. `device` is 4 or 5 for the pages of one printer, `sheet` is
-/// the number of one sheet from 1; 0 means all of them. Numbers that mean no such format are
-/// refused, and so are a sheet that there is not and a document that is too large.
+/// the number of one sheet from 1; 0 means all of them. Pictures draw the characters of the file `characters`, or the
+/// project's own where it is empty. Numbers that mean no such format are refused, and so are a file of characters with a
+/// bad line, a sheet that there is not and a document that is too large.
 #[unsafe(no_mangle)]
 pub extern "C" fn print1525_reprint(
     alloc: Global,
@@ -141,14 +169,16 @@ pub extern "C" fn print1525_reprint(
     format: u8,
     device: u8,
     sheet: u64,
+    characters: &[u8],
     out: &mut [u8],
     answer: &mut Answer,
 )
-    ensures tells { TellsReprint (source_of source) atn.now clock.now line.now inverted start rate (shown_of format device sheet) bytes.now out.old out.new
-        answer.new }
+    ensures tells { WithShapes characters.now (λ shapes. TellsReprint (source_of source bytes.now) atn.now clock.now line.now inverted start rate
+        (shown_of format device sheet) shapes bytes.now out.old out.new answer.new) }
     ensures length { length out.new ≡ length out.old }
 {
-    let Some(source) = source_for(source) else {
+    let shapes = shapes_for(characters);
+    let Some(source) = source_for(source, bytes) else {
         *answer = refused(29, 0);
         return;
     };
@@ -157,7 +187,47 @@ pub extern "C" fn print1525_reprint(
         return;
     };
     let input = input_for(source, atn, clock, line, inverted != 0, start, rate);
-    *answer = numbered(reprint(alloc, bytes, input, format, out));
+    *answer = match shapes {
+        Ok(shapes) => numbered(reprint(alloc, bytes, input, format, &shapes, out)),
+        Err(CharactersFault::BadLine(line)) => refused(52, line),
+    };
+}
+
+/// Reads a recording, and puts the bytes that a printer hears in it at the front of the page's buffer: of the bytes
+/// that were acknowledged, the data bytes that come while the printer listens. `device` is 4 or 5. The answer's place is 1
+/// where the first byte comes in the lower/upper case set, and 2 more where bytes come in both sets.
+///
+/// The recording is passed as to [`print1525_readings`], with its refusals; another number than 4 or 5 is refused.
+/// Of a recording that cannot be read to its end, the bytes before the fault are in the buffer.
+#[unsafe(no_mangle)]
+pub extern "C" fn print1525_heard(
+    alloc: Global,
+    bytes: &[u8],
+    source: u8,
+    atn: &[u8],
+    clock: &[u8],
+    line: &[u8],
+    inverted: u8,
+    start: u64,
+    rate: u64,
+    device: u8,
+    out: &mut [u8],
+    answer: &mut Answer,
+)
+    ensures tells { TellsBytes (source_of source bytes.now) atn.now clock.now line.now inverted start rate (printer_of device) bytes.now out.old out.new
+        answer.new }
+    ensures length { length out.new ≡ length out.old }
+{
+    let Some(source) = source_for(source, bytes) else {
+        *answer = refused(29, 0);
+        return;
+    };
+    let Some(device) = printer_for(device) else {
+        *answer = refused(21, 0);
+        return;
+    };
+    let input = input_for(source, atn, clock, line, inverted != 0, start, rate);
+    *answer = heard(alloc, bytes, input, device, out);
 }
 
 /// Reads a trace, and puts its frames, or their story, as `print1525 check` writes them, at the
@@ -182,14 +252,45 @@ pub extern "C" fn print1525_report(
     out: &mut [u8],
     answer: &mut Answer,
 )
-    ensures tells { TellsReport (source_of source) atn.now clock.now line.now inverted start rate (report_of (is_yes story)) bytes.now out.old out.new
+    ensures tells { TellsReport (source_of source bytes.now) atn.now clock.now line.now inverted start rate (report_of (is_yes story)) bytes.now out.old out.new
         answer.new }
     ensures length { length out.new ≡ length out.old }
 {
-    let Some(source) = source_for(source) else {
+    let Some(source) = source_for(source, bytes) else {
         *answer = refused(29, 0);
         return;
     };
     let input = input_for(source, atn, clock, line, inverted != 0, start, rate);
     *answer = numbered(report(alloc, bytes, input, report_for(story != 0), out));
+}
+
+/// Reads a trace, and puts its readings as JSON, and whether it is lawful, as `print1525 check --as json` writes them, at
+/// the front of the page's buffer. The trace is passed as to [`print1525_readings`].
+///
+/// It is refused with the faults of [`pr_recording::check_json_over`] but for reads and writes, for a number that means no
+/// format of a recording, and where the text has more bytes than the buffer has room for. Of a trace that is refused for its
+/// edges or its lines, the text that comes before the fault is in the buffer, with code 2.
+#[unsafe(no_mangle)]
+pub extern "C" fn print1525_check_json(
+    alloc: Global,
+    bytes: &[u8],
+    source: u8,
+    atn: &[u8],
+    clock: &[u8],
+    line: &[u8],
+    inverted: u8,
+    start: u64,
+    rate: u64,
+    out: &mut [u8],
+    answer: &mut Answer,
+)
+    ensures tells { TellsJson (source_of source bytes.now) atn.now clock.now line.now inverted start rate bytes.now out.old out.new answer.new }
+    ensures length { length out.new ≡ length out.old }
+{
+    let Some(source) = source_for(source, bytes) else {
+        *answer = refused(29, 0);
+        return;
+    };
+    let input = input_for(source, atn, clock, line, inverted != 0, start, rate);
+    *answer = numbered(json(alloc, bytes, input, out));
 }

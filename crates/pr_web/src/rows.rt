@@ -1,22 +1,21 @@
-//! What the edges of a recording say, as numbers: a row for each reading.
+//! What the edges of a recording say: its readings, and a row of numbers for each.
 
 ghost use Rattle.std.specs.Prelude.{◌≡◌, ◌+◌, ◌^◌, ◌<◌, ◌≤◌, ◌∷◌, ◌++◌, [], List, length, IfOk, OnOk};
 ghost use Rattle.std.specs.Option.{option_map_or, option_to_list};
 ghost use Rattle.pr_wire.specs.declared.Edge.{Edge};
-ghost use Rattle.pr_decode.specs.declared.reading.Reading.{Reading};
-ghost use Rattle.pr_report.specs.declared.detail.Detail.{Detail};
-ghost use Rattle.pr_report.specs.Intervals.{transfer_of};
+ghost use Rattle.pr_report.specs.Contexts.{at_start};
+ghost use Rattle.pr_report.specs.Intervals.{longest_answer, transfer_of};
 ghost use Rattle.pr_report.specs.ReadingText.{reading_lines};
 ghost use Rattle.pr_recording.specs.Decoded.{stop_at};
-ghost use Rattle.pr_web.specs.Numbers.{end_of, flag, row_of, row_with};
-ghost use Rattle.pr_web.specs.Rows.{EndsRows, HasRows, HasTaken, LogsReading, TakesMore};
+ghost use Rattle.pr_web.specs.Numbers.{end_of, flag, reading_rows, row_of, row_with};
+ghost use Rattle.pr_web.specs.Rows.{EndsReadings, HasTaken, TakesMore};
 
 use pr_cli::CliFault;
 use pr_decode::{
     Decoder, FrameEnd, GoesBack, IncompleteEnd, Pulse, Reading, Transfer, readings_add_up,
 };
 use pr_report::{Context, Detail, push_reading};
-use pr_wire::{Edge, NoMemory, WaveFault};
+use pr_wire::{Edge, Kind, NoMemory, WaveFault, bounds};
 use std::alloc::Global;
 
 /// Yes as 1, no as 0.
@@ -27,7 +26,7 @@ pub fn flag(yes: bool) -> u64
 }
 
 /// The byte of a reading, as far as it came.
-fn transfer_of(reading: &Reading) -> Transfer
+pub fn transfer_of(reading: &Reading) -> Transfer
     ensures { result ≡ transfer_of reading.now }
 {
     match reading {
@@ -99,68 +98,45 @@ fn push_row(rows: &mut Vec<u64>, reading: &Reading, lines: u64) -> Result<(), No
     ])
 }
 
-/// The rows of the readings so far.
-#[derive(Drop)]
-pub struct RowLog {
-    /// What is written of a reading.
-    detail: Detail,
-    /// What comes before the next reading.
-    before: Context,
-    /// The lines of the last reading, of which the row has the length.
-    lines: Vec<u8>,
-    rows: Vec<u64>,
+/// A row for each of some readings. The last number of a row is the length of the reading's lines, with this detail.
+pub fn rows_of(alloc: Global, detail: Detail, readings: &[Reading]) -> Result<Vec<u64>, NoMemory>
+    ensures { IfOk result (λ rows. rows.items ≡ reading_rows detail at_start readings.now) }
+{
+    let mut rows = Vec::new(alloc);
+    let mut text = Vec::new(alloc);
+    let mut before = Context::new();
+    for reading in readings {
+        text.clear();
+        push_reading(&mut text, before, reading, detail)?;
+        let lines = text.len() as u64;
+        push_row(&mut rows, reading, lines)?;
+        before = before.after(reading);
+    }
+    Ok(rows)
 }
 
-impl RowLog {
-    /// A log of no reading. It takes no memory.
-    fn new(alloc: Global, detail: Detail) -> RowLog
-        ensures { HasRows detail [] result }
-    {
-        RowLog {
-            detail,
-            before: Context::new(),
-            lines: Vec::new(alloc),
-            rows: Vec::new(alloc),
-        }
-    }
-
-    /// Adds a reading.
-    fn push(&mut self, reading: &Reading) -> Result<(), NoMemory>
-        ensures { OnOk result ((detail : Detail) (given : List Reading) → HasRows detail given self.old →
-            HasRows detail (given ++ reading.now ∷ []) self.new) }
-    {
-        self.lines.clear();
-        push_reading(&mut self.lines, self.before, reading, self.detail)?;
-        let lines = self.lines.len() as u64;
-        push_row(&mut self.rows, reading, lines)?;
-        self.before = self.before.after(reading);
-        Ok(())
-    }
-
-    /// Adds a reading, if there is one.
-    fn push_if(&mut self, reading: Option<Reading>) -> Result<(), NoMemory>
-        ensures { OnOk result (LogsReading reading self.old self.new) }
-    {
-        match reading {
-            Some(reading) => self.push(&reading),
-            None => Ok(()),
-        }
-    }
+/// How long DATA is pulled at most in answer to end-or-identify, if two listeners pull it as one.
+pub fn longest_answer() -> u64
+    ensures { result ≡ longest_answer }
+{
+    let (earliest, _, latest) = bounds(Kind::Ye);
+    let (_, _, greatest) = bounds(Kind::Ei);
+    u64::from(latest) + u64::from(greatest) - u64::from(earliest)
 }
 
-/// The rows of a recording, and why there are no more.
+/// The readings of a recording, and why there are no more.
 #[derive(Drop)]
 pub struct Ended {
-    pub rows: Vec<u64>,
+    pub readings: Vec<Reading>,
     /// The fault of the recording at which they end.
     pub stop: Option<CliFault>,
 }
 
-/// Makes the rows of what the edges of a recording say, up to where time goes back.
+/// Keeps what the edges of a recording say, up to where time goes back.
 #[derive(Drop)]
-pub struct RecordingRows {
+pub struct RecordingReadings {
     decoder: Decoder,
-    log: RowLog,
+    readings: Vec<Reading>,
     /// How many edges were taken.
     taken: usize,
     /// The index of the edge at which time goes back.
@@ -177,15 +153,25 @@ fn stop_at(back: Option<usize>, own: Option<CliFault>) -> Option<CliFault>
     }
 }
 
-impl RecordingRows {
-    /// The rows of no edge. It takes no memory.
-    pub fn new(alloc: Global, detail: Detail) -> RecordingRows
-        ensures rows { HasTaken detail [] result }
+/// Adds a reading, if there is one.
+fn push_if(readings: &mut Vec<Reading>, reading: Option<Reading>) -> Result<(), NoMemory>
+    ensures { OnOk result (readings.new.items ≡ readings.old.items ++ option_to_list reading) }
+{
+    if let Some(reading) = reading {
+        readings.push(reading)?;
+    }
+    Ok(())
+}
+
+impl RecordingReadings {
+    /// The readings of no edge. It takes no memory.
+    pub fn new(alloc: Global) -> RecordingReadings
+        ensures readings { HasTaken [] result }
         ensures edges { result.taken ≡ 0 }
     {
-        RecordingRows {
+        RecordingReadings {
             decoder: Decoder::new(),
-            log: RowLog::new(alloc, detail),
+            readings: Vec::new(alloc),
             taken: 0,
             back: None,
         }
@@ -194,7 +180,7 @@ impl RecordingRows {
     /// Takes the next edge. After one at which time goes back it takes none.
     fn take(&mut self, edge: Edge) -> Result<(), NoMemory>
         requires few { self.old.taken + 1 < 2 ^ 64 }
-        ensures rows { OnOk result (TakesMore (edge ∷ []) self.old self.new) }
+        ensures readings { OnOk result (TakesMore (edge ∷ []) self.old self.new) }
         ensures edges { self.new.taken ≤ self.old.taken + 1 }
     {
         if self.back.is_some() {
@@ -203,7 +189,7 @@ impl RecordingRows {
         match self.decoder.take(edge) {
             Ok(reading) => {
                 self.taken += 1;
-                self.log.push_if(reading)
+                push_if(&mut self.readings, reading)
             }
             Err(GoesBack) => {
                 self.back = Some(self.taken);
@@ -215,7 +201,7 @@ impl RecordingRows {
     /// Takes the next edges, in order.
     pub fn take_all(&mut self, edges: &[Edge]) -> Result<(), NoMemory>
         requires few { self.old.taken + length edges.now < 2 ^ 64 }
-        ensures rows { OnOk result (TakesMore edges.now self.old self.new) }
+        ensures readings { OnOk result (TakesMore edges.now self.old self.new) }
     {
         for edge in edges {
             self.take(*edge)?;
@@ -224,23 +210,22 @@ impl RecordingRows {
     }
 
     /// Ends the edges of an input with this fault, if it has one. Where nothing stops them, what the
-    /// end cuts has its row too.
+    /// end cuts is kept too.
     pub fn finish(mut self, own: Option<CliFault>) -> Result<Ended, NoMemory>
-        ensures { IfOk result (λ ended. (detail : Detail) (edges : List Edge) → HasTaken detail edges self →
-            EndsRows detail edges own ended) }
+        ensures { IfOk result (λ ended. (edges : List Edge) → HasTaken edges self → EndsReadings edges own ended) }
     {
         readings_add_up();
         let stop = stop_at(self.back, own);
         if stop.is_some() {
             return Ok(Ended {
-                rows: self.log.rows,
+                readings: self.readings,
                 stop,
             });
         }
         let cut = self.decoder.finish();
-        self.log.push_if(cut)?;
+        push_if(&mut self.readings, cut)?;
         Ok(Ended {
-            rows: self.log.rows,
+            readings: self.readings,
             stop: None,
         })
     }

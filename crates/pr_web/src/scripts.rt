@@ -10,23 +10,25 @@ ghost use Rattle.pr_basic.specs.LineAt.{IsLineAt};
 ghost use Rattle.pr_basic.specs.declared.statement.Statement.{Statement};
 ghost use Rattle.pr_bus.specs.DelaysLeft.{numbers_left};
 ghost use Rattle.pr_cli.specs.Pages.{start_of};
-ghost use Rattle.pr_web.specs.Asked.{TellsFault, TellsLines, TellsRaw, TellsRun};
-ghost use Rattle.pr_web.specs.Giving.{GivesFault, GivesLines, GivesRaw, GivesRun, without_ending};
+ghost use Rattle.pr_web.specs.Asked.{TellsFault, TellsLines, TellsRaw, TellsRun, TellsRunBytes};
+ghost use Rattle.pr_web.specs.Giving.{GivesFault, GivesLines, GivesRaw, GivesRun, HandsRunBytes, heard_in_run};
 ghost use Rattle.pr_web.specs.Numbers.{AreLineNumbers, IsFaultRow, IsLabelNumber, IsWidth};
 ghost use Rattle.pr_web.specs.Rows.{StartsWithLine};
-ghost use Rattle.pr_web.specs.Settings.{delays_of, is_yes, mode_of, presence, shown_of};
+ghost use Rattle.pr_web.specs.Settings.{WithShapes, delays_of, is_yes, mode_of, presence, printer_of, shown_of};
 ghost use Rattle.pr_wire.specs.Choices.{left};
 
-use crate::answer::{Answer, Told, give, numbered, refused};
-use crate::settings::{mode_for, shown_for};
+use crate::answer::{Answer, Told, beside, give, numbered, refused, without_value};
+use crate::settings::{mode_for, printer_for, shapes_for, shown_for};
 use pr_basic::{
     LineAt, ScriptFault, StatusMode, basic_number, faults_tell_their_line, lexeme_at, line_at,
     read_script, read_script_at,
 };
 use pr_bus::Delays;
+use pr_characters::CharactersFault;
 use pr_cli::{CliFault, Ending, Watched, pages_as_over, raw_over};
 use pr_dots::Shapes;
-use pr_render::Format;
+use pr_recording::{Heard, run_bytes_over};
+use pr_render::{Device, Format};
 use pr_serial::Present;
 use pr_wire::{Choices, NoMemory};
 use std::alloc::{AllocError, Global};
@@ -56,16 +58,6 @@ fn delays_for(
     })
 }
 
-/// What was made, however the run ended.
-fn without_ending(made: Result<Ending, CliFault>) -> Result<(), CliFault>
-    ensures { result ≡ without_ending made }
-{
-    match made {
-        Ok(_) => Ok(()),
-        Err(fault) => Err(fault),
-    }
-}
-
 /// Runs a script, and puts its pages at the front of a buffer.
 fn pages(
     alloc: Global,
@@ -74,9 +66,10 @@ fn pages(
     delays: Delays,
     mode: StatusMode,
     format: Format,
+    shapes: &Shapes,
     out: &mut [u8],
 ) -> Told
-    ensures told { GivesRun (start_of present delays mode) format script.now out.old out.new result }
+    ensures told { GivesRun shapes.now (start_of present delays mode) format script.now out.old out.new result }
     ensures length { length out.new ≡ length out.old }
 {
     let mut reader = Watched::new(script);
@@ -89,34 +82,72 @@ fn pages(
         delays,
         mode,
         format,
-        &Shapes::own(),
+        shapes,
     );
-    give(without_ending(made), &output.into_inner(), out)
+    give(without_value(made), &output.into_inner(), out)
+}
+
+/// Runs a script, and puts the bytes that a printer hears in its run at the front of a buffer.
+fn run_bytes(
+    alloc: Global,
+    script: &[u8],
+    present: Present,
+    delays: Delays,
+    mode: StatusMode,
+    device: Device,
+    out: &mut [u8],
+) -> Answer
+    ensures hands { HandsRunBytes (start_of present delays mode) device script.now out.old out.new result }
+    ensures length { length out.new ≡ length out.old }
+{
+    let mut reader = Watched::new(script);
+    let mut output = Watched::new(Vec::new(alloc));
+    let made = run_bytes_over(
+        alloc,
+        &mut reader,
+        &mut output,
+        present,
+        delays,
+        mode,
+        device,
+    );
+    let told = give(without_value(made), &output.into_inner(), out);
+    beside(heard_in_run(made), numbered(told))
+}
+
+/// What the bytes of a run do not say.
+fn heard_in_run(made: Result<(Ending, Heard), CliFault>) -> Result<Heard, CliFault>
+    ensures { result ≡ heard_in_run made }
+{
+    match made {
+        Ok((_, heard)) => Ok(heard),
+        Err(fault) => Err(fault),
+    }
 }
 
 /// Puts the page of a printer's bytes at the front of a buffer.
-fn raw(alloc: Global, bytes: &[u8], is_lower: bool, format: Format, out: &mut [u8]) -> Told
-    ensures told { GivesRaw is_lower format bytes.now out.old out.new result }
+fn raw(
+    alloc: Global,
+    bytes: &[u8],
+    is_lower: bool,
+    format: Format,
+    shapes: &Shapes,
+    out: &mut [u8],
+) -> Told
+    ensures told { GivesRaw shapes.now is_lower format bytes.now out.old out.new result }
     ensures length { length out.new ≡ length out.old }
 {
     let mut reader = Watched::new(bytes);
     let mut output = Watched::new(Vec::new(alloc));
-    let made = raw_over(
-        alloc,
-        &mut reader,
-        &mut output,
-        is_lower,
-        format,
-        &Shapes::own(),
-    );
+    let made = raw_over(alloc, &mut reader, &mut output, is_lower, format, shapes);
     give(made, &output.into_inner(), out)
 }
 
 /// Runs a script, and puts its pages, or a part of them, at the front of the page's buffer.
 ///
 /// `four` and `five` are the printers that are present, `kept` is whether the status is kept (0 for
-/// no); `computer`, `printer_four` and `printer_five` are the delay numbers. `format`, `device` and
-/// `sheet` are those of [`crate::print1525_reprint`].
+/// no); `computer`, `printer_four` and `printer_five` are the delay numbers. `format`, `device`,
+/// `sheet` and `characters` are those of [`crate::print1525_reprint`].
 ///
 /// It is refused with the faults of [`pr_cli::pages_as_over`] but for reads and writes, for numbers
 /// that mean no such format, and where the text has more bytes than the buffer has room for. The
@@ -135,17 +166,26 @@ pub extern "C" fn print1525_part_of_pages(
     format: u8,
     device: u8,
     sheet: u64,
+    characters: &[u8],
     out: &mut [u8],
     answer: &mut Answer,
 )
-    ensures tells { TellsRun (shown_of format device sheet)
+    ensures tells { WithShapes characters.now (λ shapes. TellsRun (shown_of format device sheet) shapes
         (record { present = presence four five; delays = delays_of computer.now printer_four.now printer_five.now; mode = mode_of (is_yes kept) })
-        script.now out.old out.new answer.new }
+        script.now out.old out.new answer.new) }
     ensures length { length out.new ≡ length out.old }
 {
+    let shapes = shapes_for(characters);
     let Some(format) = shown_for(format, device, sheet) else {
         *answer = refused(24, 0);
         return;
+    };
+    let shapes = match shapes {
+        Ok(shapes) => shapes,
+        Err(CharactersFault::BadLine(line)) => {
+            *answer = refused(52, line);
+            return;
+        }
     };
     let present = Present {
         four: four != 0,
@@ -153,15 +193,56 @@ pub extern "C" fn print1525_part_of_pages(
     };
     let mode = mode_for(kept != 0);
     let told = match delays_for(alloc, computer, printer_four, printer_five) {
-        Ok(delays) => pages(alloc, script, present, delays, mode, format, out),
+        Ok(delays) => pages(alloc, script, present, delays, mode, format, &shapes, out),
         Err(AllocError) => Told::Refused(CliFault::NoMemory),
     };
     *answer = numbered(told);
 }
 
+/// Runs a script, and puts the bytes that a printer hears in its run at the front of the page's buffer. `device` is 4
+/// or 5; an absent printer hears nothing. The other arguments are those of [`print1525_part_of_pages`], and the answer's
+/// place is that of [`crate::print1525_heard`].
+///
+/// It is refused with the faults of [`pr_recording::run_bytes_over`] but for reads and writes, for another number than
+/// 4 or 5, and where there are more bytes than the buffer has room for. The buffer is then as it was. A run that a BASIC
+/// error stopped is answered as one that is done.
+#[unsafe(no_mangle)]
+pub extern "C" fn print1525_run_bytes(
+    alloc: Global,
+    script: &[u8],
+    four: u8,
+    five: u8,
+    kept: u8,
+    computer: &[u16],
+    printer_four: &[u16],
+    printer_five: &[u16],
+    device: u8,
+    out: &mut [u8],
+    answer: &mut Answer,
+)
+    ensures tells { TellsRunBytes (printer_of device)
+        (record { present = presence four five; delays = delays_of computer.now printer_four.now printer_five.now; mode = mode_of (is_yes kept) })
+        script.now out.old out.new answer.new }
+    ensures length { length out.new ≡ length out.old }
+{
+    let Some(device) = printer_for(device) else {
+        *answer = refused(21, 0);
+        return;
+    };
+    let present = Present {
+        four: four != 0,
+        five: five != 0,
+    };
+    let mode = mode_for(kept != 0);
+    *answer = match delays_for(alloc, computer, printer_four, printer_five) {
+        Ok(delays) => run_bytes(alloc, script, present, delays, mode, device, out),
+        Err(AllocError) => numbered(Told::Refused(CliFault::NoMemory)),
+    };
+}
+
 /// Puts the page that a printer prints of some bytes, or a part of it, at the front of the page's
 /// buffer. `lower` is whether the lower/upper case set is selected before them (0 for no); `format`,
-/// `device` and `sheet` are those of [`crate::print1525_reprint`].
+/// `device`, `sheet` and `characters` are those of [`crate::print1525_reprint`].
 ///
 /// It is refused with the faults of [`pr_cli::raw_over`] but for reads and writes, and as
 /// [`print1525_part_of_pages`] is.
@@ -173,17 +254,23 @@ pub extern "C" fn print1525_part_of_raw(
     format: u8,
     device: u8,
     sheet: u64,
+    characters: &[u8],
     out: &mut [u8],
     answer: &mut Answer,
 )
-    ensures tells { TellsRaw (shown_of format device sheet) (is_yes lower) bytes.now out.old out.new answer.new }
+    ensures tells { WithShapes characters.now (λ shapes.
+        TellsRaw (shown_of format device sheet) shapes (is_yes lower) bytes.now out.old out.new answer.new) }
     ensures length { length out.new ≡ length out.old }
 {
+    let shapes = shapes_for(characters);
     let Some(format) = shown_for(format, device, sheet) else {
         *answer = refused(24, 0);
         return;
     };
-    *answer = numbered(raw(alloc, bytes, lower != 0, format, out));
+    *answer = match shapes {
+        Ok(shapes) => numbered(raw(alloc, bytes, lower != 0, format, &shapes, out)),
+        Err(CharactersFault::BadLine(line)) => refused(52, line),
+    };
 }
 
 /// The first line of a text.

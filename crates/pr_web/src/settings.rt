@@ -1,23 +1,54 @@
 //! What the numbers and bytes that the page passes mean.
 
 ghost use Rattle.std.specs.Prelude.{◌≡◌};
-ghost use Rattle.pr_web.specs.Settings.{IsInput, detail_of, device_of, format_of, mode_of, rate_of, report_of, sheet_of, shown_of, source_of, stop_of, wording_of};
+ghost use Rattle.pr_web.specs.Settings.{AsksShapes, IsInput, detail_of, device_of, format_of, mode_of, printer_of, rate_of, report_of, sheet_of, shown_of, source_of, stop_of, wording_of};
 
 use pr_basic::StatusMode;
 use pr_capture::{Signals, Source, TraceInput};
 use pr_channels::Stop;
+use pr_characters::{CharactersFault, read_shapes};
+use pr_dots::Shapes;
+use pr_options::found_source;
 use pr_recording::Wording;
 use pr_render::{Device, Format, Part};
 use pr_report::{Bounds, Detail, Report};
 
-/// The format of a recording: 0 a trace text, 1 a Value Change Dump, 2 a table of comma separated values.
-pub fn source_for(number: u8) -> Option<Source>
-    ensures { result ≡ source_of number }
+/// How many bytes of a recording show its format, at most.
+const FIRST: usize = 4096;
+
+/// The format of a recording: 0 a trace text, 1 a Value Change Dump, 2 a table of comma separated values; 3 the one
+/// that its first bytes show, or else a trace text, 4 the same, or else a table.
+pub fn source_for(number: u8, bytes: &[u8]) -> Option<Source>
+    ensures { result ≡ source_of number bytes.now }
 {
+    let first = &bytes[..bytes.len().min(FIRST)];
     match number {
         0 => Some(Source::Text),
         1 => Some(Source::Vcd),
         2 => Some(Source::Csv),
+        3 => Some(found_source(Source::Text, first)),
+        4 => Some(found_source(Source::Csv, first)),
+        _ => None,
+    }
+}
+
+/// The shapes that the page asks for: those of a file of characters, or this project's own where it is empty.
+pub fn shapes_for(characters: &[u8]) -> Result<Shapes, CharactersFault>
+    ensures { AsksShapes characters.now result }
+{
+    match characters {
+        [] => Ok(Shapes::own()),
+        [_, ..] => read_shapes(characters),
+    }
+}
+
+/// The printer with a number, 4 or 5.
+pub fn printer_for(number: u8) -> Option<Device>
+    ensures { result ≡ printer_of number }
+{
+    match number {
+        4 => Some(Device::Four),
+        5 => Some(Device::Five),
         _ => None,
     }
 }

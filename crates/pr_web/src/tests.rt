@@ -1,9 +1,11 @@
 use crate::answer::Answer;
 use crate::{
-    print1525_bounds, print1525_edges, print1525_explain_reading, print1525_explain_script,
-    print1525_explain_stop, print1525_explain_trace, print1525_part_of_pages,
-    print1525_part_of_raw, print1525_reading_rows, print1525_readings, print1525_report,
-    print1525_reprint, print1525_script_fault, print1525_statement_lines,
+    print1525_bounds, print1525_bus_asked, print1525_check_json, print1525_edges,
+    print1525_explain_reading, print1525_explain_script, print1525_explain_stop,
+    print1525_explain_trace, print1525_heard, print1525_intervals, print1525_part_of_pages,
+    print1525_part_of_raw, print1525_reading_rows, print1525_readings, print1525_refusal,
+    print1525_remarks, print1525_report, print1525_reprint, print1525_run_bytes,
+    print1525_script_fault, print1525_statement_lines, print1525_task,
 };
 use std::alloc::Global;
 
@@ -51,7 +53,7 @@ fn readings_of_a_recording(rt: HostRuntime) {
     assert!(rt; told.code == 2 && told.fault == 8 && told.place == 2 && told.length == 0);
     let told = read(rt.alloc(), b"Time [s],ATN,DATA\n0,1,1\n", 2, 0, &mut out);
     assert!(rt; told.code == 2 && told.fault == 32 && told.place == 1);
-    let told = read(rt.alloc(), b"0 111\n", 3, 0, &mut out);
+    let told = read(rt.alloc(), b"0 111\n", 5, 0, &mut out);
     assert!(rt; told.code == 2 && told.fault == 29 && told.place == 0);
     // JSON, and a number that means no wording.
     let told = read(rt.alloc(), b"0 111\n", 0, 4, &mut out);
@@ -79,6 +81,7 @@ fn pages_of_a_recording(rt: HostRuntime) {
         2,
         0,
         0,
+        &[],
         &mut out,
         &mut answer,
     );
@@ -188,6 +191,23 @@ fn reports_on_a_trace(rt: HostRuntime) {
         &mut answer,
     );
     assert!(rt; answer.code == 2 && answer.fault == 15 && answer.place == 1);
+    // The same as JSON.
+    let mut text = [7u8; 999];
+    print1525_check_json(
+        rt.alloc(),
+        b"0 111\n5 110\n",
+        0,
+        atn,
+        clock,
+        line,
+        0,
+        0,
+        0,
+        &mut text,
+        &mut answer,
+    );
+    assert!(rt; answer.code == 2 && answer.fault == 15 && answer.place == 1);
+    assert!(rt; text.starts_with(b"{"));
 }
 
 #[test]
@@ -206,16 +226,184 @@ fn parts_of_pages(rt: HostRuntime) {
         2,
         5,
         0,
+        &[],
         &mut out,
         &mut answer,
     );
     assert!(rt; answer.code == 0);
     assert!(rt; out.starts_with(b"<svg "));
     // A PDF document has no single sheet, and there is no second one.
-    print1525_part_of_raw(rt.alloc(), b"A\r", 0, 4, 0, 1, &mut out, &mut answer);
+    print1525_part_of_raw(rt.alloc(), b"A\r", 0, 4, 0, 1, &[], &mut out, &mut answer);
     assert!(rt; answer.code == 2 && answer.fault == 24);
-    print1525_part_of_raw(rt.alloc(), b"A\r", 0, 3, 0, 2, &mut out, &mut answer);
+    print1525_part_of_raw(rt.alloc(), b"A\r", 0, 3, 0, 2, &[], &mut out, &mut answer);
     assert!(rt; answer.code == 2 && answer.fault == 50 && answer.place == 1);
+    // A file of characters with a bad first line.
+    print1525_part_of_raw(
+        rt.alloc(),
+        b"A\r",
+        0,
+        3,
+        0,
+        1,
+        b"lower 32\n",
+        &mut out,
+        &mut answer,
+    );
+    assert!(rt; answer.code == 2 && answer.fault == 52 && answer.place == 1);
+}
+
+#[test]
+fn bytes_of_a_printer(rt: HostRuntime) {
+    let mut out = [7u8; 99];
+    let mut answer = NOTHING;
+    let (atn, clock, line) = NAMES;
+    // A byte that another follows is sent: H in the graphic/upper case set, then I in the other one.
+    let script = b"OPEN 4,4:PRINT#4,\"HI\";:CLOSE 4:OPEN 7,4,7:PRINT#7,\"J\"";
+    print1525_run_bytes(
+        rt.alloc(),
+        script,
+        1,
+        0,
+        0,
+        &[],
+        &[],
+        &[],
+        4,
+        &mut out,
+        &mut answer,
+    );
+    assert!(rt; answer.code == 0 && answer.place == 2 && out.starts_with(b"HIJ"));
+    // Printer 5 is absent, and there is no printer 6.
+    print1525_run_bytes(
+        rt.alloc(),
+        script,
+        1,
+        0,
+        0,
+        &[],
+        &[],
+        &[],
+        5,
+        &mut out,
+        &mut answer,
+    );
+    assert!(rt; answer.code == 0 && answer.place == 0 && answer.length == 0);
+    print1525_run_bytes(
+        rt.alloc(),
+        script,
+        1,
+        0,
+        0,
+        &[],
+        &[],
+        &[],
+        6,
+        &mut out,
+        &mut answer,
+    );
+    assert!(rt; answer.code == 2 && answer.fault == 21);
+    print1525_heard(
+        rt.alloc(),
+        CALL,
+        0,
+        atn,
+        clock,
+        line,
+        0,
+        0,
+        0,
+        4,
+        &mut out,
+        &mut answer,
+    );
+    assert!(rt; answer.code == 0 && answer.length == 0);
+}
+
+#[test]
+fn words_of_a_command_line(rt: HostRuntime) {
+    let mut out = [7u64; 40];
+    let mut text = [7u8; 4000];
+    let mut answer = NOTHING;
+    print1525_task(
+        rt.alloc(),
+        b"print1525\0pages\0a\0--as\0svg\0--device\05",
+        &mut out,
+        &mut answer,
+    );
+    assert!(rt; answer.code == 0);
+    assert!(rt; out.starts_with(&[0, 0, 1, 1, 0, 0, 2, 5, 0, 0, 0, 1, 1, 97, 0, 0, 7]));
+    // JSON of a table that starts 5 microseconds before its own moment 0.
+    print1525_task(
+        rt.alloc(),
+        b"print1525\0check\0a.csv\0--from-time=-5\0--names\0a,b,c\0-o\0b.json",
+        &mut out,
+        &mut answer,
+    );
+    assert!(rt; answer.code == 0 && answer.length == 30);
+    assert!(rt; out.starts_with(&[2, 2, 2, 0, 0, 0, 1, 97, 1, 98, 1, 99, 1, 5, 1, 5, 97]));
+    print1525_task(
+        rt.alloc(),
+        b"print1525\0raw\0--set\0wrong",
+        &mut out,
+        &mut answer,
+    );
+    assert!(rt; answer.code == 2 && answer.fault == 54);
+    print1525_refusal(
+        rt.alloc(),
+        b"print1525\0raw\0--set\0wrong",
+        0,
+        &mut text,
+        &mut answer,
+    );
+    assert!(rt; answer.code == 0 && answer.place == 2);
+    assert!(rt; text.starts_with(b"print1525: bad --set wrong: "));
+    print1525_refusal(
+        rt.alloc(),
+        b"print1525\0--version",
+        0,
+        &mut text,
+        &mut answer,
+    );
+    assert!(rt; answer.code == 0 && answer.place == 0 && text.starts_with(b"print1525 "));
+    print1525_refusal(rt.alloc(), b"print1525\0a.bas", 0, &mut text, &mut answer);
+    assert!(rt; answer.place == 2 && text.starts_with(b"error: unrecognized subcommand 'a.bas'"));
+    print1525_bus_asked(
+        rt.alloc(),
+        b"print1525\0bus\0--delays\01",
+        b"OPEN 4,4:PRINT#4",
+        &mut text,
+        &mut answer,
+    );
+    assert!(rt; answer.code == 0 && text.starts_with(b"0 111\n101 001\n"));
+    print1525_bus_asked(rt.alloc(), b"print1525\0pages", b"", &mut text, &mut answer);
+    assert!(rt; answer.code == 2 && answer.fault == 54);
+}
+
+#[test]
+fn lengths_of_intervals(rt: HostRuntime) {
+    let mut out = [7u64; 70];
+    let mut answer = NOTHING;
+    let (atn, clock, line) = NAMES;
+    // One byte, ready after 50 microseconds, whose CLOCK is pulled 40 later: the recording ends before a bit.
+    print1525_intervals(
+        rt.alloc(),
+        CALL,
+        0,
+        atn,
+        clock,
+        line,
+        0,
+        0,
+        0,
+        &mut out,
+        &mut answer,
+    );
+    assert!(rt; answer.code == 0 && answer.length == 70);
+    assert!(rt;
+        out.starts_with(&[
+            1, 50, 50, 50, 1, 10000, 0, 1, 40, 40, 40, 1, 199, 0, 0, 0, 0, 0, 200, 250, 0
+        ])
+    );
 }
 
 #[test]
@@ -281,4 +469,30 @@ fn explanations(rt: HostRuntime) {
         &mut answer,
     );
     assert!(rt; answer.code == 0 && answer.place == 0 && answer.length == 0);
+}
+
+#[test]
+fn remarks_on_a_recording(rt: HostRuntime) {
+    let mut out = [7u8; 999];
+    let mut answer = NOTHING;
+    let (atn, clock, line) = NAMES;
+    // All three lines are first known 5 microseconds after the start, and no byte comes.
+    let dump =
+        b"$timescale 1 us $end $var wire 1 a ATN $end $var wire 1 c CLOCK $end $var wire 1 d DATA $end\n\
+        $enddefinitions $end\n#0 1a 1c #5 1d #9 0c\n";
+    print1525_remarks(
+        rt.alloc(),
+        dump,
+        1,
+        atn,
+        clock,
+        line,
+        0,
+        0,
+        0,
+        &mut out,
+        &mut answer,
+    );
+    assert!(rt; answer.code == 0 && answer.place == 5 && answer.length > 0);
+    assert!(rt; out.starts_with(b"no byte is acknowledged"));
 }

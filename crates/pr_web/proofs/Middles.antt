@@ -1,0 +1,42 @@
+-- The middle of lengths, found between two numbers.
+use Rattle.std.proofs.Common.{◌≡◌, ℕ, ◌+◌, ◌*◌, ◌<◌, ◌≤◌, List, [], ◌∷◌, length, refl, sym, ◌∙◌, true, false, arith}
+use Rattle.std.specs.Prelude.{max, nat_le}
+use Rattle.pr_decode.specs.Readings.{greatest}
+use Rattle.std.proofs.lemmas.Grind.{common_steps}
+use Rattle.pr_report.specs.ReadingLaws.{MiddlesAreLeast}
+use Rattle.pr_report.specs.Summary.{at_most, is_half, middle}
+
+-- of no lengths it is 0
+middle_none : middle [] ≡ 0
+unfolding middle
+middle_none = refl
+
+-- below it each number is exceeded by more
+found_at : (ns : List ℕ) (low mid : ℕ) → ((k : ℕ) → k < low → is_half ns k ≡ false) → is_half ns low ≡ true
+    → is_half ns mid ≡ true → ((k : ℕ) → is_half ns k ≡ true → mid ≤ k) → low ≡ mid
+found_at ns low mid below half is least =
+    let above : mid < low → ⊥ = λ h. absurd (let e : false ≡ true = sym (below mid h) ∙ is in cc) in
+    let most : mid ≤ low = least low half in
+    grind (arith, common_steps, above, most)
+
+found_none : (low : ℕ) → ((k : ℕ) → k < low → is_half [] k ≡ false) → low ≡ 0
+found_none low below =
+    let above : 0 < low → ⊥ = λ h. absurd (let e : true ≡ false = below 0 h in cc) in
+    grind (arith, common_steps, above)
+
+pub middle_found : (ns : List ℕ) (low : ℕ) → MiddlesAreLeast → ((k : ℕ) → k < low → is_half ns k ≡ false) → is_half ns low ≡ true → low ≡ middle ns
+middle_found [] low law below half = found_none low below ∙ sym middle_none
+middle_found (n ∷ ns) low law below half = found_at (n ∷ ns) low (middle (n ∷ ns)) below half (law n ns).0 (law n ns).1
+
+-- the greatest of lengths is exceeded by none
+none_above : (acc : ℕ) (ns : List ℕ) (g : ℕ) → greatest acc ns ≤ g → (acc ≤ g) × (at_most g ns ≡ length ns)
+none_above acc [] g h = (h, refl)
+none_above acc (m ∷ ms) g h =
+    let r = none_above (max acc m) ms g h in
+    let here : nat_le m g ≡ true = grind (arith, common_steps, r.0) in
+    (grind (arith, common_steps, r.0), grind (arith, common_steps, here, r.1))
+
+pub greatest_is_half : (ns : List ℕ) → is_half ns (greatest 0 ns) ≡ true
+greatest_is_half ns =
+    let all : at_most (greatest 0 ns) ns ≡ length ns = (none_above 0 ns (greatest 0 ns) (omega arith)).1 in
+    grind (arith, common_steps, all)

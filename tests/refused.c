@@ -1,0 +1,325 @@
+/* Each allocation of each call of include/print1525.h refused in turn, alone and with all that follow: refused CHARACTERS [tell]
+ *
+ * CHARACTERS is a file as of --characters. Every call that takes memory is made over small inputs with its settings in turn. Where an
+ * allocation is refused, the call fails with PRINT1525_FAULT_NO_MEMORY and nothing else in the details, or it does without and answers as
+ * ever. In both cases all memory is given back, each block once; the inputs and the settings stay as they were, and so does the whole
+ * buffer of a call that fails. Calls for edges and words take no memory at all. Nothing waits: a call that takes more than MOST
+ * allocations, and a test that takes more than SECONDS, is WRONG. Status 0, else 1 and a line for each thing that is WRONG. With `tell` it
+ * writes how many allocations each call made. Linked with -Wl,--wrap=malloc,--wrap=realloc,--wrap=free. */
+#define _DEFAULT_SOURCE
+#include "print1525.h"
+#include <stdio.h>
+#include <stdlib.h>
+#include <string.h>
+#include <unistd.h>
+
+#define ROOM (1 << 18)
+#define UNTOUCHED 0xA5
+#define MOST 3000
+#define SECONDS 300
+#define BLOCK 0x0123456789ABCDEFu
+
+void *__real_malloc(size_t size);
+void __real_free(void *old);
+void *__wrap_malloc(size_t size);
+void *__wrap_realloc(void *old, size_t size);
+void __wrap_free(void *old);
+
+static int wrong;
+static const char *name_now = "";
+
+static void is_wrong(const char *what, long number) {
+    if (wrong++ < 20) fprintf(stderr, "WRONG: %s: %s, %ld\n", name_now, what, number);
+}
+
+/* The number of blocks that are not given back, of allocations asked for, and the first that is refused. */
+static long live, taken, refused_from, refused_to;
+
+/* What a block begins with. */
+typedef struct {
+    uint64_t mark;
+    size_t size;
+} head;
+
+static int is_refused(void) {
+    taken++;
+    return refused_from > 0 && taken >= refused_from && taken <= refused_to;
+}
+
+void *__wrap_malloc(size_t size) {
+    head *block;
+    if (is_refused()) return NULL;
+    block = (head *)__real_malloc(size + sizeof *block);
+    if (block == NULL) exit(98);
+    block->mark = BLOCK;
+    block->size = size;
+    memset(block + 1, 0x5A, size);
+    live++;
+    return block + 1;
+}
+
+void __wrap_free(void *old) {
+    head *block;
+    if (old == NULL) return;
+    block = (head *)old - 1;
+    if (block->mark != BLOCK) is_wrong("memory is given back that nobody took", taken);
+    block->mark = 0;
+    live--;
+    __real_free(block);
+}
+
+void *__wrap_realloc(void *old, size_t size) {
+    void *made;
+    if (is_refused()) return NULL;
+    taken--;
+    made = __wrap_malloc(size);
+    if (made != NULL && old != NULL) {
+        const size_t before = ((head *)old - 1)->size;
+        memcpy(made, old, before < size ? before : size);
+        __wrap_free(old);
+    }
+    return made;
+}
+
+/* Inputs. */
+static const char script[] = "10 OPEN 4,4\nOPEN 5,5,7\nCMD 4,\"ON BOTH\";\nPRINT#5,CHR$(14)\"WIDE\"\nPRINT#4,CHR$(8)\"ABC\"CHR$(26)CHR$(9)\"X\"\nCLOSE 4\n";
+static const char stopping[] = "OPEN 4,4\nPRINT#4,\"A\"\nPRINT#9\n";
+static const char bad_script[] = "OPEN 4,4\nPRONT#4\n";
+static const char petcat[] = "10 open4,4\n20 print#4,\"{rvon}hello{2 down}\"\n30 print#9\n";
+static const char program[] = "\001\010\017\010\012\000\237 \064,\064\000\000\000";
+static const char bytes[] = "DEAR READER,\r\022REVERSED\r\010ABC\017\016WIDE\r";
+static const uint16_t inputs[] = {PRINT1525_SELECT_LOWER, 65, 66, 13, 8, 255, 13, 14, 67, 13};
+static const uint16_t bad_inputs[] = {65, 258, 66};
+static const uint16_t delays[] = {7, 9, 1};
+static const char csv[] = "Time [s],ATN,CLK,DATA\n0,1,1,1\n0.0001,0,1,1\n0.0011,0,0,1\n0.0012,0,0,0\n";
+static const char bad_csv[] = "Time [s],ATN,CLK,DATA\n0,1,1,1\n0.0001,0,1,1\n0.0011,0,0,1\n0.0012,0,?,0\n";
+static char trace[ROOM], dump[ROOM], cut[ROOM];
+static size_t trace_length, dump_length, cut_length;
+static char characters[ROOM];
+static size_t characters_length;
+
+/* A call with what it is passed. */
+typedef struct {
+    const char *name;
+    const void *input;
+    size_t length;
+    print1525_settings settings;
+} job;
+
+static int make(const job *j, const print1525_settings *settings, uint8_t *buffer, size_t capacity, print1525_details *details) {
+    const char *const it = j->name;
+    print1525_details stop = {PRINT1525_STOPPED, PRINT1525_STOP_FILE_NOT_OPEN, 3, 0, 0};
+    int status;
+    if (strcmp(it, "pages") == 0) return print1525_pages(j->input, j->length, settings, buffer, capacity, details);
+    if (strcmp(it, "bus") == 0) return print1525_bus(j->input, j->length, settings, buffer, capacity, details);
+    if (strcmp(it, "listing") == 0) return print1525_listing(j->input, j->length, settings, buffer, capacity, details);
+    if (strcmp(it, "raw") == 0) return print1525_raw(j->input, j->length, settings, buffer, capacity, details);
+    if (strcmp(it, "print") == 0) return print1525_print((const uint16_t *)j->input, j->length / 2, settings, buffer, capacity, details);
+    if (strcmp(it, "check") == 0) return print1525_check(j->input, j->length, settings, buffer, capacity, details);
+    if (strcmp(it, "readings") == 0) return print1525_readings(j->input, j->length, settings, buffer, capacity, details);
+    if (strcmp(it, "reprint") == 0) return print1525_reprint(j->input, j->length, settings, buffer, capacity, details);
+    if (strcmp(it, "explain_script") == 0) return print1525_explain_script(j->input, j->length, settings, buffer, capacity, details);
+    if (strcmp(it, "explain_stop") == 0) return print1525_explain_stop(j->input, j->length, settings, &stop, buffer, capacity, details);
+    if (strcmp(it, "explain_trace") == 0) return print1525_explain_trace(j->input, j->length, settings, buffer, capacity, details);
+    if (strcmp(it, "explain_reading") == 0) return print1525_explain_reading(j->input, j->length, settings, buffer, capacity, details);
+    if (strcmp(it, "edges") != 0) exit(98);
+    status = print1525_edges(j->input, j->length, settings, (print1525_edge *)(void *)buffer, capacity / sizeof(print1525_edge), details);
+    details->length *= sizeof(print1525_edge);
+    return status;
+}
+
+static uint8_t true_text[ROOM], buffer[ROOM], before[ROOM];
+
+static int is_untouched(size_t from) {
+    size_t index;
+    for (index = from; index < ROOM; index++)
+        if (buffer[index] != UNTOUCHED) return 0;
+    return 1;
+}
+
+/* The call with these allocations refused. Gives whether it failed for them. */
+static int refuse(const job *j, long from, long to, const print1525_details *truth) {
+    const print1525_settings settings = j->settings;
+    print1525_details details;
+    int status;
+    memset(buffer, UNTOUCHED, ROOM);
+    memset(&details, UNTOUCHED, sizeof details);
+    taken = 0;
+    refused_from = from;
+    refused_to = to;
+    status = make(j, &settings, buffer, ROOM, &details);
+    refused_from = 0;
+    if (status != details.status) is_wrong("another status than the details have", from);
+    if (live != 0) is_wrong("memory is not given back after allocation", from);
+    live = 0;
+    if (taken > MOST) is_wrong("more allocations after a refused one", taken);
+    if (memcmp(before, j->input, j->length) != 0) is_wrong("the input is changed by refused allocation", from);
+    if (memcmp(&settings, &j->settings, sizeof settings) != 0) is_wrong("the settings are changed by refused allocation", from);
+    if (status == PRINT1525_FAILED) {
+        if (details.fault != PRINT1525_FAULT_NO_MEMORY || details.place || details.column || details.length) is_wrong("the details of refused allocation", from);
+        if (!is_untouched(0)) is_wrong("the buffer is written by refused allocation", from);
+        return 1;
+    }
+    if (memcmp(&details, truth, sizeof details) != 0 || memcmp(buffer, true_text, details.length) != 0 || !is_untouched(details.length))
+        is_wrong("another answer with refused allocation", from);
+    return 0;
+}
+
+/* Each allocation of a call. */
+static void try_call(const job *j, int tells) {
+    print1525_details truth;
+    long all, number, failed = 0;
+    name_now = j->name;
+    memcpy(before, j->input, j->length);
+    memset(buffer, UNTOUCHED, ROOM);
+    memset(&truth, UNTOUCHED, sizeof truth);
+    taken = refused_from = 0;
+    make(j, &j->settings, buffer, ROOM, &truth);
+    all = taken;
+    if (truth.status == PRINT1525_FAILED) is_wrong("no answer", truth.fault);
+    if (live != 0) is_wrong("memory is not given back", live);
+    live = 0;
+    if (all > MOST) is_wrong("too many allocations", all);
+    memcpy(true_text, buffer, ROOM);
+    for (number = 1; number <= all && wrong < 20; number++) {
+        failed += refuse(j, number, number, &truth);
+        refuse(j, number, MOST, &truth);
+    }
+    if (all > 0 && failed == 0) is_wrong("no refused allocation is told", all);
+    if (all > 0 && refuse(j, 1, MOST, &truth) == 0) is_wrong("an answer without any memory", all);
+    if (tells) printf("%s: %ld allocations, %ld told, status %d, %lu bytes\n", j->name, all, failed, truth.status, (unsigned long)truth.length);
+}
+
+static print1525_settings defaults(void) {
+    const print1525_settings made = PRINT1525_SETTINGS_INIT;
+    return made;
+}
+
+/* The calls that draw pages, in each format, of all sheets and of one, with characters of the project and of a file. */
+static void try_pages(const char *name, const void *input, size_t length, uint8_t from, int tells) {
+    static const uint8_t formats[] = {PRINT1525_PAGE_LIST, PRINT1525_PAGE_TEXT, PRINT1525_PAGE_SVG, PRINT1525_PAGE_PNG, PRINT1525_PAGE_PDF};
+    size_t index, way;
+    for (index = 0; index < sizeof formats; index++)
+        for (way = 0; way < 3; way++) {
+            job j;
+            j.name = name;
+            j.input = input;
+            j.length = length;
+            j.settings = defaults();
+            j.settings.from = from;
+            j.settings.page = formats[index];
+            j.settings.computer_delays.numbers = delays;
+            j.settings.computer_delays.length = way;
+            if (way == 1) j.settings.sheet = 1, j.settings.printer = PRINT1525_PAGE_PNG == formats[index] ? 4 : 0;
+            if (way == 2) j.settings.characters = characters, j.settings.characters_length = characters_length;
+            try_call(&j, tells);
+        }
+}
+
+static void try_one(const char *name, const void *input, size_t length, uint8_t from, uint8_t recording, uint8_t words, uint8_t trace_as, int tells) {
+    job j;
+    j.name = name;
+    j.input = input;
+    j.length = length;
+    j.settings = defaults();
+    j.settings.from = from;
+    j.settings.recording = recording;
+    j.settings.words = words;
+    j.settings.intervals = 1;
+    j.settings.trace = trace_as;
+    j.settings.printer4_delays.numbers = delays;
+    j.settings.printer4_delays.length = 3;
+    try_call(&j, tells);
+}
+
+/* The calls of a recording. */
+static void try_recording(const void *input, size_t length, uint8_t recording, int tells) {
+    try_one("check", input, length, 0, recording, PRINT1525_WORDS_LIST, 0, tells);
+    try_one("check", input, length, 0, recording, PRINT1525_WORDS_STORY, 0, tells);
+    try_one("readings", input, length, 0, recording, PRINT1525_WORDS_LIST, 0, tells);
+    try_one("readings", input, length, 0, recording, PRINT1525_WORDS_JSON, 0, tells);
+    try_one("reprint", input, length, 0, recording, 0, 0, tells);
+    try_one("explain_trace", input, length, 0, recording, 0, 0, tells);
+    try_one("explain_reading", input, length, 0, recording, 0, 0, tells);
+    try_one("edges", input, length, 0, recording, 0, 0, tells);
+}
+
+/* What takes edges or words takes no memory. */
+static void try_edges(void) {
+    static const print1525_edge edges[] = {{0, 1, 1, 1}, {100, 0, 1, 1}, {1100, 0, 0, 1}, {1110, 0, 0, 0}, {1300, 0, 1, 0}, {1310, 0, 1, 1}};
+    print1525_decoder decoder;
+    print1525_receiver receiver;
+    print1525_strict strict;
+    print1525_reading reading;
+    print1525_received received;
+    print1525_details details;
+    uint16_t input, received_inputs[4];
+    char text[99];
+    size_t index;
+    name_now = "edges and words";
+    taken = 0;
+    refused_from = 1;
+    refused_to = MOST;
+    print1525_decoder_begin(&decoder);
+    print1525_receiver_begin(&receiver, 4);
+    print1525_strict_begin(&strict, 4);
+    for (index = 0; index < sizeof edges / sizeof *edges; index++) {
+        if (print1525_decoder_edge(&decoder, &edges[index], &reading, &details) != PRINT1525_DONE) is_wrong("a decoder", details.fault);
+        if (print1525_receiver_edge(&receiver, &edges[index], &received, &details) != PRINT1525_DONE) is_wrong("a receiver", details.fault);
+        print1525_strict_edge(&strict, &edges[index], &input, &details);
+    }
+    print1525_decoder_end(&decoder, &reading, &details);
+    print1525_strict_end(&strict, &details);
+    print1525_strict_edges(4, edges, 1, received_inputs, 4, &details);
+    print1525_message(&details, text, sizeof text);
+    if (print1525_strerror(PRINT1525_FAULT_NO_MEMORY)[0] != 'o' || print1525_version()[0] != '1') is_wrong("words", 0);
+    refused_from = 0;
+    if (taken != 0) is_wrong("memory is taken", taken);
+}
+
+int main(int words, char **word) {
+    const int tells = words > 2;
+    print1525_settings settings = PRINT1525_SETTINGS_INIT;
+    print1525_details details;
+    FILE *const file = words > 1 ? fopen(word[1], "rb") : NULL;
+    if (file == NULL) return 98;
+    characters_length = fread(characters, 1, sizeof characters, file);
+    fclose(file);
+    alarm(SECONDS);
+    print1525_bus("OPEN 4,4\nPRINT#4,\"A\"\n", 21, &settings, trace, sizeof trace, &details);
+    trace_length = details.length;
+    settings.trace = PRINT1525_TRACE_VCD;
+    print1525_bus("OPEN 4,4\nPRINT#4,\"A\"\n", 21, &settings, dump, sizeof dump, &details);
+    dump_length = details.length;
+    memcpy(cut, trace, trace_length / 2);
+    memcpy(cut + trace_length / 2, "\n5 1111\n", 8);
+    cut_length = trace_length / 2 + 8;
+
+    try_pages("pages", script, sizeof script - 1, PRINT1525_FROM_TEXT, tells);
+    try_pages("pages", petcat, sizeof petcat - 1, PRINT1525_FROM_PETCAT, tells);
+    try_pages("raw", bytes, sizeof bytes - 1, 0, tells);
+    try_pages("print", inputs, sizeof inputs, 0, tells);
+    try_pages("reprint", trace, trace_length, 0, tells);
+    try_one("pages", stopping, sizeof stopping - 1, 0, 0, 0, 0, tells);
+    try_one("pages", program, sizeof program - 1, PRINT1525_FROM_PRG, 0, 0, 0, tells);
+    try_one("pages", bad_script, sizeof bad_script - 1, 0, 0, 0, 0, tells);
+    try_one("print", bad_inputs, sizeof bad_inputs, 0, 0, 0, 0, tells);
+    try_one("bus", script, sizeof script - 1, 0, 0, 0, PRINT1525_TRACE_TEXT, tells);
+    try_one("bus", stopping, sizeof stopping - 1, 0, 0, 0, PRINT1525_TRACE_VCD, tells);
+    try_one("bus", petcat, sizeof petcat - 1, PRINT1525_FROM_PETCAT, 0, 0, PRINT1525_TRACE_TEXT, tells);
+    try_one("listing", script, sizeof script - 1, PRINT1525_FROM_TEXT, 0, 0, 0, tells);
+    try_one("listing", program, sizeof program - 1, PRINT1525_FROM_PRG, 0, 0, 0, tells);
+    try_one("listing", petcat, sizeof petcat - 1, PRINT1525_FROM_PETCAT, 0, 0, 0, tells);
+    try_one("explain_script", bad_script, sizeof bad_script - 1, 0, 0, 0, 0, tells);
+    try_one("explain_script", petcat, sizeof petcat - 1, PRINT1525_FROM_PETCAT, 0, 0, 0, tells);
+    try_one("explain_stop", stopping, sizeof stopping - 1, 0, 0, 0, 0, tells);
+    try_one("explain_stop", petcat, sizeof petcat - 1, PRINT1525_FROM_PETCAT, 0, 0, 0, tells);
+    try_recording(trace, trace_length, PRINT1525_RECORDING_TEXT, tells);
+    try_recording(cut, cut_length, PRINT1525_RECORDING_TEXT, tells);
+    try_recording(dump, dump_length, PRINT1525_RECORDING_VCD, tells);
+    try_recording(dump, dump_length / 2, PRINT1525_RECORDING_VCD, tells);
+    try_recording(csv, sizeof csv - 1, PRINT1525_RECORDING_CSV, tells);
+    try_recording(bad_csv, sizeof bad_csv - 1, PRINT1525_RECORDING_CSV, tells);
+    try_edges();
+    return wrong != 0;
+}
