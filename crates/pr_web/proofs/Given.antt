@@ -16,6 +16,7 @@ use Rattle.pr_cli.specs.Check.{trace_limit}
 use Rattle.pr_render.specs.declared.format.Format.{Format}
 use Rattle.pr_capture.specs.declared.format.TraceInput.{TraceInput}
 use Rattle.pr_recording.specs.Bytes.{AnswersBytes}
+use Rattle.pr_recording.specs.Checked.{AnswersJson}
 use Rattle.pr_recording.specs.Decoded.{AnswersDecode}
 use Rattle.pr_recording.specs.RunBytes.{AnswersRunBytes}
 use Rattle.pr_recording.specs.declared.byte_log.Heard.{Heard}
@@ -32,7 +33,7 @@ use Rattle.pr_report.specs.declared.report.Report.{Report}
 use Rattle.pr_recording.specs.declared.wording.Wording.{Wording}
 use Rattle.pr_report.specs.declared.detail.Detail.{Detail}
 use Rattle.pr_report.specs.Contexts.{at_start}
-use Rattle.pr_web.specs.Giving.{Gives, GivesBus, GivesEdges, GivesFault, GivesIntervals, GivesLines, GivesPages, GivesRaw, GivesReadings, GivesReport, GivesRows, GivesRun, HandsBytes, HandsRunBytes, Made, beside, heard_in_run, made_of, without_value}
+use Rattle.pr_web.specs.Giving.{Gives, GivesBus, GivesEdges, GivesFault, GivesIntervals, GivesJson, GivesLines, GivesPages, GivesRaw, GivesReadings, GivesReport, GivesRows, GivesRun, HandsBytes, HandsRunBytes, Made, beside, heard_in_run, made_of, without_value}
 use Rattle.pr_web.specs.Lengths.{interval_numbers}
 use Rattle.pr_web.specs.Numbers.{AreLineNumbers, IsFaultRow, edge_numbers, reading_rows}
 use Rattle.pr_web.specs.Rows.{EndsReadings}
@@ -54,6 +55,11 @@ gives-pages shapes input format bytes text old new made told a g = (made, text, 
 pub gives-report : (input : TraceInput) (report : Report) (bytes text old new : List ℕ) (made : Made) (told : Told)
     → AnswersReport input report bytes (Some []) (Some text) made → Gives made text old new told → GivesReport input report bytes old new told
 gives-report input report bytes text old new made told a g = (made, text, a, g)
+
+-- so are the readings of a trace as JSON
+pub gives-json : (input : TraceInput) (bytes text old new : List ℕ) (made : Made) (told : Told)
+    → AnswersJson input bytes (Some []) (Some text) made → Gives made text old new told → GivesJson input bytes old new told
+gives-json input bytes text old new made told a g = (made, text, a, g)
 
 -- so are the pages of a run
 pub gives-run : (shapes : Shapes) (start : Start) (format : Format) (script text old new : List ℕ) (made : Result Ending CliFault) (told : Told)

@@ -5,3 +5,4 @@ pub mod Kept
 pub mod Lines
 pub mod Middles
 pub mod CutWords
+pub mod Asking

@@ -1,5 +1,5 @@
 -- The middle of lengths, found between two numbers.
-use Rattle.std.proofs.Common.{◌≡◌, ℕ, ◌+◌, ◌*◌, ◌<◌, ◌≤◌, List, [], ◌∷◌, length, refl, sym, ◌∙◌, true, false, arith}
+use Rattle.std.proofs.Common.{◌≡◌, ℕ, ◌+◌, ◌*◌, ◌<◌, ◌≤◌, List, [], ◌∷◌, length, refl, sym, ◌∙◌, Bool, true, false, arith}
 use Rattle.std.specs.Prelude.{max, nat_le}
 use Rattle.pr_decode.specs.Readings.{greatest}
 use Rattle.std.proofs.lemmas.Grind.{common_steps}
@@ -40,3 +40,19 @@ pub greatest_is_half : (ns : List ℕ) → is_half ns (greatest 0 ns) ≡ true
 greatest_is_half ns =
     let all : at_most (greatest 0 ns) ns ≡ length ns = (none_above 0 ns (greatest 0 ns) (omega arith)).1 in
     grind (arith, common_steps, all)
+
+-- more lengths do not exceed a greater number
+at_most_grows : (k m : ℕ) (ns : List ℕ) → k ≤ m → at_most k ns ≤ at_most m ns
+at_most_grows k m [] h = omega arith
+at_most_grows k m (n ∷ ns) h = let rest = at_most_grows k m ns h in grind (arith, common_steps, h, rest)
+
+half_grows : (ns : List ℕ) (k m : ℕ) → k ≤ m → is_half ns k ≡ true → is_half ns m ≡ true
+half_grows ns k m h is = let most = at_most_grows k m ns h in grind (arith, common_steps, most, is)
+
+-- where a number is exceeded by more, each one below it is
+pub below_more : (ns : List ℕ) (between : ℕ) → is_half ns between ≡ false → (k : ℕ) → k < between + 1 → is_half ns k ≡ false
+below_more ns between exceeded k h = by (is_half ns k) refl
+  where
+    by : (v : Bool) → is_half ns k ≡ v → is_half ns k ≡ false
+    by true e = absurd (let is : is_half ns between ≡ true = half_grows ns k between (omega (arith, h)) e in cc)
+    by false e = e

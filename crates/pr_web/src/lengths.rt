@@ -6,7 +6,7 @@ ghost use Rattle.std.specs.List.{count_by};
 ghost use Rattle.std.specs.Option.{option_map};
 ghost use Rattle.pr_decode.specs.Readings.{greatest};
 ghost use Rattle.pr_report.specs.declared.detail.Bounds.TheVariants.{Profile};
-ghost use Rattle.pr_report.specs.Intervals.{acknowledgement_in, if_bits, is_outside, kind_of, length_of, lowest_of, profile_greatest, transfer_of, unless_answered};
+ghost use Rattle.pr_report.specs.Intervals.{acknowledgement_in, if_bits, intervals, is_outside, kind_of, length_of, lowest_of, profile_greatest, transfer_of, unless_answered};
 ghost use Rattle.pr_report.specs.Summary.{at_most, is_half, least_of, lengths, middle};
 ghost use Rattle.pr_web.specs.Lengths.{figures, interval_numbers, interval_of, intervals_of};
 
@@ -42,7 +42,7 @@ pub enum Measure {
 }
 
 /// All intervals, in the order of their lines in a summary.
-pub const MEASURES: [Measure; 10] = [
+const MEASURES: [Measure; 10] = [
     Measure::Ready,
     Measure::FirstPull,
     Measure::Answer,
@@ -282,8 +282,15 @@ fn push_figures(numbers: &mut Vec<u64>, measure: Measure, lengths: &[u64]) -> Re
     ])
 }
 
+/// What the lengths of all intervals come to, over all readings.
+pub fn all_figures(alloc: Global, readings: &[Reading]) -> Result<Vec<u64>, NoMemory>
+    ensures { IfOk result (λ numbers. numbers.items ≡ interval_numbers intervals readings.now) }
+{
+    figures_of(alloc, &MEASURES, readings)
+}
+
 /// What the lengths of some intervals come to, over all readings.
-pub fn figures_of(
+fn figures_of(
     alloc: Global,
     measures: &[Measure],
     readings: &[Reading],

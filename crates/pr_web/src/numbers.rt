@@ -10,7 +10,7 @@ ghost use Rattle.pr_web.specs.Rows.{EndsReadings};
 ghost use Rattle.pr_web.specs.Settings.{detail_of, source_of};
 
 use crate::answer::{Answer, Told, ended, give, numbered, refused};
-use crate::lengths::{MEASURES, figures_of};
+use crate::lengths::all_figures;
 use crate::rows::{Ended, RecordingReadings, flag, longest_answer, rows_of};
 use crate::settings::{detail_for, input_for, source_for};
 use pr_capture::TraceInput;
@@ -117,7 +117,7 @@ fn intervals(alloc: Global, bytes: &[u8], input: TraceInput<'_>, out: &mut [u64]
     let Ok(read) = readings_of(alloc, said.edges.as_slice(), said.fault) else {
         return Told::Refused(CliFault::NoMemory);
     };
-    let Ok(numbers) = figures_of(alloc, &MEASURES, read.readings.as_slice()) else {
+    let Ok(numbers) = all_figures(alloc, read.readings.as_slice()) else {
         return Told::Refused(CliFault::NoMemory);
     };
     give(ended(read.stop), numbers.as_slice(), out)

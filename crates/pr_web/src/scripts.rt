@@ -11,7 +11,7 @@ ghost use Rattle.pr_basic.specs.declared.statement.Statement.{Statement};
 ghost use Rattle.pr_bus.specs.DelaysLeft.{numbers_left};
 ghost use Rattle.pr_cli.specs.Pages.{start_of};
 ghost use Rattle.pr_web.specs.Asked.{TellsFault, TellsLines, TellsRaw, TellsRun, TellsRunBytes};
-ghost use Rattle.pr_web.specs.Giving.{GivesFault, GivesLines, GivesRaw, GivesRun, HandsRunBytes, heard_in_run};
+ghost use Rattle.pr_web.specs.Giving.{GivesFault, GivesLines, GivesRaw, GivesRun, HandsRunBytes, HasNoMemory, heard_in_run};
 ghost use Rattle.pr_web.specs.Numbers.{AreLineNumbers, IsFaultRow, IsLabelNumber, IsWidth};
 ghost use Rattle.pr_web.specs.Rows.{StartsWithLine};
 ghost use Rattle.pr_web.specs.Settings.{WithShapes, delays_of, is_yes, mode_of, presence, printer_of, shown_of};
@@ -85,6 +85,29 @@ fn pages(
         shapes,
     );
     give(without_value(made), &output.into_inner(), out)
+}
+
+/// Runs a script at delays that are numbers, and puts its pages at the front of a buffer.
+fn pages_at(
+    alloc: Global,
+    script: &[u8],
+    present: Present,
+    computer: &[u16],
+    four: &[u16],
+    five: &[u16],
+    mode: StatusMode,
+    format: Format,
+    shapes: &Shapes,
+    out: &mut [u8],
+) -> Told
+    ensures told { GivesRun shapes.now (record { present = present; delays = delays_of computer.now four.now five.now; mode = mode }) format script.now out.old out.new result
+        ⊎ HasNoMemory out.old out.new result }
+    ensures length { length out.new ≡ length out.old }
+{
+    match delays_for(alloc, computer, four, five) {
+        Ok(delays) => pages(alloc, script, present, delays, mode, format, shapes, out),
+        Err(AllocError) => Told::Refused(CliFault::NoMemory),
+    }
 }
 
 /// Runs a script, and puts the bytes that a printer hears in its run at the front of a buffer.
@@ -180,23 +203,26 @@ pub extern "C" fn print1525_part_of_pages(
         *answer = refused(24, 0);
         return;
     };
-    let shapes = match shapes {
-        Ok(shapes) => shapes,
-        Err(CharactersFault::BadLine(line)) => {
-            *answer = refused(52, line);
-            return;
-        }
-    };
     let present = Present {
         four: four != 0,
         five: five != 0,
     };
     let mode = mode_for(kept != 0);
-    let told = match delays_for(alloc, computer, printer_four, printer_five) {
-        Ok(delays) => pages(alloc, script, present, delays, mode, format, &shapes, out),
-        Err(AllocError) => Told::Refused(CliFault::NoMemory),
+    *answer = match shapes {
+        Ok(shapes) => numbered(pages_at(
+            alloc,
+            script,
+            present,
+            computer,
+            printer_four,
+            printer_five,
+            mode,
+            format,
+            &shapes,
+            out,
+        )),
+        Err(CharactersFault::BadLine(line)) => refused(52, line),
     };
-    *answer = numbered(told);
 }
 
 /// Runs a script, and puts the bytes that a printer hears in its run at the front of the page's buffer. `device` is 4

@@ -1,6 +1,7 @@
 //! What the numbers and bytes that the page passes mean.
 
-ghost use Rattle.std.specs.Prelude.{◌≡◌};
+ghost use Rattle.std.specs.Prelude.{◌≡◌, take};
+ghost use Rattle.pr_options.specs.Found.{found_source};
 ghost use Rattle.pr_web.specs.Settings.{AsksShapes, IsInput, detail_of, device_of, format_of, mode_of, printer_of, rate_of, report_of, sheet_of, shown_of, source_of, stop_of, wording_of};
 
 use pr_basic::StatusMode;
@@ -16,18 +17,31 @@ use pr_report::{Bounds, Detail, Report};
 /// How many bytes of a recording show its format, at most.
 const FIRST: usize = 4096;
 
+/// The bytes that show a recording's format.
+fn first_of(bytes: &[u8]) -> &[u8]
+    ensures { result.now ≡ take 4096 bytes.now }
+{
+    &bytes[..FIRST.min(bytes.len())]
+}
+
+/// The format that they show, or else this one.
+fn found_in(source: Source, bytes: &[u8]) -> Source
+    ensures { result ≡ found_source source (take 4096 bytes.now) }
+{
+    found_source(source, first_of(bytes))
+}
+
 /// The format of a recording: 0 a trace text, 1 a Value Change Dump, 2 a table of comma separated values; 3 the one
 /// that its first bytes show, or else a trace text, 4 the same, or else a table.
 pub fn source_for(number: u8, bytes: &[u8]) -> Option<Source>
     ensures { result ≡ source_of number bytes.now }
 {
-    let first = &bytes[..bytes.len().min(FIRST)];
     match number {
         0 => Some(Source::Text),
         1 => Some(Source::Vcd),
         2 => Some(Source::Csv),
-        3 => Some(found_source(Source::Text, first)),
-        4 => Some(found_source(Source::Csv, first)),
+        3 => Some(found_in(Source::Text, bytes)),
+        4 => Some(found_in(Source::Csv, bytes)),
         _ => None,
     }
 }

@@ -7,7 +7,7 @@ ghost use Rattle.pr_cli.specs.Pages.{start_of};
 ghost use Rattle.pr_options.specs.Jobs.{input_view, job_view, task_view};
 ghost use Rattle.pr_web.specs.Giving.{GivesBus};
 ghost use Rattle.pr_web.specs.Numbers.{flag};
-ghost use Rattle.pr_web.specs.Words.{TellsBusAsked, TellsTask, before_numbers, check_number, counted, detail_number, device_number, form_number, format_numbers, input_numbers, job_numbers, mode_number, name_numbers, pages_numbers, printer_number, reading_numbers, report_number, source_number, task_numbers, trace_number, words_in};
+ghost use Rattle.pr_web.specs.Words.{TellsBusAsked, TellsTask, before_numbers, check_number, counted, detail_number, device_number, form_number, format_numbers, input_numbers, job_numbers, mode_number, name_numbers, pages_numbers, printer_number, reading_numbers, source_number, task_numbers, trace_number, words_in};
 
 use crate::answer::{Answer, Told, give, numbered, refused, without_value};
 use crate::rows::flag;
