@@ -23,8 +23,8 @@ dots_of_marks shapes marks = flat_map (mark_dots shapes) marks
 abbrev pub is_dark : List Dot → (x y : ℕ) → Bool
 is_dark dots x y = list_any (is_at (x / 2) y) dots || list_any (is_at (x / 2) (y - 1)) dots
 
--- a buffer shows a region of the page with these dots at its front, line by line, over what is under them at each place;
--- the rest of it is as it was
+-- a buffer shows a region of the page with these dots at its front, line by line, over what is under them at each
+-- place; the rest of it is as it was
 pub record ShowsRegion (dots : List Dot) (r : Region) (under : ℕ → ℕ) (old new : List ℕ) : Type 0 where
   pub fits : r.width * r.height ≤ length old
   pub pixels : (column line : ℕ) → column < r.width → line < r.height

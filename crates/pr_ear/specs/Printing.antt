@@ -1,5 +1,5 @@
--- Trusted: what a printer that is watched answers. `HasPrinted` holds of a printer that was begun, with no inputs and no
--- marks; each call says for which inputs and marks it holds next. The law `PrintersPrintPages` says what the marks are.
+-- Trusted: what a printer that is watched answers. `HasPrinted` holds of a printer that was begun, with no inputs and
+-- no marks; each call says for which inputs and marks it holds next. The law `PrintersPrintPages` says what they are.
 use Rattle.std.specs.Prelude.{◌≡◌, ◌≢◌, ℕ, ◌+◌, ◌<◌, ◌≤◌, List, [], ◌∷◌, ◌++◌, length, map, take, drop, nat_lt, if◌then◌else◌}
 use Rattle.pr_page.specs.Making.{HasMade}
 use Rattle.pr_page.specs.Marks.{marks_on}

@@ -154,8 +154,9 @@ fn pixels_of(region: &Region, room: usize) -> Drawn
     }
 }
 
-/// Draws marks over the pixels of a region of their page, which are at the front of a buffer, line by line from the top:
-/// a pixel becomes 0 where a dot is, and stays as it was elsewhere. It takes no memory, and time for the marks alone.
+/// Draws marks over the pixels of a region of their page, which are at the front of a buffer, line by line from the
+/// top: a pixel becomes 0 where a dot is, and stays as it was elsewhere. It takes no memory, and time for the marks
+/// alone.
 ///
 /// If the buffer is too small, or the region has 2^64 pixels or more, the buffer is as it was.
 pub fn draw_marks(marks: &[WireMark], region: &Region, out: &mut [u8]) -> Drawn
@@ -170,8 +171,8 @@ pub fn draw_marks(marks: &[WireMark], region: &Region, out: &mut [u8]) -> Drawn
     }
 }
 
-/// Puts the pixels of a region of a page with these marks at the front of a buffer, line by line from the top: 0 where a
-/// dot is, else 255. It takes no memory, and time for the marks and the pixels.
+/// Puts the pixels of a region of a page with these marks at the front of a buffer, line by line from the top: 0 where
+/// a dot is, else 255. It takes no memory, and time for the marks and the pixels.
 ///
 /// If the buffer is too small, or the region has 2^64 pixels or more, the buffer is as it was.
 pub fn draw_page(marks: &[WireMark], region: &Region, out: &mut [u8]) -> Drawn
@@ -212,14 +213,15 @@ pub extern "C" fn print1525_printer_draw(
     out: &mut [u8],
     answer: &mut Answer,
 )
-    ensures drawn { (drawn : Drawn) × IsDrawn own_shapes (map mark_by marks.now) region.now (pixels_in out.old) drawn out.old out.new
+    ensures drawn { (drawn : Drawn)
+        × IsDrawn own_shapes (map mark_by marks.now) region.now (pixels_in out.old) drawn out.old out.new
         × (answer.new ≡ drawn_answer drawn) }
 {
     *answer = drawn_answer(draw_marks(marks, region, out));
 }
 
-/// Puts the pixels of a region of a page with these marks at the front of a buffer. The answer is that of [`draw_page`],
-/// in plain numbers. Whatever numbers the marks have, they mean some marks. It takes no memory.
+/// Puts the pixels of a region of a page with these marks at the front of a buffer. The answer is that of
+/// [`draw_page`], in plain numbers. Whatever numbers the marks have, they mean some marks. It takes no memory.
 #[unsafe(no_mangle)]
 pub extern "C" fn print1525_printer_page(
     marks: &[WireMark],

@@ -1,4 +1,5 @@
-//! How a printer's head and the marks that it makes are held in plain numbers, which a caller of another language can own.
+//! How a printer's head and the marks that it makes are held in plain numbers, which a caller of another language can
+//! own.
 
 ghost use Rattle.std.specs.Prelude.{◌≡◌, ◌≤◌, ◌^◌, Bool, Option};
 ghost use Rattle.pr_page.specs.declared.pending.Pending.{Pending};
@@ -28,8 +29,9 @@ pub struct WireMark {
     pub wide: u8,
 }
 
-/// What a caller keeps of a printer between two bytes. The numbers are this library's: a caller writes none of them. All
-/// numbers mean some printer: an `x` above 480 is 480, a `y` above 2^63 is 2^63, and a number that means nothing is 0.
+/// What a caller keeps of a printer between two bytes. The numbers are this library's: a caller writes none of them.
+/// All numbers mean some printer: an `x` above 480 is 480, a `y` above 2^63 is 2^63, and a number that means nothing is
+/// 0.
 #[repr(C)]
 #[derive(Clone, Copy, Debug, PartialEq, Eq)]
 pub struct WirePrinter {
@@ -47,8 +49,8 @@ pub struct WirePrinter {
     pub override_set: u8,
     /// 1: the lower/upper case set is selected.
     pub lower: u8,
-    /// What has come of a command with parameters: 0 nothing, 1 the code 16, 2 and its first digit, 3 the code 26, 4 and
-    /// its count, 5 the code 27, 6 and the code 16, 7 and the first byte of the address.
+    /// What has come of a command with parameters: 0 nothing, 1 the code 16, 2 and its first digit, 3 the code 26, 4
+    /// and its count, 5 the code 27, 6 and the code 16, 7 and the first byte of the address.
     pub pending: u8,
     /// With 2, 4 and 7 the parameter that has come, else 0.
     pub parameter: u8,

@@ -33,7 +33,8 @@ pub struct Run {
     pub marks: usize,
 }
 
-/// Selects a character set of a printer: the lower/upper case set, or else the graphic/upper case set. It makes no mark.
+/// Selects a character set of a printer: the lower/upper case set, or else the graphic/upper case set. It makes no
+/// mark.
 pub fn select_set(printer: &mut WirePrinter, lower: bool)
     ensures { (inputs : List Input) (marks : List MarkOnPaper) → length inputs < 2 ^ 58 → HasPrinted inputs marks printer.old
         → HasPrinted (inputs ++ Input.Select lower ∷ []) marks printer.new }
