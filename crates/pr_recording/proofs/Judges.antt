@@ -1,18 +1,24 @@
 -- Edges that are judged one after another.
-use Rattle.std.proofs.Common.{◌≡◌, ℕ, ◌+◌, ◌<◌, List, [], ◌∷◌, ◌++◌, length, take, drop, get_or, refl, ap, sym, subst, ◌∙◌, arith, append-nil, append_assoc}
+use Rattle.std.proofs.Common.{◌≡◌, ℕ, ◌+◌, ◌<◌, List, [], ◌∷◌, ◌++◌, length, take, drop, get_or, refl, ap, sym, subst, ◌∙◌, arith, append-nil, append_assoc, None}
 use Rattle.std.proofs.Math.Seq.{take-add}
 use Rattle.pr_wire.specs.declared.Edge.{Edge}
 use Rattle.pr_wire.specs.declared.Frame.{Frame}
 use Rattle.pr_wire.specs.declared.follower.TraceFollower.{TraceFollower}
-use Rattle.pr_wire.specs.Following.{TakesFrame, outcome, refused_at, where_led}
+use Rattle.pr_wire.specs.Following.{HasAccepted, TakesFrame, outcome, refused_at, where_led}
 use Rattle.pr_capture.specs.declared.format.Source.{Source}
 use Rattle.pr_capture.specs.declared.format.Source.TheVariants as source
 use Rattle.pr_cli.specs.Begun.{CountsOn, HasBegun, KeepsTimes}
+use Rattle.pr_cli.specs.Report.{edges_checked}
 use Rattle.pr_cli.specs.declared.beginning.Beginning.{Beginning}
 use Rattle.pr_recording.specs.declared.judge.Judge.{Judge}
 use Rattle.pr_recording.specs.Judged.{HasJudged, IsFollowed, JudgesMore}
 
--- no edge was judged
+-- no edge was followed, or judged
+pub followed_none : (f : TraceFollower) → HasAccepted [] [] f → f.refused ≡ None → IsFollowed [] f
+followed_none f accepted works =
+    let none : List Frame = [] in
+    (none, accepted ∙ sym (ap (λ v. outcome (refused_at v f.taken) (where_led f none)) works))
+
 pub judged_none : (s : Source) (j : Judge) → HasBegun s [] j.beginning → IsFollowed [] j.follower → HasJudged s [] j
 judged_none source.Text j begun followed = record { begun = begun; followed = followed }
 judged_none source.Csv j begun followed = record { begun = begun; followed = followed }
@@ -24,7 +30,7 @@ pub judges_one : (e counted : Edge) (old new : Judge) → CountsOn e counted old
 judges_one e counted old new counts follows = λ source edges h.
     let k = counts source edges h.begun in
     let P : List Edge → Type 0 = λ l. IsFollowed l new.follower in
-    record { begun = k.begun; followed = subst P (sym k.counts) (follows _ h.followed) }
+    record { begun = k.begun; followed = subst P (sym k.counts) (follows (edges_checked source edges) h.followed) }
 
 -- a whole frame is followed
 frame_followed : (old new : TraceFollower) (edges : List Edge) (n : ℕ) (frame : Frame) → TakesFrame old edges n frame new
@@ -42,7 +48,7 @@ judges_frame old new edges n frame keeps same takes = λ source before h.
     let P : List Edge → Type 0 = λ l. IsFollowed l new.follower in
     record {
       begun = ap (λ (b : Beginning). b.moment) same ∙ k.begun;
-      followed = subst P (sym k.counts) (frame_followed old.follower new.follower edges n frame takes _ h.followed);
+      followed = subst P (sym k.counts) (frame_followed old.follower new.follower edges n frame takes (edges_checked source before) h.followed);
     }
 
 -- the first of edges

@@ -15,12 +15,12 @@ loop-len-init c = record {
 pub loop-len-preserved : goal.loop-len-preserved
 loop-len-preserved c =
     let inv = c.loop-len.invariant in
-    let front = rw take_rest at c.take_front.ensures.judged in
-    let within = rw take_rest at c.take_front.ensures.within in
+    let front = rw take_rest at c.take_front-len.ensures.judged in
+    let within = rw take_rest at c.take_front-len.ensures.within in
     record {
-      judged = judges_front c.loop-len.len c.take_front.result c.args.edges.now _ _ _ inv.judged front;
+      judged = judges_front c.loop-len.len c.take_front-len.result c.args.edges.now _ _ _ inv.judged front;
       within = omega (arith, within, length-drop c.loop-len.len c.args.edges.now, c.loop-len-test.true);
-      count = omega (arith, inv.count, c.take_front.ensures.count);
+      count = omega (arith, inv.count, c.take_front-len.ensures.count);
     }
 
 pub returns-clause-judged : goal.returns-clause-judged
