@@ -93,13 +93,13 @@ no_remarks given = record { given = given; rate = None; bare = Some 0 }
 abbrev pub rate_known : Remarks → Option ℕ
 rate_known r = first_some r.given r.rate
 
--- after a rate: a remark of sigrok's tells the unit of a bare word for time too
+-- after a rate: a remark of sigrok's, whatever sign it begins with, tells the unit of a bare word for time too
 abbrev pub with_rate : Remarks → (line : List ℕ) → (text : Option (List ℕ)) → Remarks
 with_rate r line None = r
 with_rate r line (Some text) = record {
   given = r.given;
   rate = rate_in (without_signs text);
-  bare = if bytes_eq (take 13 line) (codes "; Samplerate:") then unit_by (rate_in (without_signs text)) else r.bare;
+  bare = if bytes_eq (take 12 (drop 1 line)) (codes " Samplerate:") then unit_by (rate_in (without_signs text)) else r.bare;
 }
 
 -- the line that sigrok-cli puts in front of what it writes before it knows the rate, so that all its times are 0

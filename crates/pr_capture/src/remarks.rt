@@ -5,8 +5,8 @@ ghost use Rattle.pr_capture.specs.TableTimes.{is_micro, is_time_alone, is_unit, 
 
 use crate::entries::is_word;
 use crate::numbers::{
-    are_letters, are_signs, behind_decimals, behind_digits, behind_word, decimals_in, digits_in,
-    first_of, number_from, number_of_first, spells, without_signs,
+    are_letters, are_signs, behind_decimals, behind_digits, behind_first, behind_word, decimals_in,
+    digits_in, first_of, number_from, number_of_first, spells, without_signs,
 };
 
 /// What remarks say of time.
@@ -192,7 +192,7 @@ impl Remarks {
             return self;
         };
         let rate = rate_in(without_signs(text));
-        let bare = if is_word(first_of(line, 13), b"; Samplerate:") {
+        let bare = if is_word(first_of(behind_first(line, 1), 12), b" Samplerate:") {
             unit_by(rate)
         } else {
             self.bare
