@@ -30,7 +30,7 @@ use Rattle.pr_recording.specs.declared.decode_report.DecodeReport.{DecodeReport}
 use Rattle.pr_recording.specs.declared.decode_report.Ended.{Ended}
 use Rattle.pr_recording.specs.declared.wording.Wording.TheVariants.{Json}
 use Rattle.pr_recording.specs.Checked.{AnswersJson}
-use Rattle.pr_recording.specs.Decoded.{AnswersDecode, IsDecodeFault, Leaves, ReadsAll, back_in, stop_at, told_of}
+use Rattle.pr_recording.specs.Decoded.{AnswersDecode, IsDecodeFault, Leaves, back_in, stop_at, told_of}
 use Rattle.pr_recording.specs.Narrated.{AnswersTold, EndsEdges, EndsNarrated, GivesUp, HasNarrated, HasReadTo, IsRefusal, IsStop, NarratesMore, Refuses, WritesEnd, lines_in, refused_for}
 use Rattle.pr_recording.proofs.Coming.{Laws, coming}
 use Rattle.pr_recording.proofs.Judging.{no_memory}

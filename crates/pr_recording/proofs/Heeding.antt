@@ -1,5 +1,5 @@
 -- A report, edge by edge.
-use Rattle.std.proofs.Common.{◌≡◌, ℕ, ◌+◌, List, [], ◌∷◌, ◌++◌, refl, ap, sym, subst, ◌∙◌, append-nil, length-append, Bool, true, false, Option, Some, None, arith, append_assoc, drop, length, take, take-append-drop}
+use Rattle.std.proofs.Common.{◌≡◌, ℕ, ◌+◌, List, [], ◌∷◌, ◌++◌, refl, ap, sym, subst, ◌∙◌, length-append, Bool, true, false, Option, Some, None, arith, append_assoc, drop, length, take, take-append-drop}
 use Rattle.std.proofs.lemmas.List.{take_all}
 use Rattle.std.specs.Prelude.{is_some}
 use Rattle.std.specs.Option.{option_to_list}
@@ -21,7 +21,7 @@ use Rattle.pr_recording.specs.Decoded.{back_in, in_front, last_lines, readings_t
 use Rattle.pr_recording.specs.declared.judge.Judge.{Judge}
 use Rattle.pr_recording.specs.Judged.{HasJudged, JudgesMore}
 use Rattle.pr_recording.specs.Narrated.{AccountsMore, EndsEdges, HasAccounted, HasHeeded, HasNarrated, HasTold, NarratesMore, TellsMore, refused_by, refused_for, time_of}
-use Rattle.pr_recording.proofs.Backs.{back_stays, front_back, front_stays, goes_back, goes_on, time_of_one, many_on, times_many}
+use Rattle.pr_recording.proofs.Backs.{back_stays, front_back, front_stays, goes_back, many_on, times_many}
 use Rattle.pr_recording.specs.EdgesRead.{BeginsBack, ReadsMore}
 
 -- no edge

@@ -1,5 +1,5 @@
 -- One input more, and one reading more, of the bytes that a device hears.
-use Rattle.std.proofs.Common.{◌≡◌, ℕ, ◌≤◌, Bool, true, false, not, ◌||◌, List, [], ◌∷◌, ◌++◌, refl, ap, sym, subst, ◌∙◌, append-nil, Option, Some, None, Result, Ok, Err, OnOk}
+use Rattle.std.proofs.Common.{◌≡◌, ℕ, Bool, true, false, not, ◌||◌, List, [], ◌∷◌, ◌++◌, refl, ap, sym, subst, ◌∙◌, append-nil, Option, Some, None, Result, Ok, Err, OnOk}
 use Rattle.std.proofs.lemmas.List.Elements.{filter_map-append}
 use Rattle.std.proofs.lemmas.List.Folds.{list_any-append}
 use Rattle.std.specs.List.{list_any}
@@ -16,7 +16,7 @@ use Rattle.pr_decode.specs.declared.reading.Reading.{Reading}
 use Rattle.pr_recording.specs.declared.byte_log.ByteLog.{ByteLog}
 use Rattle.pr_recording.specs.declared.device_log.Ear.{Ear}
 use Rattle.pr_recording.specs.Bytes.{byte_of, bytes_of, sets_from, sets_of}
-use Rattle.pr_recording.specs.Logged.{HasHeard, HasLogged, HearsMore, LogsInput, first_of, selected_after}
+use Rattle.pr_recording.specs.Logged.{HasLogged, HearsMore, LogsInput, first_of, selected_after}
 use Rattle.pr_recording.specs.PrintedPages.{acknowledged_frame, acknowledged_frames, heard_in}
 use Rattle.pr_recording.proofs.Adding.{one-frame}
 

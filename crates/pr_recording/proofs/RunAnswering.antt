@@ -1,5 +1,5 @@
 -- What is heard in the run of a script.
-use Rattle.std.proofs.Common.{◌≡◌, ◌≤◌, ℕ, Bool, true, false, List, [], length, refl, ap, sym, subst, ◌∙◌, Option, Some, None, Result, Ok, Err}
+use Rattle.std.proofs.Common.{◌≡◌, ℕ, Bool, true, false, List, [], refl, ap, sym, subst, ◌∙◌, Ok}
 use Rattle.std.specs.Prelude.{if◌then◌else◌}
 use Rattle.pr_page.specs.declared.input.Input.{Input}
 use Rattle.pr_wire.specs.declared.Frame.{Frame}
