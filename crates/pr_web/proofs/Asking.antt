@@ -1,14 +1,12 @@
 -- What is answered for the words of a command line.
-use Rattle.std.proofs.Common.{◌≡◌, ℕ, List, [], Bool, false, Option, Some, Result, Ok, Err, subst, inl, inr}
+use Rattle.std.proofs.Common.{◌≡◌, ℕ, List, [], Some, Ok, subst, inl, inr}
 use Rattle.clap.specs.Words.{Text}
-use Rattle.pr_capture.specs.declared.format.TraceFormat.{TraceFormat}
-use Rattle.pr_listing.specs.declared.form.ListingForm.{ListingForm}
-use Rattle.pr_options.specs.Jobs.{Bus, IsRefused, RunView, TaskView, asked}
+use Rattle.pr_options.specs.Jobs.{IsRefused, TaskView, asked}
 use Rattle.pr_options.specs.declared.command_line.JobFault.{JobFault}
 use Rattle.pr_web.specs.Answers.{answer_of, plain, refusal}
-use Rattle.pr_web.specs.Giving.{Gives, GivesBus, Hands}
+use Rattle.pr_web.specs.Giving.{Gives, Hands}
 use Rattle.pr_web.specs.Refusals.{TellsRefusal, refusal_status}
-use Rattle.pr_web.specs.Words.{AsksBus, AsksNoBus, TellsBusAsked, TellsTask, is_bus, start_in, task_numbers, words_in}
+use Rattle.pr_web.specs.Words.{TellsBus, TellsBusAsked, TellsTask, task_numbers, words_in}
 use Rattle.pr_web.specs.declared.answer.Answer.{Answer}
 use Rattle.pr_web.specs.declared.answer.Told.{Told}
 
@@ -50,25 +48,17 @@ pub lacks-refusal : (words old new : List ℕ) (answer : Answer) → answer ≡ 
 lacks-refusal words old new answer is kept = inr (inr (inr (is, kept)))
 
 -- the trace of a run that words ask for is handed over
-pub tells-bus : (words script old new : List ℕ) (list : List Text) (task : TaskView) (form : ListingForm) (run : RunView) (format : TraceFormat) (told : Told) (answer : Answer)
-    → list ≡ words_in words → asked list ≡ Some (Ok task) → task.job ≡ Bus form run format → GivesBus (start_in run) format script old new told → answer ≡ answer_of told
-    → TellsBusAsked words script old new answer
-tells-bus words script old new list task form run format told answer same ask job g is =
+pub tells-bus : (words script old new : List ℕ) (list : List Text) (task : TaskView) (answer : Answer)
+    → list ≡ words_in words → asked list ≡ Some (Ok task) → TellsBus task.job script old new answer → TellsBusAsked words script old new answer
+tells-bus words script old new list task answer same ask tells =
     let P : List Text → Type 0 = λ l. asked l ≡ Some (Ok task) in
-    inl (run, format, (task, subst P same ask, form, job), told, g, is)
-
--- words ask for another job
-pub other-bus : (words script old new : List ℕ) (list : List Text) (task : TaskView) (answer : Answer)
-    → list ≡ words_in words → asked list ≡ Some (Ok task) → is_bus task.job ≡ false → answer ≡ refusal (54, 0) 0 → new ≡ old → TellsBusAsked words script old new answer
-other-bus words script old new list task answer same ask no_bus is kept =
-    let P : List Text → Type 0 = λ l. asked l ≡ Some (Ok task) in
-    inr (inl (inl (task, subst P same ask, no_bus), is, kept))
+    inl (task, subst P same ask, tells)
 
 pub refuses-bus : (words script old new : List ℕ) (list : List Text) (fault : JobFault) (answer : Answer)
     → list ≡ words_in words → IsRefused list fault → answer ≡ refusal (54, 0) 0 → new ≡ old → TellsBusAsked words script old new answer
 refuses-bus words script old new list fault answer same refused is kept =
     let P : List Text → Type 0 = λ l. IsRefused l fault in
-    inr (inl (inr (fault, subst P same refused), is, kept))
+    inr (inl (fault, subst P same refused, is, kept))
 
 pub lacks-bus : (words script old new : List ℕ) (answer : Answer) → answer ≡ plain 3 0 → new ≡ old → TellsBusAsked words script old new answer
 lacks-bus words script old new answer is kept = inr (inr (inr (is, kept)))

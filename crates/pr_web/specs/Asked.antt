@@ -3,8 +3,6 @@
 use Rattle.std.specs.Prelude.{◌≡◌, ◌⊎◌, ℕ, Bool, List, [], Option, Some, None, Result, Ok, Err}
 use Rattle.std.specs.Option.{option_map_or}
 use Rattle.pr_channels.specs.declared.faults.Stop.{Stop}
-use Rattle.pr_explain.specs.OddLines.{AreRemarks}
-use Rattle.pr_explain.specs.declared.oddities.Remarks.{Remarks}
 use Rattle.pr_explain.specs.ScriptPlaces.{IsScriptPlace}
 use Rattle.pr_explain.specs.StopPlaces.{IsStopPlace}
 use Rattle.pr_explain.specs.TracePlaces.{IsReadingPlace, IsTracePlace, nowhere}
@@ -22,7 +20,7 @@ use Rattle.pr_recording.specs.declared.wording.Wording.{Wording}
 use Rattle.pr_report.specs.declared.detail.Detail.{Detail}
 use Rattle.pr_report.specs.declared.report.Report.{Report}
 use Rattle.pr_web.specs.Answers.{answer_of, number_read, place_of_trace, plain, refusal}
-use Rattle.pr_web.specs.Giving.{Gives, GivesEdges, GivesFault, GivesIntervals, GivesJson, GivesLines, GivesPages, GivesRaw, GivesReadings, GivesReport, GivesRows, GivesRun, HandsBytes, HandsRunBytes, HasNoMemory, Hands}
+use Rattle.pr_web.specs.Giving.{Gives, GivesEdges, GivesFault, GivesIntervals, GivesJson, GivesLines, GivesPages, GivesRaw, GivesReadings, GivesReport, GivesRows, GivesRun, HandsBytes, HandsRemarks, HandsRunBytes, HasNoMemory, Hands}
 use Rattle.pr_web.specs.Numbers.{bounds_numbers}
 use Rattle.pr_web.specs.Settings.{IsInput, is_yes}
 use Rattle.pr_web.specs.declared.answer.Answer.{Answer}
@@ -187,13 +185,11 @@ ExplainsReading (Some source) atn clock line inverted start rate bytes old new a
     (input : TraceInput) × IsInput source atn clock line (is_yes inverted) start rate input
     × Explains (IsReadingPlace input bytes) (λ o. option_map_or number_read o 0) None old new answer
 
--- what there is to say of a recording that is checked: its last lines, and how much later than asked for its trace begins;
--- or memory for it was refused
+-- what there is to say of a recording that is checked
 abbrev pub TellsRemarks :
     Option Source → (atn clock line : List ℕ) → (inverted start rate : ℕ) → List ℕ → (old new : List ℕ)
     → Answer → Type 0
 TellsRemarks None atn clock line inverted start rate bytes old new answer = Refuses 29 old new answer
 TellsRemarks (Some source) atn clock line inverted start rate bytes old new answer =
     (input : TraceInput) × IsInput source atn clock line (is_yes inverted) start rate input
-    × (((r : Remarks) × AreRemarks input bytes r × Hands r.later r.oddities.items old new answer)
-    ⊎ ((answer ≡ plain 3 0) × (new ≡ old)))
+    × HandsRemarks input bytes old new answer

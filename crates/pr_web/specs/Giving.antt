@@ -29,7 +29,9 @@ use Rattle.pr_recording.specs.declared.wording.Wording.{Wording}
 use Rattle.pr_report.specs.declared.detail.Detail.{Detail}
 use Rattle.pr_report.specs.Contexts.{at_start}
 use Rattle.pr_report.specs.declared.report.Report.{Report}
-use Rattle.pr_web.specs.Answers.{answer_of}
+use Rattle.pr_explain.specs.OddLines.{AreRemarks}
+use Rattle.pr_explain.specs.declared.oddities.Remarks.{Remarks}
+use Rattle.pr_web.specs.Answers.{answer_of, plain}
 use Rattle.pr_report.specs.Intervals.{intervals}
 use Rattle.pr_web.specs.Lengths.{interval_numbers}
 use Rattle.pr_web.specs.Numbers.{AreLineNumbers, IsFaultRow, edge_numbers, flag, reading_rows}
@@ -193,3 +195,10 @@ abbrev pub Hands : (place : ℕ) → (text : List ℕ) → (old new : List ℕ) 
 Hands place text old new answer =
     (told : Told) × Gives (Ok tt) text old new told
     × (answer ≡ record (answer_of told) { place = place })
+
+-- the buffer gets what is odd about a recording, and the answer has how much later than asked for its trace begins; or
+-- memory for it was refused
+abbrev pub HandsRemarks : TraceInput → List ℕ → (old new : List ℕ) → Answer → Type 0
+HandsRemarks input bytes old new answer =
+    ((r : Remarks) × AreRemarks input bytes r × Hands r.later r.oddities.items old new answer)
+    ⊎ ((answer ≡ plain 3 0) × (new ≡ old))

@@ -1,5 +1,5 @@
 -- Trusted: the words of a command line, and the task that they ask for, as numbers.
-use Rattle.std.specs.Prelude.{◌≡◌, ◌⊎◌, ℕ, ◌+◌, ◌==◌, Bool, true, false, List, [], ◌∷◌, ◌++◌, length, Option, Some, None, Ok}
+use Rattle.std.specs.Prelude.{◌≡◌, ◌⊎◌, ℕ, ◌+◌, ◌==◌, List, [], ◌∷◌, ◌++◌, length, Option, Some, None, Ok}
 use Rattle.std.specs.List.{slice_split}
 use Rattle.std.specs.Option.{unwrap_or}
 use Rattle.std.specs.Str.{IsUtf8}
@@ -150,28 +150,16 @@ TellsTask words old new answer =
 abbrev pub start_in : RunView → Start
 start_in run = record { present = run.present; delays = run.delays; mode = run.mode }
 
--- words ask for the trace of a run, in this format
-abbrev pub AsksBus : (words : List ℕ) → RunView → TraceFormat → Type 0
-AsksBus words run format =
-    (task : TaskView) × (asked (words_in words) ≡ Some (Ok task))
-    × (form : ListingForm) × (task.job ≡ Bus form run format)
+-- a job's trace is in the buffer; or it is another job
+abbrev pub TellsBus : JobView → (script : List ℕ) → (old new : List ℕ) → Answer → Type 0
+TellsBus (Bus form run format) script old new answer =
+    (told : Told) × GivesBus (start_in run) format script old new told × (answer ≡ answer_of told)
+TellsBus job script old new answer = (answer ≡ refusal (54, 0) 0) × (new ≡ old)
 
--- a job is the trace of a run
-abbrev pub is_bus : JobView → Bool
-is_bus (Bus form run format) = true
-is_bus _ = false
-
--- words ask for another job, or for none
-abbrev pub AsksNoBus : (words : List ℕ) → Type 0
-AsksNoBus words =
-    ((task : TaskView) × (asked (words_in words) ≡ Some (Ok task)) × (is_bus task.job ≡ false))
-    ⊎ ((fault : JobFault) × IsRefused (words_in words) fault)
-
--- the trace of the run is in the buffer; or words ask for something else, or for nothing
+-- the trace of the run that words ask for is in the buffer; or they ask for another job, or for none
 abbrev pub TellsBusAsked : (words script : List ℕ) → (old new : List ℕ) → Answer → Type 0
 TellsBusAsked words script old new answer =
-    ((run : RunView) × (format : TraceFormat) × AsksBus words run format
-    × (told : Told) × GivesBus (start_in run) format script old new told × (answer ≡ answer_of told))
-    ⊎ (AsksNoBus words × (answer ≡ refusal (54, 0) 0) × (new ≡ old))
+    ((task : TaskView) × (asked (words_in words) ≡ Some (Ok task)) × TellsBus task.job script old new answer)
+    ⊎ ((fault : JobFault) × IsRefused (words_in words) fault × (answer ≡ refusal (54, 0) 0) × (new ≡ old))
     ⊎ RefusesText words old new answer
     ⊎ WantsMemory old new answer

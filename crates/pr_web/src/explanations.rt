@@ -4,11 +4,12 @@ ghost use Rattle.std.specs.Prelude.{◌≡◌, length};
 ghost use Rattle.std.specs.Option.{option_map_or};
 ghost use Rattle.pr_web.specs.Answers.{number_read, place_of_trace, plain};
 ghost use Rattle.pr_web.specs.Asked.{ExplainsReading, ExplainsScript, ExplainsStop, ExplainsTrace, TellsRemarks};
-ghost use Rattle.pr_web.specs.Giving.{Hands};
+ghost use Rattle.pr_web.specs.Giving.{Hands, HandsRemarks};
 ghost use Rattle.pr_web.specs.Settings.{presence, source_of, stop_of};
 
 use crate::answer::{Answer, Told, give, numbered, refused};
 use crate::settings::{input_for, mode_for, source_for, stop_for};
+use pr_capture::TraceInput;
 use pr_cli::CliFault;
 use pr_explain::{
     ReadingPlace, ScriptPlace, StopPlace, TracePlace, explain_reading, explain_script,
@@ -218,6 +219,17 @@ pub extern "C" fn print1525_explain_reading(
     };
 }
 
+/// Puts what is odd about a recording at the front of a buffer, and answers how much later than asked for its trace begins.
+fn remarks(alloc: Global, bytes: &[u8], input: TraceInput<'_>, out: &mut [u8]) -> Answer
+    ensures hands { HandsRemarks input.entry bytes.now out.old out.new result }
+    ensures length { length out.new ≡ length out.old }
+{
+    match remark_on(alloc, bytes, input) {
+        Ok(remarks) => handed(remarks.later as usize, remarks.oddities.as_slice(), out),
+        Err(_) => unexplained(),
+    }
+}
+
 /// Puts the last lines of what `print1525 decode` writes of a recording, which say what is odd about it, at the front of
 /// the page's buffer, and answers how many microseconds later than at the start asked for its trace begins: the text and
 /// the number of [`pr_explain::remark_on`].
@@ -245,8 +257,5 @@ pub extern "C" fn print1525_remarks(
         return;
     };
     let input = input_for(source, atn, clock, line, inverted != 0, start, rate);
-    *answer = match remark_on(alloc, bytes, input) {
-        Ok(remarks) => handed(remarks.later as usize, remarks.oddities.as_slice(), out),
-        Err(_) => unexplained(),
-    };
+    *answer = remarks(alloc, bytes, input, out);
 }

@@ -7,7 +7,7 @@ ghost use Rattle.pr_cli.specs.Pages.{start_of};
 ghost use Rattle.pr_options.specs.Jobs.{input_view, job_view, task_view};
 ghost use Rattle.pr_web.specs.Giving.{GivesBus};
 ghost use Rattle.pr_web.specs.Numbers.{flag};
-ghost use Rattle.pr_web.specs.Words.{TellsBusAsked, TellsTask, before_numbers, check_number, counted, detail_number, device_number, form_number, format_numbers, input_numbers, job_numbers, mode_number, name_numbers, pages_numbers, printer_number, reading_numbers, source_number, task_numbers, trace_number, words_in};
+ghost use Rattle.pr_web.specs.Words.{TellsBus, TellsBusAsked, TellsTask, before_numbers, check_number, counted, detail_number, device_number, form_number, format_numbers, input_numbers, job_numbers, mode_number, name_numbers, pages_numbers, printer_number, reading_numbers, source_number, task_numbers, trace_number, words_in};
 
 use crate::answer::{Answer, Told, give, numbered, refused, without_value};
 use crate::rows::flag;
@@ -364,6 +364,19 @@ fn bus(
     give(without_value(made), &output.into_inner(), out)
 }
 
+/// Runs a script as a job asks for it, and puts the trace of its run at the front of a buffer, if that is the job.
+fn bus_of(alloc: Global, job: Job<'_>, script: &[u8], out: &mut [u8]) -> Answer
+    ensures tells { TellsBus (job_view job.entry) script.now out.old out.new result }
+    ensures length { length out.new ≡ length out.old }
+{
+    match job {
+        Job::Bus(_, present, delays, mode, format) => {
+            numbered(bus(alloc, script, present, delays, mode, format, out))
+        }
+        Job::Pages(..) | Job::Check(..) | Job::Decode { .. } | Job::Raw { .. } => refused(54, 0),
+    }
+}
+
 /// Runs a script as the words of a command line ask for it, which are passed as to [`print1525_task`], and puts the trace
 /// of its run at the front of the page's buffer. The script is the text of a listing in any form.
 ///
@@ -397,12 +410,7 @@ fn bus_asked(alloc: Global, text: &str, script: &[u8], out: &mut [u8]) -> Answer
         return numbered(Told::Refused(CliFault::NoMemory));
     };
     match read_task(alloc, words.as_slice()) {
-        Ok(task) => match task.job {
-            Job::Bus(_, present, delays, mode, format) => {
-                numbered(bus(alloc, script, present, delays, mode, format, out))
-            }
-            _ => refused(54, 0),
-        },
+        Ok(task) => bus_of(alloc, task.job, script, out),
         Err(JobFault::NoMemory) => numbered(Told::Refused(CliFault::NoMemory)),
         Err(_) => refused(54, 0),
     }
