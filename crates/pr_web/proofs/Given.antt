@@ -18,11 +18,12 @@ use Rattle.pr_capture.specs.declared.format.TraceInput.{TraceInput}
 use Rattle.pr_recording.specs.Decoded.{AnswersDecode}
 use Rattle.pr_dots.specs.Shapes.{own_shapes}
 use Rattle.pr_recording.specs.Pages.{AnswersPages, readings_up_to}
+use Rattle.pr_report.specs.declared.oddities.Oddities.{Oddities}
 use Rattle.pr_report.specs.declared.report.Report.{Report}
 use Rattle.pr_recording.specs.declared.wording.Wording.{Wording}
 use Rattle.pr_report.specs.declared.detail.Detail.{Detail}
 use Rattle.pr_report.specs.Contexts.{at_start}
-use Rattle.pr_web.specs.Giving.{Gives, GivesEdges, GivesFault, GivesLines, GivesPages, GivesRaw, GivesReadings, GivesReport, GivesRows, GivesRun, Made, made_of, without_ending}
+use Rattle.pr_web.specs.Giving.{Gives, GivesEdges, GivesFault, GivesLines, GivesPages, GivesRaw, GivesReadings, GivesReport, GivesRows, GivesRun, Made, made_of, without_ending, without_oddities}
 use Rattle.pr_web.specs.Numbers.{AreLineNumbers, IsFaultRow, edge_numbers, reading_rows}
 use Rattle.pr_web.specs.Rows.{EndsRows}
 use Rattle.pr_web.specs.declared.answer.Told.{Told}
@@ -35,8 +36,8 @@ pub gives-readings : (input : TraceInput) (wording : Wording) (bytes text old ne
 gives-readings input wording bytes text old new made told a g = (made, text, a, g)
 
 -- so are its pages
-pub gives-pages : (input : TraceInput) (format : Format) (bytes text old new : List ℕ) (made : Made) (told : Told)
-    → AnswersPages own_shapes input format bytes (Some []) (Some text) made → Gives made text old new told → GivesPages input format bytes old new told
+pub gives-pages : (input : TraceInput) (format : Format) (bytes text old new : List ℕ) (made : Result Oddities CliFault) (told : Told)
+    → AnswersPages own_shapes input format bytes (Some []) (Some text) made → Gives (without_oddities made) text old new told → GivesPages input format bytes old new told
 gives-pages input format bytes text old new made told a g = (made, text, a, g)
 
 -- so is a report on a trace

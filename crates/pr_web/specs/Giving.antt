@@ -21,6 +21,7 @@ use Rattle.pr_recording.specs.Pages.{AnswersPages, readings_up_to}
 use Rattle.pr_recording.specs.declared.wording.Wording.{Wording}
 use Rattle.pr_report.specs.declared.detail.Detail.{Detail}
 use Rattle.pr_report.specs.Contexts.{at_start}
+use Rattle.pr_report.specs.declared.oddities.Oddities.{Oddities}
 use Rattle.pr_report.specs.declared.report.Report.{Report}
 use Rattle.pr_web.specs.Answers.{answer_of}
 use Rattle.pr_web.specs.Numbers.{AreLineNumbers, IsFaultRow, edge_numbers, reading_rows}
@@ -68,11 +69,17 @@ GivesReadings input wording bytes old new told =
     (made : Made) × (text : List ℕ) × AnswersDecode trace_limit wording input bytes (Some []) (Some text) made
     × Gives made text old new told
 
+-- what was made, whatever is odd about the recording
+abbrev pub without_oddities : Result Oddities CliFault → Made
+without_oddities (Ok odd) = Ok tt
+without_oddities (Err fault) = Err fault
+
 -- the buffer gets the pages that printers print of a recording
 abbrev pub GivesPages : TraceInput → Format → List ℕ → (old new : List ℕ) → Told → Type 0
 GivesPages input format bytes old new told =
-    (made : Made) × (text : List ℕ) × AnswersPages own_shapes input format bytes (Some []) (Some text) made
-    × Gives made text old new told
+    (made : Result Oddities CliFault) × (text : List ℕ)
+    × AnswersPages own_shapes input format bytes (Some []) (Some text) made
+    × Gives (without_oddities made) text old new told
 
 -- the buffer gets a report on a trace
 abbrev pub GivesReport : TraceInput → Report → List ℕ → (old new : List ℕ) → Told → Type 0

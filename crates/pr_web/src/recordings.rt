@@ -2,17 +2,17 @@
 
 ghost use Rattle.std.specs.Prelude.{◌≡◌, ◌≢◌, length};
 ghost use Rattle.pr_web.specs.Asked.{TellsReadings, TellsReport, TellsReprint};
-ghost use Rattle.pr_web.specs.Giving.{GivesPages, GivesReadings, GivesReport};
+ghost use Rattle.pr_web.specs.Giving.{GivesPages, GivesReadings, GivesReport, without_oddities};
 ghost use Rattle.pr_web.specs.Settings.{is_yes, report_of, shown_of, source_of, wording_of};
 
 use crate::answer::{Answer, Told, give, numbered, refused};
 use crate::settings::{input_for, report_for, shown_for, source_for, wording_for};
 use pr_capture::TraceInput;
-use pr_cli::{Watched, check_as_over};
+use pr_cli::{CliFault, Watched, check_as_over};
 use pr_dots::Shapes;
 use pr_recording::{Wording, decode_over, reprint_over};
 use pr_render::Format;
-use pr_report::Report;
+use pr_report::{Oddities, Report};
 use std::alloc::Global;
 
 /// Reads a recording, and puts what it says at the front of a buffer.
@@ -30,6 +30,16 @@ fn readings(
     let mut output = Watched::new(Vec::new(alloc));
     let made = decode_over(alloc, &mut reader, &mut output, input, wording);
     give(made, &output.into_inner(), out)
+}
+
+/// What was made of a recording, whatever is odd about it.
+fn without_oddities(made: Result<Oddities, CliFault>) -> Result<(), CliFault>
+    ensures { result ≡ without_oddities made }
+{
+    match made {
+        Ok(_) => Ok(()),
+        Err(fault) => Err(fault),
+    }
 }
 
 /// Reads a recording, and puts the pages that printers print of it at the front of a buffer.
@@ -53,7 +63,7 @@ fn reprint(
         format,
         &Shapes::own(),
     );
-    give(made, &output.into_inner(), out)
+    give(without_oddities(made), &output.into_inner(), out)
 }
 
 /// Reads a trace, and puts a report on it at the front of a buffer.
