@@ -5,7 +5,8 @@ use Rattle.std.specs.Option.{option_to_list}
 use Rattle.pr_wire.specs.declared.Edge.{Edge}
 use Rattle.pr_decode.specs.declared.reading.Reading.{Reading}
 use Rattle.pr_decode.specs.Readings.{readings_of}
-use Rattle.pr_decode.specs.Taking.{GivenAreSettled, HasReadings, IsBefore, StandsBefore, last_time}
+use Rattle.pr_decode.specs.Taking.{GivenAreSettled, IsBefore, StandsBefore, last_time}
+use Rattle.pr_report.specs.Oddities.{oddities_of}
 use Rattle.pr_cli.specs.declared.fault.CliFault.{CliFault}
 use Rattle.pr_recording.specs.declared.byte_log.HeardBytes.{HeardBytes}
 use Rattle.pr_recording.specs.declared.device_capture.DeviceCapture.{DeviceCapture}
@@ -14,18 +15,20 @@ use Rattle.pr_recording.specs.declared.device_log.Ear.{Ear}
 use Rattle.pr_recording.specs.Decoded.{back_in, in_front, stop_at}
 use Rattle.pr_recording.specs.Captured.{CapturesMore, EndsCapture, HasCaptured, HasOverheard}
 use Rattle.pr_recording.specs.Logged.{AreHeard, HasHeard, HearsMore}
+use Rattle.pr_recording.specs.declared.observer.Observer.{Observer}
 use Rattle.pr_recording.specs.Narrated.{time_of}
+use Rattle.pr_recording.specs.Observed.{HasObserved}
 use Rattle.pr_recording.specs.Pages.{readings_up_to}
 use Rattle.pr_recording.specs.PrintedPages.{heard_in}
 use Rattle.pr_recording.proofs.Backs.{back_stays, front_back, front_stays, goes_back, goes_on, time_of_one}
 
 -- other parts alone are changed
-overheard_as : (device : ℕ) (edges : List Edge) (old new : DeviceCapture) → new.decoder ≡ old.decoder → new.log ≡ old.log → new.taken ≡ old.taken
+overheard_as : (device : ℕ) (edges : List Edge) (old new : DeviceCapture) → new.observer ≡ old.observer → new.log ≡ old.log → new.taken ≡ old.taken
     → HasOverheard device edges old → HasOverheard device edges new
 overheard_as device edges old new d l t h = record {
   given = h.given;
   read = rw d h.read;
-  last = ap last_time d ∙ h.last;
+  last = ap (λ (o : Observer). last_time o.decoder) d ∙ h.last;
   heard = rw l h.heard;
   taken = t ∙ h.taken;
 }
@@ -55,7 +58,7 @@ of_front : (device : ℕ) (edges : List Edge) (c : DeviceCapture) → back_in ed
 of_front device edges c none h = let P : List Edge → Type 0 = λ l. HasOverheard device l c in subst P (all_front edges none) h
 
 -- time goes back at an edge
-pub captures_back : (old new : DeviceCapture) (e : Edge) → old.back ≡ None → IsBefore e old.decoder → new.back ≡ Some old.taken → new.decoder ≡ old.decoder → new.log ≡ old.log → new.taken ≡ old.taken
+pub captures_back : (old new : DeviceCapture) (e : Edge) → old.back ≡ None → IsBefore e old.observer.decoder → new.back ≡ Some old.taken → new.observer ≡ old.observer → new.log ≡ old.log → new.taken ≡ old.taken
     → CapturesMore (e ∷ []) old new
 captures_back old new e was before back d l t = λ device edges h.
     let none : back_in edges ≡ None = sym h.back ∙ was in
@@ -68,8 +71,8 @@ captures_back old new e was before back d l t = λ device edges h.
     }
 
 -- an edge is taken
-pub captures_one : (old new : DeviceCapture) (e : Edge) (r : Option Reading) → old.back ≡ None → (IsBefore e old.decoder → ⊥) → new.back ≡ old.back
-    → ((edges : List Edge) (given : List Reading) → HasReadings edges given old.decoder → HasReadings (edges ++ e ∷ []) (given ++ option_to_list r) new.decoder) → last_time new.decoder ≡ Some e.time
+pub captures_one : (old new : DeviceCapture) (e : Edge) (r : Option Reading) → old.back ≡ None → (IsBefore e old.observer.decoder → ⊥) → new.back ≡ old.back
+    → ((edges : List Edge) (given : List Reading) → HasObserved edges given old.observer → HasObserved (edges ++ e ∷ []) (given ++ option_to_list r) new.observer) → last_time new.observer.decoder ≡ Some e.time
     → HearsMore (option_to_list r) old.log new.log → new.taken ≡ old.taken + 1 → CapturesMore (e ∷ []) old new
 captures_one old new e r was later same reads last hears taken = λ device edges h.
     let none : back_in edges ≡ None = sym h.back ∙ was in
@@ -106,7 +109,8 @@ ends_stopped settled c own f o is stop heard = λ device edges h.
     record {
       stop = stop ∙ (sym is ∙ ap (λ v. stop_at v own) h.back);
       heard = same_heard device k.given (readings_up_to o.stop edges) o.heard
-          (sym (settled (in_front (back_in edges) edges) k.given c.decoder k.read) ∙ sym (ap (λ s. readings_up_to s edges) stop)) (heard device k.given k.heard);
+          (sym (settled (in_front (back_in edges) edges) k.given c.observer.decoder k.read.read) ∙ sym (ap (λ s. readings_up_to s edges) stop)) (heard device k.given k.heard);
+      odd = λ none. absurd (let e : Some f ≡ None = sym stop ∙ none in cc);
     }
 
 pub ends_early : GivenAreSettled → (c : DeviceCapture) (own : Option CliFault) (v : Option CliFault) (o : Overheard) → v ≡ stop_at c.back own → is_some v ≡ true → o.stop ≡ v
@@ -122,15 +126,17 @@ no_back (Some n) own h = absurd (cc)
 
 -- the end of whole edges
 pub ends_whole : (c : DeviceCapture) (own : Option CliFault) (cut : Option Reading) (last : Ear) (o : Overheard) → stop_at c.back own ≡ None → o.stop ≡ None
-    → ((edges : List Edge) (given : List Reading) → HasReadings edges given c.decoder → readings_of edges ≡ given ++ option_to_list cut)
+    → ((edges : List Edge) (given : List Reading) → HasObserved edges given c.observer → readings_of edges ≡ given ++ option_to_list cut)
     → HearsMore (option_to_list cut) c.log last
     → ((device : ℕ) (readings : List Reading) → HasHeard device readings last → AreHeard (heard_in device readings) o.heard)
+    → ((edges : List Edge) (given : List Reading) → HasObserved edges given c.observer → o.odd ≡ oddities_of edges (readings_of edges))
     → (device : ℕ) (edges : List Edge) → HasCaptured device edges c → EndsCapture device edges own o
-ends_whole c own cut last o is stop reads hears heard = λ device edges h.
+ends_whole c own cut last o is stop reads hears heard odds = λ device edges h.
     let none : back_in edges ≡ None = sym h.back ∙ no_back c.back own is in
     let k = of_front device edges c none h.overheard in
     record {
       stop = stop ∙ (sym is ∙ ap (λ v. stop_at v own) h.back);
       heard = same_heard device (k.given ++ option_to_list cut) (readings_up_to o.stop edges) o.heard
           (sym (reads edges k.given k.read) ∙ sym (ap (λ s. readings_up_to s edges) stop)) (heard device (k.given ++ option_to_list cut) (hears device k.given k.heard));
+      odd = λ none. odds edges k.given k.read;
     }

@@ -5,30 +5,33 @@ use Rattle.std.specs.Option.{option_to_list}
 use Rattle.pr_wire.specs.declared.Edge.{Edge}
 use Rattle.pr_decode.specs.declared.reading.Reading.{Reading}
 use Rattle.pr_decode.specs.Readings.{readings_of}
-use Rattle.pr_decode.specs.Taking.{GivenAreSettled, HasReadings, IsBefore, StandsBefore, last_time}
+use Rattle.pr_decode.specs.Taking.{GivenAreSettled, IsBefore, StandsBefore, last_time}
 use Rattle.pr_recording.specs.declared.printer_pair.BusPrinters.{BusPrinters}
 use Rattle.pr_recording.specs.declared.printer_pair.PrintedPages.{PrintedPages}
 use Rattle.pr_recording.specs.PrintedPages.{ArePapers}
 use Rattle.pr_recording.specs.Taking.{HasReprinted}
+use Rattle.pr_report.specs.Oddities.{oddities_of}
 use Rattle.pr_cli.specs.declared.fault.CliFault.{CliFault}
 use Rattle.pr_recording.specs.declared.capture_printer.CapturePrinter.{CapturePrinter}
 use Rattle.pr_recording.specs.declared.capture_printer.Printed.{Printed}
 use Rattle.pr_recording.specs.Copied.{CopiesMore, EndsCopy, HasCopied, HasPrinted, PrintsReading}
 use Rattle.pr_recording.specs.Decoded.{back_in, in_front, stop_at}
+use Rattle.pr_recording.specs.declared.observer.Observer.{Observer}
 use Rattle.pr_recording.specs.Narrated.{time_of}
+use Rattle.pr_recording.specs.Observed.{HasObserved}
 use Rattle.pr_recording.specs.Pages.{readings_up_to}
 use Rattle.pr_recording.proofs.Backs.{back_stays, front_back, front_stays, goes_back, goes_on, time_of_one}
 
 -- no edge
-pub copied_none : (c : CapturePrinter) → c.back ≡ None → HasReadings [] [] c.decoder → last_time c.decoder ≡ None → HasReprinted [] c.reprint → c.taken ≡ 0 → HasCopied [] c
+pub copied_none : (c : CapturePrinter) → c.back ≡ None → HasObserved [] [] c.observer → last_time c.observer.decoder ≡ None → HasReprinted [] c.reprint → c.taken ≡ 0 → HasCopied [] c
 copied_none c b r l p t = record { back = b; printed = record { given = []; read = r; last = l; reprinted = p; taken = t } }
 
 -- other parts alone are changed
-printed_as : (edges : List Edge) (old new : CapturePrinter) → new.decoder ≡ old.decoder → new.reprint ≡ old.reprint → new.taken ≡ old.taken → HasPrinted edges old → HasPrinted edges new
+printed_as : (edges : List Edge) (old new : CapturePrinter) → new.observer ≡ old.observer → new.reprint ≡ old.reprint → new.taken ≡ old.taken → HasPrinted edges old → HasPrinted edges new
 printed_as edges old new d p t h = record {
   given = h.given;
   read = rw d h.read;
-  last = ap last_time d ∙ h.last;
+  last = ap (λ (o : Observer). last_time o.decoder) d ∙ h.last;
   reprinted = rw p h.reprinted;
   taken = t ∙ h.taken;
 }
@@ -62,7 +65,7 @@ of_front : (edges : List Edge) (c : CapturePrinter) → back_in edges ≡ None �
 of_front edges c none h = let P : List Edge → Type 0 = λ l. HasPrinted l c in subst P (all_front edges none) h
 
 -- time goes back at an edge
-pub copies_back : (old new : CapturePrinter) (e : Edge) → old.back ≡ None → IsBefore e old.decoder → new.back ≡ Some old.taken → new.decoder ≡ old.decoder → new.reprint ≡ old.reprint → new.taken ≡ old.taken
+pub copies_back : (old new : CapturePrinter) (e : Edge) → old.back ≡ None → IsBefore e old.observer.decoder → new.back ≡ Some old.taken → new.observer ≡ old.observer → new.reprint ≡ old.reprint → new.taken ≡ old.taken
     → CopiesMore (e ∷ []) old new
 copies_back old new e was before back d p t = λ edges h.
     let none : back_in edges ≡ None = sym h.back ∙ was in
@@ -75,8 +78,8 @@ copies_back old new e was before back d p t = λ edges h.
     }
 
 -- an edge is taken
-pub copies_one : (old new : CapturePrinter) (e : Edge) (r : Option Reading) → old.back ≡ None → (IsBefore e old.decoder → ⊥) → new.back ≡ old.back
-    → ((edges : List Edge) (given : List Reading) → HasReadings edges given old.decoder → HasReadings (edges ++ e ∷ []) (given ++ option_to_list r) new.decoder) → last_time new.decoder ≡ Some e.time
+pub copies_one : (old new : CapturePrinter) (e : Edge) (r : Option Reading) → old.back ≡ None → (IsBefore e old.observer.decoder → ⊥) → new.back ≡ old.back
+    → ((edges : List Edge) (given : List Reading) → HasObserved edges given old.observer → HasObserved (edges ++ e ∷ []) (given ++ option_to_list r) new.observer) → last_time new.observer.decoder ≡ Some e.time
     → PrintsReading r old.reprint new.reprint → new.taken ≡ old.taken + 1 → CopiesMore (e ∷ []) old new
 copies_one old new e r was later same reads last prints taken = λ edges h.
     let none : back_in edges ≡ None = sym h.back ∙ was in
@@ -112,7 +115,8 @@ ends_stopped settled c own f p is stop papers = λ edges h.
     record {
       stop = stop ∙ (sym is ∙ ap (λ v. stop_at v own) h.back);
       papers = same_papers k.given (readings_up_to p.stop edges) p.pages
-          (sym (settled (in_front (back_in edges) edges) k.given c.decoder k.read) ∙ sym (ap (λ s. readings_up_to s edges) stop)) (papers k.given k.reprinted);
+          (sym (settled (in_front (back_in edges) edges) k.given c.observer.decoder k.read.read) ∙ sym (ap (λ s. readings_up_to s edges) stop)) (papers k.given k.reprinted);
+      odd = λ none. absurd (let e : Some f ≡ None = sym stop ∙ none in cc);
     }
 
 pub ends_told : GivenAreSettled → (c : CapturePrinter) (own : Option CliFault) (v : Option CliFault) (p : Printed) → v ≡ stop_at c.back own → is_some v ≡ true → p.stop ≡ v
@@ -127,14 +131,17 @@ no_back (Some n) own h = absurd (cc)
 
 -- the end of whole edges
 pub ends_whole : (c : CapturePrinter) (own : Option CliFault) (cut : Option Reading) (last : BusPrinters) (p : Printed) → stop_at c.back own ≡ None → p.stop ≡ None
-    → ((edges : List Edge) (given : List Reading) → HasReadings edges given c.decoder → readings_of edges ≡ given ++ option_to_list cut)
+    → ((edges : List Edge) (given : List Reading) → HasObserved edges given c.observer → readings_of edges ≡ given ++ option_to_list cut)
     → PrintsReading cut c.reprint last
-    → ((readings : List Reading) → HasReprinted readings last → ArePapers readings p.pages) → (edges : List Edge) → HasCopied edges c → EndsCopy edges own p
-ends_whole c own cut last p is stop reads prints papers = λ edges h.
+    → ((readings : List Reading) → HasReprinted readings last → ArePapers readings p.pages)
+    → ((edges : List Edge) (given : List Reading) → HasObserved edges given c.observer → p.odd ≡ oddities_of edges (readings_of edges))
+    → (edges : List Edge) → HasCopied edges c → EndsCopy edges own p
+ends_whole c own cut last p is stop reads prints papers odds = λ edges h.
     let none : back_in edges ≡ None = sym h.back ∙ no_back c.back own is in
     let k = of_front edges c none h.printed in
     record {
       stop = stop ∙ (sym is ∙ ap (λ v. stop_at v own) h.back);
       papers = same_papers (k.given ++ option_to_list cut) (readings_up_to p.stop edges) p.pages
           (sym (reads edges k.given k.read) ∙ sym (ap (λ s. readings_up_to s edges) stop)) (papers (k.given ++ option_to_list cut) (prints k.given k.reprinted));
+      odd = λ none. odds edges k.given k.read;
     }

@@ -8,6 +8,7 @@ pub mod Judges
 pub mod Coming
 pub mod Noting
 pub mod Answering
+pub mod Observing
 pub mod Copies
 pub mod Printing
 pub mod Adding

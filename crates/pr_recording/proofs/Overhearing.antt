@@ -4,6 +4,9 @@ use Rattle.std.specs.Prelude.{IfSome, IsErrAnd}
 use Rattle.std.specs.Io.KnownBytes.{Appends, IsAtEnd, Keeps}
 use Rattle.pr_page.specs.declared.input.Input.{Input}
 use Rattle.pr_wire.specs.declared.Edge.{Edge}
+use Rattle.pr_decode.specs.Readings.{readings_of}
+use Rattle.pr_report.specs.Oddities.{oddities_of}
+use Rattle.pr_report.specs.declared.oddities.Oddities.{Oddities}
 use Rattle.pr_render.specs.declared.format.Device.{Device}
 use Rattle.pr_capture.specs.declared.format.TraceInput.{TraceInput}
 use Rattle.pr_cli.specs.Check.{trace_limit}
@@ -85,7 +88,7 @@ hears_last device start left input r c o h stops ends =
     known (Some text) edges own o k says = record { edges = edges; own = own; is_own = o; says = says; ends = k }
 
 -- what is written of the bytes, and what is answered
-answered : (input : TraceInput) (device : Device) (text : List ℕ) (o : Overheard) (old new : Option (List ℕ)) (v : Result Heard CliFault) → HearsWhole input (number_of device) text o
+answered : (input : TraceInput) (device : Device) (text : List ℕ) (o : Overheard) (old new : Option (List ℕ)) (v : Result (Heard × Oddities) CliFault) → HearsWhole input (number_of device) text o
     → IfSome o.stop IsStop → WritesOverheard o old new v → AnswersBytes input device text old new v
 answered input device text o old new v h stop w = record {
   edges = h.edges;
@@ -97,14 +100,17 @@ answered input device text o old new v h stop w = record {
     inputs : List Input
     inputs = heard_in (number_of device) (readings_up_to o.stop h.edges)
 
+    odd : Oddities
+    odd = oddities_of h.edges (readings_of h.edges)
+
     all : Appends old new o.heard.bytes.items → Appends old new (bytes_of inputs)
     all k = rw (← h.ends.heard.bytes) k
 
     never : (f : CliFault) → o.stop ≡ Some f → (IsStop f → ⊥) → ⊥
     never f e n = n (let k : IfSome (Some f) IsStop = rw e at stop in k)
 
-    leaves : (v : Result Heard CliFault) → WritesOverheard o old new v → LeavesBytes (length text) o.stop inputs old new v
-    leaves (Ok heard) w = (h.says.short (no_own (back_in h.edges) h.own (sym h.ends.stop ∙ w.0)), w.0, w.1 ∙ h.ends.heard.heard, all w.2)
+    leaves : (v : Result (Heard × Oddities) CliFault) → WritesOverheard o old new v → LeavesBytes (length text) o.stop inputs odd old new v
+    leaves (Ok answer) w = (h.says.short (no_own (back_in h.edges) h.own (sym h.ends.stop ∙ w.0)), w.0, w.1 ∙ h.ends.heard.heard, w.2 ∙ h.ends.odd w.0, all w.3)
     leaves (Err (Script fault)) w = never (Script fault) w.0 (λ o. o)
     leaves (Err (Trace fault)) w = (w.0, all w.1)
     leaves (Err (Wave fault)) w = (w.0, all w.1)
@@ -124,28 +130,28 @@ unanswered some input device text old new f none large keeps =
       edges = s.edges;
       own = s.fault;
       says = s.says;
-      leaves = by (stop_at (back_in s.edges) s.fault) (heard_in (number_of device) (readings_up_to (stop_at (back_in s.edges) s.fault) s.edges)) f none large;
+      leaves = by (stop_at (back_in s.edges) s.fault) (heard_in (number_of device) (readings_up_to (stop_at (back_in s.edges) s.fault) s.edges)) (oddities_of s.edges (readings_of s.edges)) f none large;
     }
   where
-    by : (stop : Option CliFault) (inputs : List Input) (f : CliFault) → IsNoReading f → (f ≡ TooLarge → trace_limit < length text)
-        → LeavesBytes (length text) stop inputs old new (Err f)
-    by stop inputs TooLarge n l = (l refl, keeps)
-    by stop inputs NoMemory n l = keeps
-    by stop inputs ReadFailed n l = keeps
-    by stop inputs (Script fault) n l = absurd n
-    by stop inputs (Trace fault) n l = absurd n
-    by stop inputs (Wave fault) n l = absurd n
-    by stop inputs (Capture fault) n l = absurd n
-    by stop inputs (Picture fault) n l = absurd n
-    by stop inputs WriteFailed n l = absurd n
+    by : (stop : Option CliFault) (inputs : List Input) (odd : Oddities) (f : CliFault) → IsNoReading f → (f ≡ TooLarge → trace_limit < length text)
+        → LeavesBytes (length text) stop inputs odd old new (Err f)
+    by stop inputs odd TooLarge n l = (l refl, keeps)
+    by stop inputs odd NoMemory n l = keeps
+    by stop inputs odd ReadFailed n l = keeps
+    by stop inputs odd (Script fault) n l = absurd n
+    by stop inputs odd (Trace fault) n l = absurd n
+    by stop inputs odd (Wave fault) n l = absurd n
+    by stop inputs odd (Capture fault) n l = absurd n
+    by stop inputs odd (Picture fault) n l = absurd n
+    by stop inputs odd WriteFailed n l = absurd n
 
 -- the same, where it is known what the reader gives
-pub all_answered : (a old new : Option (List ℕ)) (input : TraceInput) (device : Device) (o : Overheard) (v : Result Heard CliFault) → IfSome a (λ text. HearsWhole input (number_of device) text o)
+pub all_answered : (a old new : Option (List ℕ)) (input : TraceInput) (device : Device) (o : Overheard) (v : Result (Heard × Oddities) CliFault) → IfSome a (λ text. HearsWhole input (number_of device) text o)
     → IfSome o.stop IsStop → WritesOverheard o old new v → IfSome a (λ text. AnswersBytes input device text old new v)
 all_answered None old new input device o v h stop writes = tt
 all_answered (Some text) old new input device o v h stop writes = answered input device text o old new v h stop writes
 
-pub none_answered : EachTextSaysEdges → (a old : Option (List ℕ)) (input : TraceInput) (device : Device) (f : CliFault) (v : Result Heard CliFault) → IsErrAnd v (λ x. x ≡ f) → IsNoReading f
+pub none_answered : EachTextSaysEdges → (a old : Option (List ℕ)) (input : TraceInput) (device : Device) (f : CliFault) (v : Result (Heard × Oddities) CliFault) → IsErrAnd v (λ x. x ≡ f) → IsNoReading f
     → Keeps old old → IfSome a (λ text. GivesOverheard input (number_of device) (Err f) text) → IfSome a (λ text. AnswersBytes input device text old old v)
 none_answered some None old input device f v is none keeps h = tt
 none_answered some (Some text) old input device f (Ok u) is none keeps h = absurd is

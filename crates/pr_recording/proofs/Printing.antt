@@ -3,6 +3,9 @@ use Rattle.std.proofs.Common.{◌≡◌, ◌<◌, ℕ, List, [], ◌++◌, lengt
 use Rattle.std.specs.Prelude.{IfErr, IfSome, IsErrAnd}
 use Rattle.std.specs.Io.KnownBytes.{IsAtEnd, Keeps}
 use Rattle.pr_wire.specs.declared.Edge.{Edge}
+use Rattle.pr_decode.specs.Readings.{readings_of}
+use Rattle.pr_report.specs.Oddities.{oddities_of}
+use Rattle.pr_report.specs.declared.oddities.Oddities.{Oddities}
 use Rattle.pr_dots.specs.declared.character_sets.Shapes.{Shapes}
 use Rattle.pr_render.specs.declared.format.Format.{Format}
 use Rattle.pr_capture.specs.declared.format.TraceInput.{TraceInput}
@@ -91,7 +94,7 @@ prints_last limit start left input r c p h stops ends =
     known (Some text) edges own o k says = record { edges = edges; own = own; is_own = o; says = says; ends = k }
 
 -- the pages are not shown, and nothing is written
-pub unshown : (shapes : Shapes) (format : Format) (p : Printed) (old : Option (List ℕ)) (shown : Result (List ℕ) PictureFault) (v : Result (Unit {0}) CliFault) (f : CliFault)
+pub unshown : (shapes : Shapes) (format : Format) (p : Printed) (old : Option (List ℕ)) (shown : Result (List ℕ) PictureFault) (v : Result Oddities CliFault) (f : CliFault)
     → IsErrAnd v (λ x. x ≡ f) → shown ≡ text_of_print shapes format p → GivesShown shown (Err f) → Keeps old old → WritesPrint shapes format p old old v
 unshown shapes format p old shown (Ok u) f e same gives keeps = absurd e
 unshown shapes format p old shown (Err x) f e same gives keeps = rw e (by f gives)
@@ -108,7 +111,7 @@ unshown shapes format p old shown (Err x) f e same gives keeps = rw e (by f give
     by WriteFailed g = absurd g
 
 -- that is a fault of pages
-pub unshown_fault : (shown : Result (List ℕ) PictureFault) (v : Result (Unit {0}) CliFault) (f : CliFault) → IsErrAnd v (λ x. x ≡ f)
+pub unshown_fault : (shown : Result (List ℕ) PictureFault) (v : Result Oddities CliFault) (f : CliFault) → IsErrAnd v (λ x. x ≡ f)
     → GivesShown shown (Err f) → IfErr v IsReprintFault
 unshown_fault shown (Ok u) f e gives = tt
 unshown_fault shown (Err x) f e gives = rw e (by f gives)
@@ -125,7 +128,7 @@ unshown_fault shown (Err x) f e gives = rw e (by f gives)
     by WriteFailed g = absurd g
 
 -- what is written of the pages, and what is answered
-pub answered : (shapes : Shapes) (input : TraceInput) (format : Format) (text : List ℕ) (p : Printed) (old new : Option (List ℕ)) (v : Result (Unit {0}) CliFault) → PrintsWhole print_limit input text p
+pub answered : (shapes : Shapes) (input : TraceInput) (format : Format) (text : List ℕ) (p : Printed) (old new : Option (List ℕ)) (v : Result Oddities CliFault) → PrintsWhole print_limit input text p
     → IfSome p.stop IsStop → WritesPrint shapes format p old new v → AnswersPages shapes input format text old new v
 answered shapes input format text p old new v h stop w = record {
   edges = h.edges;
@@ -140,9 +143,9 @@ answered shapes input format text p old new v h stop w = record {
     never : (f : CliFault) → p.stop ≡ Some f → (IsStop f → ⊥) → ⊥
     never f e n = n (let k : IfSome (Some f) IsStop = rw e at stop in k)
 
-    leaves : (v : Result (Unit {0}) CliFault) → WritesPrint shapes format p old new v
-        → LeavesPages (length text) p.stop shapes format (readings_up_to p.stop h.edges) old new v
-    leaves (Ok u) w = (h.says.short (no_own (back_in h.edges) h.own (sym h.ends.stop ∙ w.2)), w.2, (w.0, pages w.0 w.1, w.3))
+    leaves : (v : Result Oddities CliFault) → WritesPrint shapes format p old new v
+        → LeavesPages (length text) p.stop shapes format (readings_up_to p.stop h.edges) (oddities_of h.edges (readings_of h.edges)) old new v
+    leaves (Ok odd) w = (h.says.short (no_own (back_in h.edges) h.own (sym h.ends.stop ∙ w.2)), w.2, w.3 ∙ h.ends.odd w.2, (w.0, pages w.0 w.1, w.4))
     leaves (Err (Script fault)) w = never (Script fault) w.2 (λ o. o)
     leaves (Err (Trace fault)) w = (w.2, (w.0, pages w.0 w.1, w.3))
     leaves (Err (Wave fault)) w = (w.2, (w.0, pages w.0 w.1, w.3))
@@ -166,7 +169,7 @@ unanswered some shapes input format text old new f none large keeps =
     }
   where
     by : (f : CliFault) → IsNoReading f → (f ≡ TooLarge → print_limit < length text)
-        → (let s = some input text in let stop = stop_at (back_in s.edges) s.fault in LeavesPages (length text) stop shapes format (readings_up_to stop s.edges) old new (Err f))
+        → (let s = some input text in let stop = stop_at (back_in s.edges) s.fault in LeavesPages (length text) stop shapes format (readings_up_to stop s.edges) (oddities_of s.edges (readings_of s.edges)) old new (Err f))
     by TooLarge n l = (l refl, keeps)
     by NoMemory n l = keeps
     by ReadFailed n l = keeps
@@ -178,12 +181,12 @@ unanswered some shapes input format text old new f none large keeps =
     by WriteFailed n l = absurd n
 
 -- the same, where it is known what the reader gives
-pub all_answered : (a old new : Option (List ℕ)) (shapes : Shapes) (input : TraceInput) (format : Format) (p : Printed) (v : Result (Unit {0}) CliFault) → IfSome a (λ text. PrintsWhole print_limit input text p)
+pub all_answered : (a old new : Option (List ℕ)) (shapes : Shapes) (input : TraceInput) (format : Format) (p : Printed) (v : Result Oddities CliFault) → IfSome a (λ text. PrintsWhole print_limit input text p)
     → IfSome p.stop IsStop → WritesPrint shapes format p old new v → IfSome a (λ text. AnswersPages shapes input format text old new v)
 all_answered None old new shapes input format p v h stop writes = tt
 all_answered (Some text) old new shapes input format p v h stop writes = answered shapes input format text p old new v h stop writes
 
-pub none_answered : EachTextSaysEdges → (a old : Option (List ℕ)) (shapes : Shapes) (input : TraceInput) (format : Format) (f : CliFault) (v : Result (Unit {0}) CliFault) → IsErrAnd v (λ x. x ≡ f) → IsNoReading f
+pub none_answered : EachTextSaysEdges → (a old : Option (List ℕ)) (shapes : Shapes) (input : TraceInput) (format : Format) (f : CliFault) (v : Result Oddities CliFault) → IsErrAnd v (λ x. x ≡ f) → IsNoReading f
     → Keeps old old → IfSome a (λ text. GivesPrint print_limit input (Err f) text) → IfSome a (λ text. AnswersPages shapes input format text old old v)
 none_answered some None old shapes input format f v is none keeps h = tt
 none_answered some (Some text) old shapes input format f (Ok u) is none keeps h = absurd is

@@ -1,11 +1,14 @@
 -- Trusted: the bytes that a device hears, what they do not say of its inputs, and what `decode` answers for a recording where they are
--- wanted.
+-- wanted: with what is odd about the recording.
 use Rattle.std.specs.Prelude.{◌≡◌, ℕ, ◌<◌, ◌≤◌, Bool, false, not, ◌&&◌, List, [], ◌∷◌, length, Option, Some, None, Result, Ok, Err}
 use Rattle.std.specs.Io.KnownBytes.{Appends, IsAtEnd, Keeps}
 use Rattle.std.specs.List.{filter_map, list_any}
 use Rattle.pr_page.specs.declared.input.Input.{Input}
 use Rattle.pr_page.specs.declared.input.Input.TheVariants.{Select, Byte}
 use Rattle.pr_wire.specs.declared.Edge.{Edge}
+use Rattle.pr_decode.specs.Readings.{readings_of}
+use Rattle.pr_report.specs.Oddities.{oddities_of}
+use Rattle.pr_report.specs.declared.oddities.Oddities.{Oddities}
 use Rattle.pr_render.specs.declared.format.Device.{Device}
 use Rattle.pr_render.specs.declared.format.Device.TheVariants.{Four, Five}
 use Rattle.pr_capture.specs.declared.format.TraceInput.{TraceInput}
@@ -55,35 +58,39 @@ are_both sets = list_any (λ lower. lower) sets && list_any (λ lower. not lower
 abbrev pub heard_with : List Input → Heard
 heard_with inputs = record { lower = first_set (sets_of inputs); reselected = are_both (sets_of inputs) }
 
--- what the writer holds with each answer, by the length of the recording, why it stops, and what the device hears
+-- what the writer holds with each answer, by the length of the recording, why it stops, what the device hears, and what is
+-- odd about the recording
 abbrev pub LeavesBytes :
-    (len : ℕ) → (stop : Option CliFault) → List Input → Option (List ℕ) → Option (List ℕ) → Result Heard CliFault
+    (len : ℕ) → (stop : Option CliFault) → List Input → Oddities → Option (List ℕ) → Option (List ℕ)
+    → Result (Heard × Oddities) CliFault
     → Type 0
-LeavesBytes len stop inputs old new (Ok heard) =
-    (len ≤ trace_limit) × (stop ≡ None) × (heard ≡ heard_with inputs) × Appends old new (bytes_of inputs)
-LeavesBytes len stop inputs old new (Err (Script fault)) = ⊥
-LeavesBytes len stop inputs old new (Err (Trace fault)) =
+LeavesBytes len stop inputs odd old new (Ok answer) =
+    (len ≤ trace_limit) × (stop ≡ None) × (answer.0 ≡ heard_with inputs) × (answer.1 ≡ odd)
+    × Appends old new (bytes_of inputs)
+LeavesBytes len stop inputs odd old new (Err (Script fault)) = ⊥
+LeavesBytes len stop inputs odd old new (Err (Trace fault)) =
     (stop ≡ Some (Trace fault)) × Appends old new (bytes_of inputs)
-LeavesBytes len stop inputs old new (Err (Wave fault)) = (stop ≡ Some (Wave fault)) × Appends old new (bytes_of inputs)
-LeavesBytes len stop inputs old new (Err (Capture fault)) =
+LeavesBytes len stop inputs odd old new (Err (Wave fault)) = (stop ≡ Some (Wave fault)) × Appends old new (bytes_of inputs)
+LeavesBytes len stop inputs odd old new (Err (Capture fault)) =
     (stop ≡ Some (Capture fault)) × Appends old new (bytes_of inputs)
-LeavesBytes len stop inputs old new (Err (Picture fault)) = ⊥
-LeavesBytes len stop inputs old new (Err TooLarge) = (trace_limit < len) × Keeps old new
-LeavesBytes len stop inputs old new (Err NoMemory) = Keeps old new
-LeavesBytes len stop inputs old new (Err ReadFailed) = Keeps old new
-LeavesBytes len stop inputs old new (Err WriteFailed) = AppendsFront old new (bytes_of inputs)
+LeavesBytes len stop inputs odd old new (Err (Picture fault)) = ⊥
+LeavesBytes len stop inputs odd old new (Err TooLarge) = (trace_limit < len) × Keeps old new
+LeavesBytes len stop inputs odd old new (Err NoMemory) = Keeps old new
+LeavesBytes len stop inputs odd old new (Err ReadFailed) = Keeps old new
+LeavesBytes len stop inputs odd old new (Err WriteFailed) = AppendsFront old new (bytes_of inputs)
 
 -- the answer, by the text and by what the writer held before and after
 pub record AnswersBytes (input : TraceInput) (device : Device) (text : List ℕ) (old new : Option (List ℕ))
-    (result : Result Heard CliFault) : Type 0 where
+    (result : Result (Heard × Oddities) CliFault) : Type 0 where
   pub edges : List Edge
   pub own : Option CliFault
   pub says : Says input text edges own
   pub leaves :
       let stop = stop_at (back_in edges) own in
-      LeavesBytes (length text) stop (heard_in (number_of device) (readings_up_to stop edges)) old new result
+      LeavesBytes (length text) stop (heard_in (number_of device) (readings_up_to stop edges))
+      (oddities_of edges (readings_of edges)) old new result
 
 -- the recording has been read to its end where all of it is answered
-abbrev pub HasReadBytes : Option (List ℕ) → Result Heard CliFault → Type 0
-HasReadBytes left (Ok heard) = IsAtEnd left
+abbrev pub HasReadBytes : Option (List ℕ) → Result (Heard × Oddities) CliFault → Type 0
+HasReadBytes left (Ok answer) = IsAtEnd left
 HasReadBytes left (Err fault) = Unit {0}

@@ -4,7 +4,10 @@ use Rattle.std.specs.Prelude.{◌≡◌, ℕ, ◌<◌, List, ◌++◌, length, O
 use Rattle.std.specs.Io.KnownBytes.{Appends, IsAtEnd}
 use Rattle.pr_wire.specs.declared.Edge.{Edge}
 use Rattle.pr_decode.specs.declared.reading.Reading.{Reading}
-use Rattle.pr_decode.specs.Taking.{HasReadings, last_time}
+use Rattle.pr_decode.specs.Readings.{readings_of}
+use Rattle.pr_decode.specs.Taking.{last_time}
+use Rattle.pr_report.specs.Oddities.{oddities_of}
+use Rattle.pr_report.specs.declared.oddities.Oddities.{Oddities}
 use Rattle.pr_capture.specs.declared.format.TraceInput.{TraceInput}
 use Rattle.pr_input.specs.PartlyWritten.{AppendsFront}
 use Rattle.pr_cli.specs.Check.{trace_limit}
@@ -19,14 +22,15 @@ use Rattle.pr_recording.specs.declared.device_capture.Overheard.{Overheard}
 use Rattle.pr_recording.specs.Decoded.{back_in, in_front, stop_at}
 use Rattle.pr_recording.specs.Logged.{AreHeard, HasHeard}
 use Rattle.pr_recording.specs.Narrated.{time_of}
+use Rattle.pr_recording.specs.Observed.{HasObserved}
 use Rattle.pr_recording.specs.Pages.{readings_up_to}
 use Rattle.pr_recording.specs.PrintedPages.{heard_in}
 
 -- edges in time order were taken, and their readings
 pub record HasOverheard (device : ℕ) (edges : List Edge) (c : DeviceCapture) : Type 0 where
   pub given : List Reading
-  pub read : HasReadings edges given c.decoder
-  pub last : last_time c.decoder ≡ time_of edges
+  pub read : HasObserved edges given c.observer
+  pub last : last_time c.observer.decoder ≡ time_of edges
   pub heard : HasHeard device given c.log
   pub taken : c.taken ≡ length edges
 
@@ -48,6 +52,7 @@ edges_captured c = c.taken
 pub record EndsCapture (device : ℕ) (edges : List Edge) (own : Option CliFault) (o : Overheard) : Type 0 where
   pub stop : o.stop ≡ stop_at (back_in edges) own
   pub heard : AreHeard (heard_in device (readings_up_to o.stop edges)) o.heard
+  pub odd : o.stop ≡ None → o.odd ≡ oddities_of edges (readings_of edges)
 
 -- the end of an input of which the edges before the last block were taken
 abbrev pub EndsOverheard : InputReader → DeviceCapture → Overheard → Type 0
@@ -77,8 +82,8 @@ HasReadOverheard left (Ok o) = o.stop ≡ None → IsAtEnd left
 HasReadOverheard left (Err fault) = Unit {0}
 
 -- what is written of it
-abbrev pub WritesOverheard : Overheard → Option (List ℕ) → Option (List ℕ) → Result Heard CliFault → Type 0
-WritesOverheard o old new (Ok heard) =
-    (o.stop ≡ None) × (heard ≡ o.heard.heard) × Appends old new o.heard.bytes.items
+abbrev pub WritesOverheard : Overheard → Option (List ℕ) → Option (List ℕ) → Result (Heard × Oddities) CliFault → Type 0
+WritesOverheard o old new (Ok answer) =
+    (o.stop ≡ None) × (answer.0 ≡ o.heard.heard) × (answer.1 ≡ o.odd) × Appends old new o.heard.bytes.items
 WritesOverheard o old new (Err WriteFailed) = AppendsFront old new o.heard.bytes.items
 WritesOverheard o old new (Err fault) = (o.stop ≡ Some fault) × Appends old new o.heard.bytes.items

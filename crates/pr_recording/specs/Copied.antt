@@ -1,9 +1,11 @@
 -- Linking words, for proofs: which edges were taken and printed. No reader needs to believe them.
-use Rattle.std.specs.Prelude.{◌≡◌, ℕ, List, ◌++◌, length, Option}
+use Rattle.std.specs.Prelude.{◌≡◌, ℕ, List, ◌++◌, length, Option, None}
 use Rattle.std.specs.Option.{option_to_list}
 use Rattle.pr_wire.specs.declared.Edge.{Edge}
 use Rattle.pr_decode.specs.declared.reading.Reading.{Reading}
-use Rattle.pr_decode.specs.Taking.{HasReadings, last_time}
+use Rattle.pr_decode.specs.Readings.{readings_of}
+use Rattle.pr_decode.specs.Taking.{last_time}
+use Rattle.pr_report.specs.Oddities.{oddities_of}
 use Rattle.pr_recording.specs.declared.printer_pair.BusPrinters.{BusPrinters}
 use Rattle.pr_recording.specs.PrintedPages.{ArePapers}
 use Rattle.pr_recording.specs.Taking as reprint
@@ -14,6 +16,7 @@ use Rattle.pr_recording.specs.declared.capture_printer.CapturePrinter.{CapturePr
 use Rattle.pr_recording.specs.declared.capture_printer.Printed.{Printed}
 use Rattle.pr_recording.specs.Decoded.{back_in, in_front, stop_at}
 use Rattle.pr_recording.specs.Narrated.{time_of}
+use Rattle.pr_recording.specs.Observed.{HasObserved}
 use Rattle.pr_recording.specs.Pages.{readings_up_to}
 
 -- Printing the edges of a recording.
@@ -21,8 +24,8 @@ use Rattle.pr_recording.specs.Pages.{readings_up_to}
 -- edges in time order were taken, and their readings printed
 pub record HasPrinted (edges : List Edge) (c : CapturePrinter) : Type 0 where
   pub given : List Reading
-  pub read : HasReadings edges given c.decoder
-  pub last : last_time c.decoder ≡ time_of edges
+  pub read : HasObserved edges given c.observer
+  pub last : last_time c.observer.decoder ≡ time_of edges
   pub reprinted : reprint.HasReprinted given c.reprint
   pub taken : c.taken ≡ length edges
 
@@ -52,6 +55,7 @@ inputs_printed c = reprint.number_taken c.reprint
 pub record EndsCopy (edges : List Edge) (own : Option CliFault) (p : Printed) : Type 0 where
   pub stop : p.stop ≡ stop_at (back_in edges) own
   pub papers : ArePapers (readings_up_to p.stop edges) p.pages
+  pub odd : p.stop ≡ None → p.odd ≡ oddities_of edges (readings_of edges)
 
 -- the end of an input of which the edges before the last block were printed
 abbrev pub EndsPrinted : InputReader → CapturePrinter → Printed → Type 0

@@ -4,6 +4,7 @@ use Rattle.std.specs.Io.KnownBytes.{Appends, IsAtEnd, Keeps}
 use Rattle.pr_wire.specs.declared.Edge.{Edge}
 use Rattle.pr_dots.specs.declared.character_sets.Shapes.{Shapes}
 use Rattle.pr_render.specs.declared.format.Format.{Format}
+use Rattle.pr_report.specs.declared.oddities.Oddities.{Oddities}
 use Rattle.pr_capture.specs.declared.format.TraceInput.{TraceInput}
 use Rattle.pr_cli.specs.Formats.{text_in}
 use Rattle.pr_input.specs.PartlyWritten.{AppendsFront}
@@ -40,9 +41,9 @@ abbrev pub text_of_print : Shapes → Format → Printed → Result (List ℕ) P
 text_of_print shapes format p = text_in shapes format p.pages.present (papers_alone p.pages)
 
 abbrev pub WritesPrint :
-    Shapes → Format → Printed → Option (List ℕ) → Option (List ℕ) → Result (Unit {0}) CliFault → Type 0
-WritesPrint shapes format p old new (Ok _) =
-    (text : List ℕ) × (text_of_print shapes format p ≡ Ok text) × (p.stop ≡ None) × Appends old new text
+    Shapes → Format → Printed → Option (List ℕ) → Option (List ℕ) → Result Oddities CliFault → Type 0
+WritesPrint shapes format p old new (Ok odd) =
+    (text : List ℕ) × (text_of_print shapes format p ≡ Ok text) × (p.stop ≡ None) × (odd ≡ p.odd) × Appends old new text
 WritesPrint shapes format p old new (Err NoMemory) = Keeps old new
 WritesPrint shapes format p old new (Err (Picture fault)) = (text_of_print shapes format p ≡ Err fault) × Keeps old new
 WritesPrint shapes format p old new (Err WriteFailed) =

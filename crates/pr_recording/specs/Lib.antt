@@ -4,6 +4,7 @@ pub mod Judged
 pub mod Narrated
 pub mod EdgesRead
 pub mod Pages
+pub mod Observed
 pub mod Copied
 pub mod Copying
 pub mod Laws

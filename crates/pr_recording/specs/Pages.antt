@@ -1,12 +1,14 @@
 -- Trusted: what `decode` answers for a recording when its pages are wanted, and what it leaves in the writer, with characters
 -- of some shapes.
 use Rattle.std.specs.Prelude.{◌≡◌, ℕ, ◌<◌, ◌≤◌, List, [], length, Option, Some, None, Result, Ok, Err}
-use Rattle.std.specs.Io.KnownBytes.{Appends, Keeps}
+use Rattle.std.specs.Io.KnownBytes.{Appends, IsAtEnd, Keeps}
 use Rattle.pr_wire.specs.declared.Edge.{Edge}
 use Rattle.pr_decode.specs.declared.reading.Reading.{Reading}
 use Rattle.pr_decode.specs.Readings.{readings_of, settled_of}
 use Rattle.pr_recording.specs.declared.printer_pair.PrintedPages.{PrintedPages}
 use Rattle.pr_recording.specs.PrintedPages.{ArePapers}
+use Rattle.pr_report.specs.Oddities.{oddities_of}
+use Rattle.pr_report.specs.declared.oddities.Oddities.{Oddities}
 use Rattle.pr_system.specs.declared.outcome.Outcome.{Outcome}
 use Rattle.pr_dots.specs.declared.character_sets.Shapes.{Shapes}
 use Rattle.pr_render.specs.declared.format.Format.{Format}
@@ -55,34 +57,40 @@ abbrev pub WritesFrontOfPages : Shapes → Format → List Reading → Option (L
 WritesFrontOfPages shapes format readings old new =
     (text : List ℕ) × IsPagesOf shapes format readings text × AppendsFront old new text
 
--- what the writer holds with each answer, by the length of the input, why it stops, and the readings that are printed
+-- what the writer holds with each answer, by the length of the input, why it stops, the readings that are printed, and what is odd
+-- about the recording
 abbrev pub LeavesPages :
-    (len : ℕ) → (stop : Option CliFault) → Shapes → Format → List Reading → Option (List ℕ) → Option (List ℕ)
-    → Result (Unit {0}) CliFault → Type 0
-LeavesPages len stop shapes format rs old new (Ok _) =
-    (len ≤ print_limit) × (stop ≡ None) × WritesPages shapes format rs old new
-LeavesPages len stop shapes format rs old new (Err (Script fault)) = ⊥
-LeavesPages len stop shapes format rs old new (Err (Trace fault)) =
+    (len : ℕ) → (stop : Option CliFault) → Shapes → Format → List Reading → Oddities → Option (List ℕ) → Option (List ℕ)
+    → Result Oddities CliFault → Type 0
+LeavesPages len stop shapes format rs odd old new (Ok answer) =
+    (len ≤ print_limit) × (stop ≡ None) × (answer ≡ odd) × WritesPages shapes format rs old new
+LeavesPages len stop shapes format rs odd old new (Err (Script fault)) = ⊥
+LeavesPages len stop shapes format rs odd old new (Err (Trace fault)) =
     (stop ≡ Some (Trace fault)) × WritesPages shapes format rs old new
-LeavesPages len stop shapes format rs old new (Err (Wave fault)) =
+LeavesPages len stop shapes format rs odd old new (Err (Wave fault)) =
     (stop ≡ Some (Wave fault)) × WritesPages shapes format rs old new
-LeavesPages len stop shapes format rs old new (Err (Capture fault)) =
+LeavesPages len stop shapes format rs odd old new (Err (Capture fault)) =
     (stop ≡ Some (Capture fault)) × WritesPages shapes format rs old new
-LeavesPages len stop shapes format rs old new (Err (Picture fault)) = AreUnshown shapes format rs fault × Keeps old new
-LeavesPages len stop shapes format rs old new (Err TooLarge) = (print_limit < len) × Keeps old new
-LeavesPages len stop shapes format rs old new (Err NoMemory) = Keeps old new
-LeavesPages len stop shapes format rs old new (Err ReadFailed) = Keeps old new
-LeavesPages len stop shapes format rs old new (Err WriteFailed) = WritesFrontOfPages shapes format rs old new
+LeavesPages len stop shapes format rs odd old new (Err (Picture fault)) = AreUnshown shapes format rs fault × Keeps old new
+LeavesPages len stop shapes format rs odd old new (Err TooLarge) = (print_limit < len) × Keeps old new
+LeavesPages len stop shapes format rs odd old new (Err NoMemory) = Keeps old new
+LeavesPages len stop shapes format rs odd old new (Err ReadFailed) = Keeps old new
+LeavesPages len stop shapes format rs odd old new (Err WriteFailed) = WritesFrontOfPages shapes format rs old new
 
 -- the answer, by the text and by what the writer held before and after
 pub record AnswersPages (shapes : Shapes) (input : TraceInput) (format : Format) (text : List ℕ)
-    (old new : Option (List ℕ)) (result : Result (Unit {0}) CliFault) : Type 0 where
+    (old new : Option (List ℕ)) (result : Result Oddities CliFault) : Type 0 where
   pub edges : List Edge
   pub own : Option CliFault
   pub says : Says input text edges own
   pub leaves :
       let stop = stop_at (back_in edges) own in
-      LeavesPages (length text) stop shapes format (readings_up_to stop edges) old new result
+      LeavesPages (length text) stop shapes format (readings_up_to stop edges) (oddities_of edges (readings_of edges)) old new result
+
+-- the recording has been read to its end where all of it is answered
+abbrev pub ReadsPages : Option (List ℕ) → Result Oddities CliFault → Type 0
+ReadsPages left (Ok odd) = IsAtEnd left
+ReadsPages left (Err fault) = Unit {0}
 
 -- a fault of pages that are asked for: one of the recording or of their picture
 abbrev pub IsReprintFault : CliFault → Type 0

@@ -18,6 +18,7 @@ use pr_cli::{
     write_whole,
 };
 use pr_render::Device;
+use pr_report::Oddities;
 use std::alloc::{AllocError, Global};
 use std::io::{Read, Write};
 
@@ -25,7 +26,7 @@ use std::io::{Read, Write};
 /// the bytes that were acknowledged, the data bytes that come while the printer listens. `raw` prints them.
 ///
 /// The secondary address that selects a character set is no byte: the answer says in which set the first byte comes,
-/// and whether a byte comes in the other one.
+/// and whether a byte comes in the other one. It says too what is odd about the recording.
 ///
 /// The recording may begin anywhere and have any levels. It is read block by block and not kept; the bytes that the
 /// printer hears are kept, and written when the recording has ended.
@@ -50,7 +51,7 @@ pub fn bytes_over<R: Read, W: Write>(
     output: &mut Watched<W>,
     trace: TraceInput<'_>,
     device: Device,
-) -> Result<Heard, CliFault>
+) -> Result<(Heard, Oddities), CliFault>
     // the caller's part
     requires input { has_failed input.old ≡ false }
     requires output { has_failed output.old ≡ false }
@@ -125,7 +126,7 @@ fn end_capture(reader: InputReader<'_>, mut capture: DeviceCapture) -> Result<Ov
 fn write_overheard<W: Write>(
     output: &mut Watched<W>,
     overheard: Overheard,
-) -> Result<Heard, CliFault>
+) -> Result<(Heard, Oddities), CliFault>
     // the caller's part
     requires fresh { has_failed output.old ≡ false }
     requires stop { IfSome overheard.stop IsStop }
@@ -136,13 +137,13 @@ fn write_overheard<W: Write>(
     ensures own { IfErr result IsDecodeFault }
     ensures failed { IsErrOf result CliFault.WriteFailed ↔ (has_failed output.new ≡ true) }
 {
-    let Overheard { heard, stop } = overheard;
+    let Overheard { heard, odd, stop } = overheard;
     match write_whole(output, heard.bytes.as_slice()) {
         Ok(()) => {}
         Err(WriteFault) => return Err(CliFault::WriteFailed),
     }
     match stop {
-        None => Ok(heard.heard),
+        None => Ok((heard.heard, odd)),
         Some(fault) => Err(fault),
     }
 }

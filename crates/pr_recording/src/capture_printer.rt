@@ -6,10 +6,12 @@ ghost use Rattle.pr_recording.specs.Taking.{number_taken};
 ghost use Rattle.pr_recording.specs.Copied.{CopiesMore, EndsCopy, HasCopied, PrintsReading, edges_copied, inputs_printed};
 
 use crate::decode_report::stop_at;
+use crate::observer::Observer;
 use crate::printer_pair::{PrintedPages, PrinterPair};
 use pr_cli::CliFault;
-use pr_decode::{Decoder, GoesBack, Reading, readings_add_up};
+use pr_decode::{GoesBack, Reading, readings_add_up};
 use pr_page::NoMemory;
+use pr_report::Oddities;
 use pr_wire::Edge;
 use std::alloc::Global;
 
@@ -18,6 +20,8 @@ use std::alloc::Global;
 pub struct Printed {
     /// The papers of printers 4 and 5.
     pub pages: PrintedPages,
+    /// What is odd about a recording that nothing stops.
+    pub odd: Oddities,
     /// The fault of the recording after which nothing is printed.
     pub stop: Option<CliFault>,
 }
@@ -37,7 +41,7 @@ fn print_if(reprint: &mut PrinterPair, reading: Option<Reading>) -> Result<(), N
 /// Prints what the edges of a recording say, up to where time goes back.
 #[derive(Drop)]
 pub struct CapturePrinter {
-    decoder: Decoder,
+    observer: Observer,
     reprint: PrinterPair,
     /// How many edges were taken.
     taken: usize,
@@ -53,7 +57,7 @@ impl CapturePrinter {
         ensures inputs { inputs_printed result ≡ 0 }
     {
         CapturePrinter {
-            decoder: Decoder::new(),
+            observer: Observer::new(),
             reprint: PrinterPair::new(alloc),
             taken: 0,
             back: None,
@@ -71,7 +75,7 @@ impl CapturePrinter {
         if self.back.is_some() {
             return Ok(());
         }
-        match self.decoder.take(edge) {
+        match self.observer.take(edge) {
             Ok(reading) => {
                 self.taken += 1;
                 print_if(&mut self.reprint, reading)
@@ -105,13 +109,17 @@ impl CapturePrinter {
     {
         readings_add_up();
         let stop = stop_at(self.back, own);
+        let (cut, odd) = self.observer.finish();
         if stop.is_some() {
             let pages = self.reprint.finish();
-            return Ok(Printed { pages, stop });
+            return Ok(Printed { pages, odd, stop });
         }
-        let cut = self.decoder.finish();
         print_if(&mut self.reprint, cut)?;
         let pages = self.reprint.finish();
-        Ok(Printed { pages, stop: None })
+        Ok(Printed {
+            pages,
+            odd,
+            stop: None,
+        })
     }
 }

@@ -9,9 +9,11 @@ ghost use Rattle.pr_recording.specs.Logged.{HearsMore};
 use crate::byte_log::HeardBytes;
 use crate::decode_report::stop_at;
 use crate::device_log::DeviceLog;
+use crate::observer::Observer;
 use pr_cli::CliFault;
-use pr_decode::{Decoder, GoesBack, Reading, readings_add_up};
+use pr_decode::{GoesBack, Reading, readings_add_up};
 use pr_page::NoMemory;
+use pr_report::Oddities;
 use pr_wire::Edge;
 use std::alloc::Global;
 
@@ -19,6 +21,8 @@ use std::alloc::Global;
 #[derive(Drop)]
 pub struct Overheard {
     pub heard: HeardBytes,
+    /// What is odd about a recording that nothing stops.
+    pub odd: Oddities,
     /// The fault of the recording after which nothing is heard.
     pub stop: Option<CliFault>,
 }
@@ -36,7 +40,7 @@ pub fn hear_if(log: &mut DeviceLog, reading: Option<Reading>) -> Result<(), NoMe
 /// Keeps the bytes that a device hears of the edges of a recording, up to where time goes back.
 #[derive(Drop)]
 pub struct DeviceCapture {
-    decoder: Decoder,
+    observer: Observer,
     log: DeviceLog,
     /// How many edges were taken.
     taken: usize,
@@ -52,7 +56,7 @@ impl DeviceCapture {
         ensures edges { edges_captured result ≡ 0 }
     {
         DeviceCapture {
-            decoder: Decoder::new(),
+            observer: Observer::new(),
             log: DeviceLog::new(alloc, device),
             taken: 0,
             back: None,
@@ -68,7 +72,7 @@ impl DeviceCapture {
         if self.back.is_some() {
             return Ok(());
         }
-        match self.decoder.take(edge) {
+        match self.observer.take(edge) {
             Ok(reading) => {
                 self.taken += 1;
                 hear_if(&mut self.log, reading)
@@ -100,13 +104,17 @@ impl DeviceCapture {
     {
         readings_add_up();
         let stop = stop_at(self.back, own);
+        let (cut, odd) = self.observer.finish();
         if stop.is_some() {
             let heard = self.log.finish();
-            return Ok(Overheard { heard, stop });
+            return Ok(Overheard { heard, odd, stop });
         }
-        let cut = self.decoder.finish();
         hear_if(&mut self.log, cut)?;
         let heard = self.log.finish();
-        Ok(Overheard { heard, stop: None })
+        Ok(Overheard {
+            heard,
+            odd,
+            stop: None,
+        })
     }
 }

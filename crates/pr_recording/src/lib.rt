@@ -17,7 +17,8 @@
 //!   part (pr_receiver's `Listener`) and pr_page's `Printer`. `frame` is the frame that a reading says. A
 //!   frame that printer 4 has printed and printer 5 was refused cannot be given to both again, so a
 //!   refusal is for good.
-//! - `bytes` has that loop once more, with `device_capture`. `device_log` is one printer's listening part with
+//! - `bytes` has that loop once more, with `device_capture`. Both take the readings of an `observer`, a decoder that
+//!   also sees what is odd. `device_log` is one printer's listening part with
 //!   a `byte_log`, which keeps the bytes of its inputs and the character sets in which they come.
 //! - `run_bytes` performs a script statement by statement, and hands the edges of each to `run_log`, a decoder
 //!   with a `device_log`.
@@ -35,6 +36,7 @@ mod device_log;
 mod frame;
 mod judge;
 mod laws;
+mod observer;
 mod pages;
 mod printer_pair;
 mod reading_log;

@@ -7,9 +7,8 @@ ghost use Rattle.pr_cli.specs.Report.{IsNoReading};
 ghost use Rattle.pr_input.specs.Watched.{has_failed, is_flushed, wrapped};
 ghost use Rattle.pr_recording.specs.Copied.{EndsPrinted, edges_copied, inputs_printed};
 ghost use Rattle.pr_recording.specs.Copying.{GivesPrint, HasReadPages, WritesPrint};
-ghost use Rattle.pr_recording.specs.Decoded.{ReadsAll};
 ghost use Rattle.pr_recording.specs.Narrated.{IsStop};
-ghost use Rattle.pr_recording.specs.Pages.{AnswersPages, IsReprintFault, papers_alone, print_limit};
+ghost use Rattle.pr_recording.specs.Pages.{AnswersPages, IsReprintFault, ReadsPages, papers_alone, print_limit};
 
 use crate::capture_printer::{CapturePrinter, Printed};
 use crate::printer_pair::PrintedPages;
@@ -20,6 +19,7 @@ use pr_cli::{
 use pr_dots::Shapes;
 use pr_page::Sequence;
 use pr_render::Format;
+use pr_report::Oddities;
 use pr_system::Outcome;
 use std::alloc::{AllocError, Global};
 use std::io::{Read, Write};
@@ -31,7 +31,7 @@ pub const PRINT_LIMIT: usize = 4_000_000_000;
 /// Reads any recording of the bus, in any format, and writes the pages that printers 4 and 5 print of it,
 /// in this format: of the bytes that were acknowledged, those that each of them hears. The sheets are
 /// those of the printers that hear a byte; there are no statuses, no bytes on the screen and no stop.
-/// Pictures draw characters in these shapes.
+/// Pictures draw characters in these shapes. The answer is what is odd about the recording.
 ///
 /// The recording may begin anywhere and have any levels. It is read block by block and not kept, and the
 /// whole text is made before the first write.
@@ -58,14 +58,14 @@ pub fn reprint_over<R: Read, W: Write>(
     trace: TraceInput<'_>,
     format: Format,
     shapes: &Shapes,
-) -> Result<(), CliFault>
+) -> Result<Oddities, CliFault>
     // the caller's part
     requires input { has_failed input.old ≡ false }
     requires output { has_failed output.old ≡ false }
     // what it gives
     ensures pages { IfSome (R.remaining (wrapped input.old)) (λ text.
         AnswersPages shapes.now trace.entry format text (W.contents (wrapped output.old)) (W.contents (wrapped output.new)) result) }
-    ensures at_end { ReadsAll (R.remaining (wrapped input.new)) result }
+    ensures at_end { ReadsPages (R.remaining (wrapped input.new)) result }
     ensures flushed { OnOk result (is_flushed output.new ≡ true) }
     // when it refuses, and what that leaves
     ensures own { IfErr result IsReprintFault }
@@ -147,7 +147,7 @@ fn write_pages<W: Write>(
     printed: Printed,
     format: Format,
     shapes: &Shapes,
-) -> Result<(), CliFault>
+) -> Result<Oddities, CliFault>
     // the caller's part
     requires fresh { has_failed output.old ≡ false }
     requires stop { IfSome printed.stop IsStop }
@@ -158,7 +158,7 @@ fn write_pages<W: Write>(
     ensures own { IfErr result IsReprintFault }
     ensures failed { IsErrOf result CliFault.WriteFailed ↔ (has_failed output.new ≡ true) }
 {
-    let Printed { pages, stop } = printed;
+    let Printed { pages, odd, stop } = printed;
     let present = pages.present;
     let outcome = papers_alone(alloc, pages);
     let text = text_in_format(alloc, shapes, outcome, present, format)?;
@@ -167,7 +167,7 @@ fn write_pages<W: Write>(
         Err(WriteFault) => return Err(CliFault::WriteFailed),
     }
     match stop {
-        None => Ok(()),
+        None => Ok(odd),
         Some(fault) => Err(fault),
     }
 }

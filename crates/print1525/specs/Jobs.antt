@@ -5,6 +5,7 @@ use Rattle.std.specs.Prelude.{ℕ, true, false, List, Option, Result, Ok, Err}
 use Rattle.pr_capture.specs.declared.format.Source.{Source}
 use Rattle.pr_capture.specs.declared.format.Source.TheVariants as source
 use Rattle.pr_capture.specs.declared.format.TraceInput.{TraceInput}
+use Rattle.pr_report.specs.declared.oddities.Oddities.{Oddities}
 use Rattle.pr_report.specs.declared.report.Report.{Report}
 use Rattle.pr_report.specs.declared.report.Report.TheVariants as report
 use Rattle.pr_dots.specs.declared.character_sets.Shapes.{Shapes}
@@ -64,13 +65,13 @@ AnswersTrace input checked.Json text old new result = AnswersJson input text old
 -- an answer without a printer's bytes
 abbrev pub IsPlain : (Result Ending CliFault → Type 0) → Result Answer CliFault → Type 0
 IsPlain answers (Ok (answer.Ended ending)) = answers (Ok ending)
-IsPlain answers (Ok (answer.Heard ending heard)) = ⊥
+IsPlain answers (Ok _) = ⊥
 IsPlain answers (Err fault) = answers (Err fault)
 
 -- an answer with a printer's bytes
 abbrev pub IsHeard : (Result (Ending × Heard) CliFault → Type 0) → Result Answer CliFault → Type 0
-IsHeard answers (Ok (answer.Ended ending)) = ⊥
 IsHeard answers (Ok (answer.Heard ending heard)) = answers (Ok (ending, heard))
+IsHeard answers (Ok _) = ⊥
 IsHeard answers (Err fault) = answers (Err fault)
 
 -- an answer that no BASIC error can stop: it is done, or has a fault
@@ -79,11 +80,17 @@ IsDone answers (Ok (answer.Ended Done)) = answers (Ok tt)
 IsDone answers (Ok _) = ⊥
 IsDone answers (Err fault) = answers (Err fault)
 
--- the same with a printer's bytes
-abbrev pub IsHeardToEnd : (Result Heard CliFault → Type 0) → Result Answer CliFault → Type 0
-IsHeardToEnd answers (Ok (answer.Heard Done heard)) = answers (Ok heard)
-IsHeardToEnd answers (Ok _) = ⊥
-IsHeardToEnd answers (Err fault) = answers (Err fault)
+-- the same with a printer's bytes in a recording, and with what is odd about it
+abbrev pub IsOverheard : (Result (Heard × Oddities) CliFault → Type 0) → Result Answer CliFault → Type 0
+IsOverheard answers (Ok (answer.Overheard heard odd)) = answers (Ok (heard, odd))
+IsOverheard answers (Ok _) = ⊥
+IsOverheard answers (Err fault) = answers (Err fault)
+
+-- the same with what is odd about a recording that is printed
+abbrev pub IsReprinted : (Result Oddities CliFault → Type 0) → Result Answer CliFault → Type 0
+IsReprinted answers (Ok (answer.Reprinted odd)) = answers (Ok odd)
+IsReprinted answers (Ok _) = ⊥
+IsReprinted answers (Err fault) = answers (Err fault)
 
 -- what `pages` answers: the pages of a script, or the bytes that a printer hears in its run
 abbrev pub AnswersRun :
@@ -99,9 +106,9 @@ AnswersRecording shapes input (reading.Readings detail) text old new result =
 AnswersRecording shapes input reading.Json text old new result =
     IsDone (AnswersDecode trace_limit Json input text old new) result
 AnswersRecording shapes input (reading.Bytes device) text old new result =
-    IsHeardToEnd (AnswersBytes input device text old new) result
+    IsOverheard (AnswersBytes input device text old new) result
 AnswersRecording shapes input (reading.Pages f) text old new result =
-    IsDone (reprint.AnswersPages shapes input f text old new) result
+    IsReprinted (reprint.AnswersPages shapes input f text old new) result
 
 -- the answer of a job, by the input's bytes and by what the writer held before and after; for a run
 -- they are the bytes of a script text, also where the listing has another form; the format of a
@@ -141,7 +148,8 @@ IsJobFault (Raw lower f) fault = IsRawFault fault
 
 -- a recording has been read to its end, unless it has a fault
 abbrev pub ReadsRecording : DecodeOutput → Option (List ℕ) → Result Answer CliFault → Type 0
-ReadsRecording (reading.Bytes device) left result = IsHeardToEnd (HasReadBytes left) result
+ReadsRecording (reading.Bytes device) left result = IsOverheard (HasReadBytes left) result
+ReadsRecording (reading.Pages f) left result = IsReprinted (reprint.ReadsPages left) result
 ReadsRecording _ left result = IsDone (decode.ReadsAll left) result
 
 -- a trace has been read to its end where it is accepted, and where its edges are refused

@@ -9,7 +9,7 @@ use crate::progress::{Progress, clear};
 use crate::shown::Shown;
 use crate::starts::started_job;
 use crate::statuses::{FAILED, ending_status, fault_status, is_answered, text_status};
-use crate::told::{heard_told, subject_of, tell_listing, tell_more};
+use crate::told::{show_oddities, subject_of, tell_heard, tell_listing, tell_more};
 use pr_cli::{CliFault, Ending, SCRIPT_LIMIT, TeeReader, Watched};
 use pr_dots::Shapes;
 use pr_files::{Noting, save};
@@ -332,22 +332,30 @@ fn answer_over<R: Read + Drop, W: Write + Drop>(
 fn ending_of(answer: Result<Answer, CliFault>) -> Result<Ending, CliFault> {
     match answer {
         Ok(Answer::Ended(ending) | Answer::Heard(ending, _)) => Ok(ending),
+        Ok(Answer::Overheard(_, _) | Answer::Reprinted(_)) => Ok(Ending::Done),
         Err(fault) => Err(fault),
     }
 }
 
 /// Gives the exit status of a job that ended so. Where its bytes do not say in which character set a printer prints
-/// them, tells that in one line on standard error.
-fn tell_answer(rt: &impl Eprint, answer: Answer) -> u8
+/// them, tells that in one line on standard error, and then what is odd about a recording that was not listed.
+fn tell_answer(rt: &(impl Eprint + AllocGlobal), answer: Answer) -> u8
     ensures { result ≡ answer_status answer }
 {
     match answer {
         Answer::Ended(ending) => ending_status(ending),
         Answer::Heard(ending, heard) => {
-            if let Some(line) = heard_told(heard) {
-                let _ = rt.eprintln(format_args!("print1525: {line}"));
-            }
+            tell_heard(rt, heard);
             ending_status(ending)
+        }
+        Answer::Overheard(heard, odd) => {
+            tell_heard(rt, heard);
+            show_oddities(rt, odd);
+            ending_status(Ending::Done)
+        }
+        Answer::Reprinted(odd) => {
+            show_oddities(rt, odd);
+            ending_status(Ending::Done)
         }
     }
 }

@@ -17,7 +17,7 @@ use pr_options::{CheckOutput, DecodeOutput, Job, PagesOutput, found_source};
 use pr_recording::{
     Heard, Wording, bytes_over, check_json_over, decode_over, reprint_over, run_bytes_over,
 };
-use pr_report::Report;
+use pr_report::{Oddities, Report};
 use pr_serial::Present;
 use std::alloc::Global;
 use std::io::{Read, Write};
@@ -27,8 +27,12 @@ use std::io::{Read, Write};
 pub enum Answer {
     /// It wrote what was asked for.
     Ended(Ending),
-    /// It wrote the bytes that a printer hears, which do not say what [`Heard`] does.
+    /// It wrote the bytes that a printer hears in a run, which do not say what [`Heard`] does.
     Heard(Ending, Heard),
+    /// It wrote those that a printer hears in a recording, about which this is odd.
+    Overheard(Heard, Oddities),
+    /// It wrote the pages of a recording, about which this is odd.
+    Reprinted(Oddities),
 }
 
 /// Returns the job with the format that the first bytes of its recording show, where it has to be found; every other job
@@ -262,12 +266,12 @@ fn decode_recording<R: Read, W: Write>(
             Ok(Answer::Ended(Ending::Done))
         }
         DecodeOutput::Bytes(device) => {
-            let heard = bytes_over(alloc, input, output, trace, device)?;
-            Ok(Answer::Heard(Ending::Done, heard))
+            let (heard, odd) = bytes_over(alloc, input, output, trace, device)?;
+            Ok(Answer::Overheard(heard, odd))
         }
         DecodeOutput::Pages(format) => {
-            reprint_over(alloc, input, output, trace, format, shapes)?;
-            Ok(Answer::Ended(Ending::Done))
+            let odd = reprint_over(alloc, input, output, trace, format, shapes)?;
+            Ok(Answer::Reprinted(odd))
         }
     }
 }

@@ -14,6 +14,7 @@ use pr_listing::{
 };
 use pr_options::{Job, read_delays};
 use pr_recording::Heard;
+use pr_report::{Oddities, push_oddities};
 use pr_serial::Present;
 use pr_system::{NoMemory, Outcome, Running};
 use std::alloc::{AllocError, Global};
@@ -62,8 +63,15 @@ const BOTH_SETS_LOWER: &str =
     "the character set changes after the first byte: raw prints all bytes in one set, \
      with --set lower in that of the first byte";
 
+/// Tells what the bytes of a printer do not say, if there is anything, in one line on standard error.
+pub fn tell_heard(rt: &impl Eprint, heard: Heard) {
+    if let Some(line) = heard_told(heard) {
+        let _ = rt.eprintln(format_args!("print1525: {line}"));
+    }
+}
+
 /// What the bytes of a printer do not say, and what to do about it.
-pub fn heard_told(heard: Heard) -> Option<&'static str> {
+fn heard_told(heard: Heard) -> Option<&'static str> {
     match (heard.reselected, heard.lower) {
         (false, false) => None,
         (false, true) => Some(LOWER_SET),
@@ -314,6 +322,21 @@ fn trace_told(
     }
     write!(text, "{refusal}")?;
     push_indented(&mut text, remarks.oddities.as_slice())?;
+    Ok(text)
+}
+
+/// Writes what is odd about a recording, and what to try, on standard error: the last lines of its list, each after two
+/// blanks.
+pub fn show_oddities(rt: &(impl Eprint + AllocGlobal), odd: Oddities) {
+    show(rt, odd_lines(rt.alloc(), odd));
+}
+
+/// What is odd about a recording, and what to try.
+fn odd_lines(alloc: Global, odd: Oddities) -> Result<String, AllocError> {
+    let mut lines = Vec::new(alloc);
+    push_oddities(&mut lines, odd)?;
+    let mut text = String::new(alloc);
+    push_indented(&mut text, lines.as_slice())?;
     Ok(text)
 }
 

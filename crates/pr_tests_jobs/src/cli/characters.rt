@@ -12,6 +12,7 @@ use pr_cli::{
 };
 use pr_dots::Shapes;
 use pr_recording::reprint_over;
+use pr_report::Oddities;
 use pr_wire::example::TRACE_TEXT;
 use std::alloc::Global;
 use std::fmt::Display;
@@ -66,7 +67,7 @@ fn raw_drawn(alloc: Global, shapes: &Shapes) -> (Result<(), CliFault>, Vec<u8>) 
 }
 
 /// The picture of a recording's pages.
-fn recording_drawn(alloc: Global, shapes: &Shapes) -> (Result<(), CliFault>, Vec<u8>) {
+fn recording_drawn(alloc: Global, shapes: &Shapes) -> (Result<Oddities, CliFault>, Vec<u8>) {
     let mut input = Watched::new(TRACE_TEXT.as_bytes());
     let mut output = Watched::new(Vec::new(alloc));
     let source = usual(Source::Text);
