@@ -1,4 +1,4 @@
-use Rattle.std.proofs.Common.{◌≡◌, ◌+◌, ◌-◌, ◌/◌, ◌∙◌, arith, refl, sym}
+use Rattle.std.proofs.Common.{◌≡◌, ◌+◌, ◌-◌, ◌/◌, ◌∙◌, arith, sym}
 use Rattle.pr_web.proofs.Middles.{below_more, middle_found}
 use Rattle.pr_web.proofs.lengths.middle.Goals as goal
 
