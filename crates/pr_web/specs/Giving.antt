@@ -28,7 +28,6 @@ use Rattle.pr_recording.specs.Pages.{AnswersPages, readings_up_to}
 use Rattle.pr_recording.specs.declared.wording.Wording.{Wording}
 use Rattle.pr_report.specs.declared.detail.Detail.{Detail}
 use Rattle.pr_report.specs.Contexts.{at_start}
-use Rattle.pr_report.specs.declared.oddities.Oddities.{Oddities}
 use Rattle.pr_report.specs.declared.report.Report.{Report}
 use Rattle.pr_explain.specs.OddLines.{AreRemarks}
 use Rattle.pr_explain.specs.declared.oddities.Remarks.{Remarks}
@@ -80,16 +79,11 @@ GivesReadings input wording bytes old new told =
     (made : Made) × (text : List ℕ) × AnswersDecode trace_limit wording input bytes (Some []) (Some text) made
     × Gives made text old new told
 
--- what was made, whatever else came of it
-abbrev pub without_value : {X : Type 0} → Result X CliFault → Made
-without_value (Ok value) = Ok tt
-without_value (Err fault) = Err fault
-
 -- the buffer gets the pages that printers print of a recording
 abbrev pub GivesPages : Shapes → TraceInput → Format → List ℕ → (old new : List ℕ) → Told → Type 0
 GivesPages shapes input format bytes old new told =
-    (made : Result Oddities CliFault) × (text : List ℕ) × AnswersPages shapes input format bytes (Some []) (Some text) made
-    × Gives (without_value made) text old new told
+    (made : Made) × (text : List ℕ) × AnswersPages shapes input format bytes (Some []) (Some text) made
+    × Gives made text old new told
 
 -- the buffer gets a report on a trace
 abbrev pub GivesReport : TraceInput → Report → List ℕ → (old new : List ℕ) → Told → Type 0
@@ -102,6 +96,11 @@ abbrev pub GivesJson : TraceInput → List ℕ → (old new : List ℕ) → Told
 GivesJson input bytes old new told =
     (made : Made) × (text : List ℕ) × AnswersJson input bytes (Some []) (Some text) made
     × Gives made text old new told
+
+-- what was made, whatever else came of it
+abbrev pub without_value : {X : Type 0} → Result X CliFault → Made
+without_value (Ok value) = Ok tt
+without_value (Err fault) = Err fault
 
 -- the buffer gets the pages of a script's run
 abbrev pub GivesRun : Shapes → Start → Format → List ℕ → (old new : List ℕ) → Told → Type 0
@@ -158,17 +157,11 @@ abbrev pub beside : Result Heard CliFault → Answer → Answer
 beside (Ok heard) answer = record answer { place = heard_number heard }
 beside (Err fault) answer = answer
 
--- what the bytes do not say, whatever is odd about the recording
-abbrev pub heard_alone : Result (Heard × Oddities) CliFault → Result Heard CliFault
-heard_alone (Ok answer) = Ok answer.0
-heard_alone (Err fault) = Err fault
-
 -- the buffer gets the bytes that a printer hears of a recording
 abbrev pub HandsBytes : TraceInput → Device → List ℕ → (old new : List ℕ) → Answer → Type 0
 HandsBytes input device bytes old new answer =
-    (made : Result (Heard × Oddities) CliFault) × (text : List ℕ) × AnswersBytes input device bytes (Some []) (Some text) made
-    × (told : Told) × Gives (without_value made) text old new told
-    × (answer ≡ beside (heard_alone made) (answer_of told))
+    (made : Result Heard CliFault) × (text : List ℕ) × AnswersBytes input device bytes (Some []) (Some text) made
+    × (told : Told) × Gives (without_value made) text old new told × (answer ≡ beside made (answer_of told))
 
 -- what the bytes of a run do not say, however it ended
 abbrev pub heard_in_run : Result (Ending × Heard) CliFault → Result Heard CliFault

@@ -2,7 +2,7 @@
 
 ghost use Rattle.std.specs.Prelude.{◌≡◌, ◌≢◌, length};
 ghost use Rattle.pr_web.specs.Asked.{TellsBytes, TellsJson, TellsReadings, TellsReport, TellsReprint};
-ghost use Rattle.pr_web.specs.Giving.{GivesJson, GivesPages, GivesReadings, GivesReport, HandsBytes, heard_alone};
+ghost use Rattle.pr_web.specs.Giving.{GivesJson, GivesPages, GivesReadings, GivesReport, HandsBytes};
 ghost use Rattle.pr_web.specs.Settings.{WithShapes, is_yes, printer_of, report_of, shown_of, source_of, wording_of};
 
 use crate::answer::{Answer, Told, beside, give, numbered, refused, without_value};
@@ -11,11 +11,11 @@ use crate::settings::{
 };
 use pr_capture::TraceInput;
 use pr_characters::CharactersFault;
-use pr_cli::{CliFault, Watched, check_as_over};
+use pr_cli::{Watched, check_as_over};
 use pr_dots::Shapes;
-use pr_recording::{Heard, Wording, bytes_over, check_json_over, decode_over, reprint_over};
+use pr_recording::{Wording, bytes_over, check_json_over, decode_over, reprint_over};
 use pr_render::{Device, Format};
-use pr_report::{Oddities, Report};
+use pr_report::Report;
 use std::alloc::Global;
 
 /// Reads a recording, and puts what it says at the front of a buffer.
@@ -50,17 +50,7 @@ fn reprint(
     let mut reader = Watched::new(bytes);
     let mut output = Watched::new(Vec::new(alloc));
     let made = reprint_over(alloc, &mut reader, &mut output, input, format, shapes);
-    give(without_value(made), &output.into_inner(), out)
-}
-
-/// What the bytes do not say, whatever is odd about the recording.
-fn heard_alone(made: Result<(Heard, Oddities), CliFault>) -> Result<Heard, CliFault>
-    ensures { result ≡ heard_alone made }
-{
-    match made {
-        Ok((heard, _)) => Ok(heard),
-        Err(fault) => Err(fault),
-    }
+    give(made, &output.into_inner(), out)
 }
 
 /// Reads a recording, and puts the bytes that a printer hears in it at the front of a buffer.
@@ -78,7 +68,7 @@ fn heard(
     let mut output = Watched::new(Vec::new(alloc));
     let made = bytes_over(alloc, &mut reader, &mut output, input, device);
     let told = give(without_value(made), &output.into_inner(), out);
-    beside(heard_alone(made), numbered(told))
+    beside(made, numbered(told))
 }
 
 /// Reads a trace, and puts a report on it at the front of a buffer.
