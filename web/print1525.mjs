@@ -155,14 +155,20 @@ function explained(answer, call) {
   return answer.fault === 51 ? '' : Buffer.from(call().text).toString('latin1');
 }
 
+/** What is odd about a recording, each line after two blanks, and how many microseconds later than asked for its trace begins. */
+function oddOf(module, asked) {
+  const { later, text } = module.remarks(asked), lines = Buffer.from(text).toString('latin1').split('\n').slice(0, -1);
+  return { later, odd: lines.map(line => `  ${line}\n`).join('') };
+}
+
 /** What --explain says of a trace: why it is refused, and of a recording where its trace begins, if later than asked for, and what is odd about it. */
 function traceTold(module, asked, answer) {
   if (answer.fault === 9) return '';
   const why = explained(answer, () => module.explainTrace(asked));
   if (asked.input === 'text') return why;
-  const { later, text } = module.remarks(asked), lines = Buffer.from(text).toString('latin1').split('\n').slice(0, -1);
+  const { later, odd } = oddOf(module, asked);
   const begins = `  the trace begins at microsecond ${BigInt(asked.start) + BigInt(later)} of the recording, where the levels of all three lines are first known\n`;
-  return (later ? begins : '') + why + lines.map(line => `  ${line}\n`).join('');
+  return (later ? begins : '') + why + odd;
 }
 
 /** The file of characters that a job names, or throws the line that says why it has none. No other file is opened before. */
@@ -190,7 +196,9 @@ function answerOf(module, job, bytes, characters) {
   if (job.command === 'decode') {
     const asked = { ...job, bytes, characters, input: job.isFound ? (job.input === 'csv' ? 'found csv' : 'found') : job.input };
     const answer = module.decode({ ...asked, output: job.format });
-    return { answer, explain: () => explained(answer, () => module.explainReading(asked)), hints: [] };
+    // a list says itself what is odd; pages and bytes cannot
+    const odd = answer.code || job.format === 'readings' || job.format === 'json' ? '' : oddOf(module, asked).odd;
+    return { answer, odd, explain: () => explained(answer, () => module.explainReading(asked)), hints: [] };
   }
   const listing = job.form === 'text' ? { code: 0, text: bytes } : module.listing({ bytes, form: job.form });
   if (listing.code) return { answer: listing, explain: () => '', hints: hintsOnListing(listing, bytes) };
@@ -285,10 +293,11 @@ async function run(words, files) {
   const output = job.output === null || STANDARD_OUTPUT.includes(job.output) ? standard : trying(() => files.save(job.output), outputFailed);
   try {
     const bytes = trying(() => files.readAll(input), inputFailed);
-    const { answer, explain, hints } = answerOf(module, job, bytes, characters);
+    const { answer, explain, hints, odd = '' } = answerOf(module, job, bytes, characters);
     trying(() => output.write(answer.text), outputFailed);
     if (answer.code > 1) tell(`print1525: ${module.words(answer)}\n`);
     else if (answer.heard && heardTold(answer.heard)) tell(`print1525: ${heardTold(answer.heard)}\n`);
+    if (odd) tell(odd);
     if (job.isExplained) tell((answer.code < 3 ? explain() : '') + hints.map(hint => `  ${hint}\n`).join(''));
     if (answer.code > 1) output.discard(); else trying(() => output.keep(), outputFailed);
     return answer.code;
