@@ -29,11 +29,12 @@ use Rattle.pr_web.specs.Answers.{answer_of}
 use Rattle.pr_web.specs.declared.answer.Answer.{Answer}
 use Rattle.pr_dots.specs.declared.character_sets.Shapes.{Shapes}
 use Rattle.pr_recording.specs.Pages.{AnswersPages, readings_up_to}
+use Rattle.pr_report.specs.declared.oddities.Oddities.{Oddities}
 use Rattle.pr_report.specs.declared.report.Report.{Report}
 use Rattle.pr_recording.specs.declared.wording.Wording.{Wording}
 use Rattle.pr_report.specs.declared.detail.Detail.{Detail}
 use Rattle.pr_report.specs.Contexts.{at_start}
-use Rattle.pr_web.specs.Giving.{Gives, GivesBus, GivesEdges, GivesFault, GivesIntervals, GivesJson, GivesLines, GivesPages, GivesRaw, GivesReadings, GivesReport, GivesRows, GivesRun, HandsBytes, HandsRunBytes, Made, beside, heard_in_run, made_of, without_value}
+use Rattle.pr_web.specs.Giving.{Gives, GivesBus, GivesEdges, GivesFault, GivesIntervals, GivesJson, GivesLines, GivesPages, GivesRaw, GivesReadings, GivesReport, GivesRows, GivesRun, HandsBytes, HandsRunBytes, Made, beside, heard_in_recording, heard_in_run, made_of, without_value}
 use Rattle.pr_web.specs.Lengths.{interval_numbers}
 use Rattle.pr_web.specs.Numbers.{AreLineNumbers, IsFaultRow, edge_numbers, reading_rows}
 use Rattle.pr_web.specs.Rows.{EndsReadings}
@@ -47,8 +48,8 @@ pub gives-readings : (input : TraceInput) (wording : Wording) (bytes text old ne
 gives-readings input wording bytes text old new made told a g = (made, text, a, g)
 
 -- so are its pages
-pub gives-pages : (shapes : Shapes) (input : TraceInput) (format : Format) (bytes text old new : List ℕ) (made : Made) (told : Told)
-    → AnswersPages shapes input format bytes (Some []) (Some text) made → Gives made text old new told → GivesPages shapes input format bytes old new told
+pub gives-pages : (shapes : Shapes) (input : TraceInput) (format : Format) (bytes text old new : List ℕ) (made : Result Oddities CliFault) (told : Told)
+    → AnswersPages shapes input format bytes (Some []) (Some text) made → Gives (without_value made) text old new told → GivesPages shapes input format bytes old new told
 gives-pages shapes input format bytes text old new made told a g = (made, text, a, g)
 
 -- so is a report on a trace
@@ -99,8 +100,8 @@ gives-intervals input bytes edges own ended numbers old new told says ends are g
     inl (edges, own, says, subst P ends.stop (subst R ends.readings (subst Q are g)))
 
 -- so are the bytes that a printer hears of a recording, or in a run
-pub hands-bytes : (input : TraceInput) (device : Device) (bytes text old new : List ℕ) (made : Result Heard CliFault) (told : Told) (answer : Answer)
-    → AnswersBytes input device bytes (Some []) (Some text) made → Gives (without_value made) text old new told → answer ≡ beside made (answer_of told)
+pub hands-bytes : (input : TraceInput) (device : Device) (bytes text old new : List ℕ) (made : Result (Heard × Oddities) CliFault) (told : Told) (answer : Answer)
+    → AnswersBytes input device bytes (Some []) (Some text) made → Gives (without_value made) text old new told → answer ≡ beside (heard_in_recording made) (answer_of told)
     → HandsBytes input device bytes old new answer
 hands-bytes input device bytes text old new made told answer a g is = (made, text, a, told, g, is)
 

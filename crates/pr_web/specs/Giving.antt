@@ -28,6 +28,7 @@ use Rattle.pr_recording.specs.Pages.{AnswersPages, readings_up_to}
 use Rattle.pr_recording.specs.declared.wording.Wording.{Wording}
 use Rattle.pr_report.specs.declared.detail.Detail.{Detail}
 use Rattle.pr_report.specs.Contexts.{at_start}
+use Rattle.pr_report.specs.declared.oddities.Oddities.{Oddities}
 use Rattle.pr_report.specs.declared.report.Report.{Report}
 use Rattle.pr_explain.specs.OddLines.{AreRemarks}
 use Rattle.pr_explain.specs.declared.oddities.Remarks.{Remarks}
@@ -73,6 +74,11 @@ Gives made text old new (TooSmall n) =
     (stop : Option CliFault) × HasText made stop × (n ≡ length text) × (length old < n) × (new ≡ old)
 Gives made text old new (Refused fault) = (made ≡ Err fault) × (is_of_input fault ≡ false) × (new ≡ old)
 
+-- what was made, whatever else came of it
+abbrev pub without_value : {X : Type 0} → Result X CliFault → Made
+without_value (Ok value) = Ok tt
+without_value (Err fault) = Err fault
+
 -- the buffer gets the lines of a recording
 abbrev pub GivesReadings : TraceInput → Wording → List ℕ → (old new : List ℕ) → Told → Type 0
 GivesReadings input wording bytes old new told =
@@ -82,8 +88,8 @@ GivesReadings input wording bytes old new told =
 -- the buffer gets the pages that printers print of a recording
 abbrev pub GivesPages : Shapes → TraceInput → Format → List ℕ → (old new : List ℕ) → Told → Type 0
 GivesPages shapes input format bytes old new told =
-    (made : Made) × (text : List ℕ) × AnswersPages shapes input format bytes (Some []) (Some text) made
-    × Gives made text old new told
+    (made : Result Oddities CliFault) × (text : List ℕ) × AnswersPages shapes input format bytes (Some []) (Some text) made
+    × Gives (without_value made) text old new told
 
 -- the buffer gets a report on a trace
 abbrev pub GivesReport : TraceInput → Report → List ℕ → (old new : List ℕ) → Told → Type 0
@@ -96,11 +102,6 @@ abbrev pub GivesJson : TraceInput → List ℕ → (old new : List ℕ) → Told
 GivesJson input bytes old new told =
     (made : Made) × (text : List ℕ) × AnswersJson input bytes (Some []) (Some text) made
     × Gives made text old new told
-
--- what was made, whatever else came of it
-abbrev pub without_value : {X : Type 0} → Result X CliFault → Made
-without_value (Ok value) = Ok tt
-without_value (Err fault) = Err fault
 
 -- the buffer gets the pages of a script's run
 abbrev pub GivesRun : Shapes → Start → Format → List ℕ → (old new : List ℕ) → Told → Type 0
@@ -157,11 +158,18 @@ abbrev pub beside : Result Heard CliFault → Answer → Answer
 beside (Ok heard) answer = record answer { place = heard_number heard }
 beside (Err fault) answer = answer
 
+-- what the bytes of a recording do not say, whatever is odd about it
+abbrev pub heard_in_recording : Result (Heard × Oddities) CliFault → Result Heard CliFault
+heard_in_recording (Ok answer) = Ok answer.0
+heard_in_recording (Err fault) = Err fault
+
 -- the buffer gets the bytes that a printer hears of a recording
 abbrev pub HandsBytes : TraceInput → Device → List ℕ → (old new : List ℕ) → Answer → Type 0
 HandsBytes input device bytes old new answer =
-    (made : Result Heard CliFault) × (text : List ℕ) × AnswersBytes input device bytes (Some []) (Some text) made
-    × (told : Told) × Gives (without_value made) text old new told × (answer ≡ beside made (answer_of told))
+    (made : Result (Heard × Oddities) CliFault) × (text : List ℕ)
+    × AnswersBytes input device bytes (Some []) (Some text) made
+    × (told : Told) × Gives (without_value made) text old new told
+    × (answer ≡ beside (heard_in_recording made) (answer_of told))
 
 -- what the bytes of a run do not say, however it ended
 abbrev pub heard_in_run : Result (Ending × Heard) CliFault → Result Heard CliFault

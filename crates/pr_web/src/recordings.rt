@@ -2,7 +2,7 @@
 
 ghost use Rattle.std.specs.Prelude.{◌≡◌, ◌≢◌, length};
 ghost use Rattle.pr_web.specs.Asked.{TellsBytes, TellsJson, TellsReadings, TellsReport, TellsReprint};
-ghost use Rattle.pr_web.specs.Giving.{GivesJson, GivesPages, GivesReadings, GivesReport, HandsBytes};
+ghost use Rattle.pr_web.specs.Giving.{GivesJson, GivesPages, GivesReadings, GivesReport, HandsBytes, heard_in_recording};
 ghost use Rattle.pr_web.specs.Settings.{WithShapes, is_yes, printer_of, report_of, shown_of, source_of, wording_of};
 
 use crate::answer::{Answer, Told, beside, give, numbered, refused, without_value};
@@ -11,11 +11,11 @@ use crate::settings::{
 };
 use pr_capture::TraceInput;
 use pr_characters::CharactersFault;
-use pr_cli::{Watched, check_as_over};
+use pr_cli::{CliFault, Watched, check_as_over};
 use pr_dots::Shapes;
-use pr_recording::{Wording, bytes_over, check_json_over, decode_over, reprint_over};
+use pr_recording::{Heard, Wording, bytes_over, check_json_over, decode_over, reprint_over};
 use pr_render::{Device, Format};
-use pr_report::Report;
+use pr_report::{Oddities, Report};
 use std::alloc::Global;
 
 /// Reads a recording, and puts what it says at the front of a buffer.
@@ -50,7 +50,7 @@ fn reprint(
     let mut reader = Watched::new(bytes);
     let mut output = Watched::new(Vec::new(alloc));
     let made = reprint_over(alloc, &mut reader, &mut output, input, format, shapes);
-    give(made, &output.into_inner(), out)
+    give(without_value(made), &output.into_inner(), out)
 }
 
 /// Reads a recording, and puts the bytes that a printer hears in it at the front of a buffer.
@@ -68,7 +68,17 @@ fn heard(
     let mut output = Watched::new(Vec::new(alloc));
     let made = bytes_over(alloc, &mut reader, &mut output, input, device);
     let told = give(without_value(made), &output.into_inner(), out);
-    beside(made, numbered(told))
+    beside(heard_in_recording(made), numbered(told))
+}
+
+/// What the bytes of a recording do not say, whatever is odd about it.
+fn heard_in_recording(made: Result<(Heard, Oddities), CliFault>) -> Result<Heard, CliFault>
+    ensures { result ≡ heard_in_recording made }
+{
+    match made {
+        Ok((heard, _)) => Ok(heard),
+        Err(fault) => Err(fault),
+    }
 }
 
 /// Reads a trace, and puts a report on it at the front of a buffer.
