@@ -1,6 +1,6 @@
 //! Where a trace starts that starts before its recording's own moment 0.
 
-ghost use Rattle.std.specs.Prelude.{◌+◌, ◌^◌, ◌<◌, ◌≤◌, OnOk};
+ghost use Rattle.std.specs.Prelude.{◌+◌, ◌^◌, ◌<◌, ◌≤◌, IfOk, IfSome};
 ghost use Rattle.pr_capture.specs.CsvSteps.{line_number};
 
 use crate::jobs::restarted_job;
@@ -48,9 +48,13 @@ fn zero_behind(alloc: Global, mut reader: CsvReader<'_>, row: &[u8]) -> Result<u
     requires few { line_number reader + 2 < 2 ^ 64 }
 {
     let row = with_zero(alloc, row)?;
-    let time = time_of(&mut reader, row.as_slice())?;
-    let next = time_of(&mut reader, row.as_slice())?;
-    Ok(if next == time { time } else { 0 })
+    let Some(time) = time_of(&mut reader, row.as_slice())? else {
+        return Ok(0);
+    };
+    match time_of(&mut reader, row.as_slice())? {
+        Some(next) if next == time => Ok(time),
+        _ => Ok(0),
+    }
 }
 
 /// A row with 0 for its time.
@@ -63,18 +67,18 @@ fn with_zero(alloc: Global, row: &[u8]) -> Result<Vec<u8>, AllocError> {
     Ok(made)
 }
 
-/// The time of a row, 0 where it has no sample.
-fn time_of(reader: &mut CsvReader<'_>, row: &[u8]) -> Result<u64, AllocError>
+/// The time of a row, if it has a sample.
+fn time_of(reader: &mut CsvReader<'_>, row: &[u8]) -> Result<Option<u64>, AllocError>
     requires few { line_number reader.old + 1 < 2 ^ 64 }
-    ensures number { OnOk result (line_number reader.new ≤ line_number reader.old + 1) }
+    ensures number { IfOk result (λ time. IfSome time (λ _. line_number reader.new ≤ line_number reader.old + 1)) }
 {
     if row.is_empty() {
-        return Ok(0);
+        return Ok(None);
     }
     match reader.take_front(row) {
-        Ok((_, Some(sample))) => Ok(sample.time),
-        Ok((_, None)) => Ok(0),
+        Ok((_, Some(sample))) => Ok(Some(sample.time)),
+        Ok((_, None)) => Ok(None),
         Err(CaptureFault::NoMemory) => Err(AllocError),
-        Err(_) => Ok(0),
+        Err(_) => Ok(None),
     }
 }
