@@ -93,6 +93,14 @@ FitsLine (work.Print mark width) = width ≤ line_dots
 FitsLine (work.PrintColumns dots count) = Unit {0}
 FitsLine (work.MoveTo x) = x ≤ line_dots
 
+-- the code only moves, or does nothing
+abbrev pub IsMove : Work → Type 0
+IsMove work.Nothing = Unit {0}
+IsMove work.EndLine = ⊥
+IsMove (work.Print mark width) = ⊥
+IsMove (work.PrintColumns dots count) = ⊥
+IsMove (work.MoveTo x) = Unit {0}
+
 -- the line ends, and these marks begin the next one
 abbrev pub ended : Sheet → Bool → List Placed → ℕ → Sheet
 ended s graphic marks position = record {

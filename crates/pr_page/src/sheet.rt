@@ -1,13 +1,17 @@
 //! The paper, and where the next mark goes.
 
-ghost use Rattle.std.specs.Prelude.{◌≡◌, ◌+◌, ◌-◌, ◌^◌, ◌<◌, ◌≤◌, [], ◌++◌, OnOk, OnErr, replicate, true};
-ghost use Rattle.pr_page.specs.Acts.{Print};
-ghost use Rattle.pr_page.specs.Steps.{acts_of_work, ended, printed, columns_from, sheet_after_all, FitsLine, GoesOn};
+ghost use Rattle.std.specs.Prelude.{◌≡◌, Bool, ◌+◌, ◌-◌, ◌^◌, ◌<◌, ◌≤◌, [], ◌++◌, OnOk, OnErr, replicate, true};
+ghost use Rattle.pr_page.specs.Token.{Plain};
+ghost use Rattle.pr_page.specs.Acts.{Print, acts_in};
+ghost use Rattle.pr_page.specs.Steps.{acts_of_work, ended, printed, columns_from, sheet_after_all, FitsLine, GoesOn, IsMove};
 ghost use Rattle.pr_page.specs.Lines.{line_dots};
+ghost use Rattle.pr_page.specs.Linked.{modes_of};
 
 use crate::carriage::pitch;
+use crate::codes::{CARRIAGE_RETURN, LINE_FEED};
 use crate::paper::{Mark, Paper, Placed, Row, Sequence};
-use crate::work::{LINE_DOTS, Work};
+use crate::settings::Settings;
+use crate::work::{CELL_DOTS, LINE_DOTS, Work, marks_a_cell};
 use std::alloc::{AllocError, Global};
 use std::mem;
 
@@ -126,7 +130,7 @@ impl Sheet {
 
     /// Makes as many equal columns of dots, as a repeat does in graphic mode.
     #[inline(never)]
-    fn print_columns(&mut self, alloc: Global, dots: u8, count: u8) -> Result<(), AllocError>
+    pub fn print_columns(&mut self, alloc: Global, dots: u8, count: u8) -> Result<(), AllocError>
         requires y { self.old.y < 2 ^ 60 }
         requires position { self.old.position ≤ line_dots }
         ensures ok { OnOk result (self.new ≡ sheet_after_all self.old (replicate count (Print true (Mark.Dots dots) 1))) }
@@ -154,25 +158,58 @@ impl Sheet {
         }
     }
 
-    /// Does what a byte has it do. A repeat asks for at most 255 columns.
+    /// What a byte by itself does under these settings and with this set selected.
     #[inline(always)]
-    pub fn perform(&mut self, alloc: Global, graphic: bool, work: Work) -> Result<(), AllocError>
+    pub fn print_plain(
+        &mut self,
+        alloc: Global,
+        settings: Settings,
+        lower: bool,
+        b: u8,
+    ) -> Result<(), AllocError>
         requires y { self.old.y < 2 ^ 60 }
         requires position { self.old.position ≤ line_dots }
-        requires fits { FitsLine work }
-        ensures ok { OnOk result (self.new ≡ sheet_after_all self.old (acts_of_work graphic work)) }
+        ensures ok { OnOk result (self.new ≡ sheet_after_all self.old (acts_in (modes_of settings) (Plain lower b))) }
         ensures range { OnOk result (GoesOn self.old self.new) }
         ensures err { OnErr result (self.new ≡ self.old) }
     {
-        match work {
-            Work::Nothing => Ok(()),
-            Work::EndLine => self.end_line(alloc, graphic),
-            Work::Print(mark, width) => self.print(alloc, graphic, mark, width),
-            Work::PrintColumns(dots, count) => self.print_columns(alloc, dots, count),
-            Work::MoveTo(x) => {
-                self.position = x;
+        if b == LINE_FEED || b == CARRIAGE_RETURN {
+            self.end_line(alloc, settings.graphic)
+        } else if settings.graphic {
+            if b >= 128 {
+                self.print(alloc, true, Mark::Dots(b - 128), 1)
+            } else {
                 Ok(())
             }
+        } else if marks_a_cell(b) {
+            let cell = Mark::Cell {
+                code: b,
+                lower: settings.override_set.unwrap_or(lower),
+                reverse: settings.reverse,
+                wide: settings.wide,
+            };
+            let width = if settings.wide {
+                2 * CELL_DOTS
+            } else {
+                CELL_DOTS
+            };
+            self.print(alloc, false, cell, width)
+        } else {
+            Ok(())
+        }
+    }
+
+    /// Goes where a command leads, if it leads anywhere.
+    #[inline(always)]
+    pub fn go(&mut self, work: Work)
+        requires position { self.old.position ≤ line_dots }
+        requires fits { FitsLine work }
+        requires moves { IsMove work }
+        ensures moved { (graphic : Bool) → self.new ≡ sheet_after_all self.old (acts_of_work graphic work) }
+        ensures range { GoesOn self.old self.new }
+    {
+        if let Work::MoveTo(x) = work {
+            self.position = x;
         }
     }
 }

@@ -6,9 +6,10 @@ ghost use Rattle.pr_page.specs.Lines.{line_dots};
 ghost use Rattle.pr_page.specs.declared.settings.Settings.{Settings};
 ghost use Rattle.pr_page.specs.Steps.{settings_after, begun_by, completed_by, tokens_by, state_after_tokens, step, start, GoesOn, IsInRange};
 
+use crate::codes::COLUMN;
 use crate::input::Input;
 use crate::paper::{Paper, Sequence};
-use crate::pending::Pending;
+use crate::pending::{Pending, begins_command};
 use crate::settings::Settings;
 use crate::sheet::Sheet;
 use crate::work::Work;
@@ -62,6 +63,23 @@ impl PrinterState {
         }
     }
 
+    /// Takes a byte that no command takes.
+    #[inline(always)]
+    fn take_unclaimed(&mut self, alloc: Global, b: u8) -> Result<(), AllocError>
+        requires y { self.old.sheet.y < 2 ^ 60 }
+        requires position { self.old.sheet.position ≤ line_dots }
+        ensures ok { OnOk result (self.new ≡ state_after_tokens self.old (completed_by self.old.lower b)) }
+        ensures range { OnOk result (GoesOn self.old.sheet self.new.sheet) }
+        ensures err { OnErr result (self.new ≡ self.old) }
+    {
+        if begins_command(b) {
+            return Ok(());
+        }
+        self.sheet.print_plain(alloc, self.settings, self.lower, b)?;
+        self.settings = self.settings.after(b);
+        Ok(())
+    }
+
     /// Does what the tokens do that a byte completes.
     #[inline(never)]
     fn take_tokens(&mut self, alloc: Global, b: u8) -> Result<(), AllocError>
@@ -71,10 +89,30 @@ impl PrinterState {
         ensures range { OnOk result (GoesOn self.old.sheet self.new.sheet) }
         ensures err { OnErr result (self.new ≡ self.old) }
     {
-        let work = Work::of_byte(self.pending, self.settings, self.lower, b);
-        self.sheet.perform(alloc, self.settings.graphic, work)?;
-        self.settings = self.settings.after_byte(self.pending, b);
-        Ok(())
+        match self.pending {
+            Pending::Idle => self.take_unclaimed(alloc, b),
+            Pending::EscapeCode => {
+                if b == COLUMN {
+                    return Ok(());
+                }
+                self.take_unclaimed(alloc, b)
+            }
+            Pending::RepeatCount(n) => {
+                if self.settings.graphic && b >= 128 {
+                    return self.sheet.print_columns(alloc, b - 128, n);
+                }
+                Ok(())
+            }
+            Pending::ColumnTens(tens) => {
+                self.sheet.go(Work::of_column(tens, b));
+                Ok(())
+            }
+            Pending::AddressHigh(high) => {
+                self.sheet.go(Work::of_address(high, b));
+                Ok(())
+            }
+            Pending::ColumnCode | Pending::RepeatCode | Pending::AddressCode => Ok(()),
+        }
     }
 
     /// Takes an input. Refused, it leaves all as it was.
@@ -96,8 +134,7 @@ impl PrinterState {
         match x {
             Input::Select(lower) => self.lower = lower,
             Input::Byte(b) if leaves_settings(b) && matches!(self.pending, Pending::Idle) => {
-                let work = Work::of_plain(self.settings, self.lower, b);
-                self.sheet.perform(alloc, self.settings.graphic, work)?;
+                self.sheet.print_plain(alloc, self.settings, self.lower, b)?;
             }
             Input::Byte(b) => {
                 self.take_tokens(alloc, b)?;

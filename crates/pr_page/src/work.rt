@@ -4,7 +4,7 @@ ghost use Rattle.std.specs.Prelude.{◌≡◌, Bool};
 ghost use Rattle.pr_page.specs.Token.{Plain};
 ghost use Rattle.pr_page.specs.Acts.{acts_in, is_cell, moves_to_column, moves_to_dot};
 ghost use Rattle.pr_page.specs.Linked.{modes_of};
-ghost use Rattle.pr_page.specs.Steps.{acts_of_tokens, acts_of_work, completed_by, tokens_by, FitsLine};
+ghost use Rattle.pr_page.specs.Steps.{acts_of_tokens, acts_of_work, completed_by, tokens_by, FitsLine, IsMove};
 
 use crate::codes::{CARRIAGE_RETURN, COLUMN, LINE_FEED};
 use crate::paper::Mark;
@@ -18,7 +18,7 @@ pub const LINE_DOTS: u16 = 480;
 const LINE_COLUMNS: u16 = 80;
 
 /// The width of a cell, in dots.
-const CELL_DOTS: u16 = 6;
+pub const CELL_DOTS: u16 = 6;
 
 /// What a byte does where the next mark goes.
 #[derive(Clone, Copy)]
@@ -35,7 +35,7 @@ pub enum Work {
 }
 
 /// Whether a code marks a cell in character mode.
-fn marks_a_cell(b: u8) -> bool
+pub fn marks_a_cell(b: u8) -> bool
     ensures { result ≡ is_cell b }
 {
     matches!(b, 32..=127 | 160..=255)
@@ -75,7 +75,8 @@ impl Work {
     }
 
     /// What two bytes after a column code do.
-    fn of_column(tens: u8, ones: u8) -> Work
+    pub fn of_column(tens: u8, ones: u8) -> Work
+        ensures moves { IsMove result }
         ensures acts { (graphic : Bool) → acts_of_work graphic result ≡ moves_to_column tens ones }
         ensures fits { FitsLine result }
     {
@@ -89,7 +90,8 @@ impl Work {
     }
 
     /// What two bytes of a dot address do.
-    fn of_address(high: u8, low: u8) -> Work
+    pub fn of_address(high: u8, low: u8) -> Work
+        ensures moves { IsMove result }
         ensures acts { (graphic : Bool) → acts_of_work graphic result ≡ moves_to_dot high low }
         ensures fits { FitsLine result }
     {
