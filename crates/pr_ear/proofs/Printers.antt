@@ -5,7 +5,8 @@ use Rattle.std.proofs.Math.Seq.{set-append_seam, take-suc}
 use Rattle.std.proofs.lemmas.List.{drop_more, length-drop, length-map, length-take-le, map-append}
 use Rattle.std.proofs.lemmas.Option.{get_or_from_slice_get, none-some, slice_get_cases, slice_get_within}
 use Rattle.pr_page.specs.Marks.{marks_on}
-use Rattle.pr_page.specs.Making.{HasMade, HeadsMakePages, NextRowsAreAtHeads}
+use Rattle.pr_page.specs.Heads.{HeadsMakePages, NextRowsAreAtHeads}
+use Rattle.pr_page.specs.Making.{HasMade}
 use Rattle.pr_page.specs.declared.carriage.MarkOnPaper.{MarkOnPaper}
 use Rattle.pr_page.specs.declared.head.Head.{Head}
 use Rattle.pr_page.specs.declared.input.Input.{Input}

@@ -11,3 +11,4 @@ pub mod Striking
 pub mod Evaluator
 pub mod Taken
 pub mod Making
+pub mod Heads

@@ -3,7 +3,8 @@
 ghost use Rattle.std.specs.Prelude.{◌≡◌, ◌*◌, ◌+◌, ◌^◌, ◌<◌, ◌≤◌, [], ◌∷◌, ◌++◌, Bool, List, length};
 ghost use Rattle.pr_page.specs.Lines.{line_dots};
 ghost use Rattle.pr_page.specs.Marks.{marks_made};
-ghost use Rattle.pr_page.specs.Making.{HasMade, HeadsMakePages, NextRowsAreAtHeads};
+ghost use Rattle.pr_page.specs.Heads.{HeadsMakePages, NextRowsAreAtHeads};
+ghost use Rattle.pr_page.specs.Making.{HasMade};
 ghost use Rattle.pr_page.specs.Striking.{head_of, IsInLine, IsWithin, StepsWith};
 ghost use Rattle.pr_page.specs.declared.carriage.MarkOnPaper.{MarkOnPaper};
 ghost use Rattle.pr_page.specs.declared.input.Input.{Input};

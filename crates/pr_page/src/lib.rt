@@ -8,10 +8,13 @@
 //! the modes; `sheet` the paper and where the next mark goes; `state` all of them, and one step for
 //! one input. A [`Sequence`] is a vector that contracts see as a list, so that papers can be compared.
 //!
+//! A [`Head`] is a printer without its paper, for callers who keep the marks themselves: `head` takes inputs, `carriage`
+//! is where the next mark goes, and `work` says what a byte does there. `specs/Heads.antt` ties its marks to the page.
+//!
 //! A printer keeps no history: its contracts relate a list of inputs to a printer (`HasTaken`), and
 //! `proofs/Refines.antt` carries that from a list to the list with one input more. `Cutting` is one
 //! more byte for the tokens, `Paging` one more act for the last line, `Columns` the repeat, `Unique`
-//! the law that a list has one page.
+//! the law that a list has one page; `Making` and `Growing` let a head go along with a printer.
 #![tactic(auto)]
 
 mod carriage;
