@@ -46,7 +46,8 @@
  *
  * WHAT A CALLER CARRIES.
  * - Threads: no call keeps any state, so several threads may make calls at once.
- * - Stack: a call for texts takes up to PRINT1525_STACK bytes of it, every other call 4096.
+ * - Stack: a call for texts takes up to PRINT1525_STACK bytes of it, a call for edges or words 4096, one of
+ *   a watched printer 8192.
  * - Memory: malloc, realloc and free of one allocator, aligned as C demands. Where they give none, a call fails with
  *   PRINT1525_FAULT_NO_MEMORY and has freed what it took.
  * - Signal handlers: the calls for edges, watched printers and words, which take no memory, and no others.
