@@ -1247,8 +1247,8 @@ PRINT1525_OWN print1525_plain_answer print1525_own_recording(const print1525_own
     return answer;
 }
 
-/* Tells what such a call answered: with a fault of the recording also how much comes before it, and in `unit` items of
- * one that is told of. */
+/* Puts what such a call answered into the details, with its length divided by `unit`: after a fault of the recording,
+ * how much comes before it. */
 PRINT1525_OWN int print1525_own_said(print1525_details *details, print1525_plain_answer answer, size_t unit) {
     answer.length /= unit;
     if (answer.code != 2) return print1525_own_answer(details, answer);

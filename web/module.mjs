@@ -403,7 +403,7 @@ export const loadPrint1525 = (() => {
         const told = made('print1525_task', [lineOf(words)], EXACT, 1024);
         return { ...answerOf(told), numbers: told.made || new BigUint64Array(0) };
       },
-      // What the program tells of words that ask for no task, and its exit status.
+      // What the program writes about words that ask for no task, and its exit status.
       refusal: ({ words, explained = false }) => {
         const told = made('print1525_refusal', [lineOf(words), explained ? 1 : 0], TEXT, ROOM);
         return { ...answerOf(told), status: told.place, text: told.made };

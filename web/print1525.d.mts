@@ -149,7 +149,7 @@ export interface Print1525 {
   bounds(): Record<Delay, [number, number]>;
   /** the task that the words of a command line ask for (crates/pr_web/src/words.rt has its numbers); code 2 where they ask for none */
   task(asked: { words: string[] }): Answer & { numbers: BigUint64Array };
-  /** what the program tells of such words, and its exit status */
+  /** what the program writes about such words, and its exit status */
   refusal(asked: { words: string[]; explained?: boolean }): TextAnswer & { status: number };
   /** the trace of a script's run, as the words of a command line ask for it */
   busAsked(asked: Run & { words: string[] }): TextAnswer;

@@ -128,7 +128,7 @@ function jobOf(numbers) {
   return { command, ...job(), isBefore: before(), file: name(), output: name(), characters: name() };
 }
 
-/** The job that words ask for, or throws what is told of them where they ask for none. `help COMMAND` is `COMMAND --help`. */
+/** The job that words ask for, or throws what the program writes about them where they ask for none. `help COMMAND` is `COMMAND --help`. */
 function readJob(module, given) {
   const words = given[0] === 'help' && given.length < 3 ? [...given.slice(1), '--help'] : given;
   const isExplained = words.includes('--explain') || process.env.PRINT1525_EXPLAIN === '1', { code, numbers } = module.task({ words });

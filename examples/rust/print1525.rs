@@ -681,7 +681,7 @@ impl WatchedPrinter {
     /// Prints a byte, and adds the marks that it makes.
     pub fn print(&mut self, byte: u8, marks: &mut Vec<Mark>) {
         let (mut made, mut details) = ([Mark::default(); MARKS_OF_A_BYTE], Details::default());
-        // SAFETY: the printer and the buffer live as long as the call, which writes no more marks than it is told.
+        // SAFETY: the printer and the buffer live as long as the call, which writes no more marks than the buffer has room for.
         unsafe { print1525_printer_byte(self, byte, made.as_mut_ptr(), made.len(), &mut details) };
         marks.extend_from_slice(&made[..details.length]);
     }
