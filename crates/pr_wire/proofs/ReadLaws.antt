@@ -56,6 +56,14 @@ read_whole old new block line n k p c = λ text edges h. record {
   count = one_edge edges line.edge old.count new.count h.count c;
 }
 
+-- what a reader does that has taken the same and keeps another front
+pub reads_alike : (bytes : List ℕ) (e : Option Edge) (old mid new : TraceReader) → mid.part ≡ old.part → mid.count ≡ old.count → ReadsMore bytes e mid new → ReadsMore bytes e old new
+reads_alike bytes e old mid new p c reads = λ text edges h. reads text edges (record { scanned = rw p h.scanned; count = h.count ∙ sym c })
+
+pub faults_alike : (bytes : List ℕ) (old mid : TraceReader) (f : TraceFault) → mid.part ≡ old.part → mid.count ≡ old.count → FaultsIn bytes mid f → FaultsIn bytes old f
+faults_alike bytes old mid (BadLine n) p c faulty = λ text edges h. faulty text edges (record { scanned = rw p h.scanned; count = h.count ∙ sym c })
+faults_alike bytes old mid NoMemory p c faulty = faulty
+
 -- a fault in front of a block
 pub faulty_front : (old : TraceReader) (n : ℕ) (front block : List ℕ) (f : TraceFault) → front ≡ take n block → FaultsIn front old f → FaultsIn block old f
 faulty_front old n front block NoMemory e h = h

@@ -1,15 +1,16 @@
 //! Reading trace texts that come in blocks, edge by edge: whole lines at once, the rest byte by
 //! byte, as `checker` does.
 
-ghost use Rattle.std.specs.Prelude.{◌≡◌, ◌≢◌, ◌+◌, ◌^◌, ◌<◌, ◌≤◌, ◌∷◌, [], true, length, take, Some, IfErr, IfOk, OnOk};
+ghost use Rattle.std.specs.Prelude.{◌≡◌, ◌≢◌, ◌+◌, ◌^◌, ◌<◌, ◌≤◌, ◌∷◌, [], true, length, take, Some, IfErr, IfOk, IfSome, None, OnOk};
 ghost use Rattle.pr_wire.specs.LineParts.{is_nothing};
 ghost use Rattle.pr_wire.specs.TraceReading.{GivenEdgesComeFirst, HasReadTrace, edge_count};
 ghost use Rattle.pr_wire.specs.TraceReads.{EndsText, FaultsIn, ReadsMore};
 
 use crate::Edge;
-use crate::line::read_ended_line;
+use crate::line::EdgeLine;
 use crate::line_part::LinePart;
 use crate::text::TraceFault;
+use crate::time_prefix::{TimePrefix, read_next};
 
 /// Reads a trace text that comes in blocks, and gives its edges one by one. It keeps neither the text
 /// nor its edges, so it needs no memory however long the text is.
@@ -18,6 +19,8 @@ pub struct TraceReader {
     part: LinePart,
     /// How many lines have spelled an edge.
     count: usize,
+    /// What the last lines begin with, but for the last three digits of their times.
+    front: Option<TimePrefix>,
 }
 
 impl TraceReader {
@@ -29,6 +32,7 @@ impl TraceReader {
         TraceReader {
             part: LinePart::Nothing,
             count: 0,
+            front: None,
         }
     }
 
@@ -50,6 +54,25 @@ impl TraceReader {
         self.part = LinePart::Nothing;
         self.count += 1;
         Ok(edge)
+    }
+
+    /// Takes the line in front of a block, if no line has begun and the block has one that spells an edge
+    /// and ends with byte 10 alone.
+    #[inline(always)]
+    fn take_line(&mut self, block: &[u8]) -> Option<EdgeLine>
+        requires few { edge_count self.old + 1 < 2 ^ 64 }
+        ensures read { IfSome result (λ line. ReadsMore (take line.len block.now) (Some line.edge) self.old self.new) }
+        ensures some { IfSome result (λ line. 0 < line.len) }
+        ensures within { IfSome result (λ line. line.len ≤ length block.now) }
+        ensures count { IfSome result (λ _. edge_count self.new ≡ edge_count self.old + 1) }
+        ensures stays { result ≡ None → (self.new.part ≡ self.old.part) × (self.new.count ≡ self.old.count) }
+    {
+        if !self.part.is_nothing() {
+            return None;
+        }
+        let line = read_next(&mut self.front, block)?;
+        self.count += 1;
+        Some(line)
     }
 
     /// Takes bytes from the front of a block: a whole line, where the block begins with one that
@@ -75,11 +98,8 @@ impl TraceReader {
         ensures refused { IfErr result (λ fault. FaultsIn block.now self.old fault) }
         ensures memory { IfErr result (λ fault. fault ≢ TraceFault.NoMemory) }
     {
-        if self.part.is_nothing() {
-            if let Some(line) = read_ended_line(block) {
-                self.count += 1;
-                return Ok((line.len, Some(line.edge)));
-            }
+        if let Some(line) = self.take_line(block) {
+            return Ok((line.len, Some(line.edge)));
         }
         if block[0] == b'\n' {
             let edge = self.end_line()?;
