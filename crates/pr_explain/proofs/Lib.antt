@@ -4,3 +4,4 @@ pub mod StopLemmas
 pub mod BackLemmas
 mod InputLemmas
 mod OddLemmas
+mod ScriptLemmas

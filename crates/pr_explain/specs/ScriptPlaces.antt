@@ -27,3 +27,9 @@ pub record IsFaultPlace (text : List ℕ) (p : ScriptPlace) : Type 0 where
 abbrev pub IsScriptPlace : (text : List ℕ) → Option ScriptPlace → Type 0
 IsScriptPlace text None = (statements : List Statement) × IsScript text statements
 IsScriptPlace text (Some p) = IsFaultPlace text p
+
+-- the place of the first fault of a line alone, with the number that is given
+abbrev pub IsLinePlace : (number : ℕ) → (line : List ℕ) → Option ScriptPlace → Type 0
+IsLinePlace number line None = IsScriptPlace line None
+IsLinePlace number line (Some p) = (own : ScriptPlace) × IsFaultPlace line own
+    × (p ≡ record own { line = number })

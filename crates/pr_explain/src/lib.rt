@@ -44,7 +44,7 @@ mod words;
 pub use edges::EdgePlace;
 pub use oddities::{Remarks, remark_on};
 pub use rows::{Miss, Row, rows_behind, rows_from};
-pub use scripts::{ScriptPlace, explain_script};
+pub use scripts::{ScriptPlace, explain_line, explain_script};
 pub use stops::{StopCause, StopPlace, explain_stop};
 pub use traces::{ReadingPlace, TracePlace, explain_reading, explain_trace};
 

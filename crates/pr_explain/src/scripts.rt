@@ -4,7 +4,8 @@ ghost use Rattle.std.specs.Prelude.{◌≡◌, ◌+◌, ◌-◌, ◌≤◌, [], 
 ghost use Rattle.std.specs.String.{string_bytes};
 ghost use Rattle.pr_basic.specs.FaultPlaces.{IsFirstFaultAt};
 ghost use Rattle.pr_basic.specs.LineAt.{IsLineAt};
-ghost use Rattle.pr_explain.specs.ScriptPlaces.{IsLabel, IsScriptPlace};
+ghost use Rattle.pr_explain.specs.ScriptPlaces.{IsLabel, IsLinePlace, IsScriptPlace};
+ghost use Rattle.pr_explain.specs.ScriptSteps.{IsNumberedPlace, numbered};
 
 use crate::Explanation;
 use crate::context::{Problem, advice_at, cut_before, problem_at, takes_item};
@@ -56,6 +57,37 @@ pub fn explain_script(
     ensures place { IfOk result (λ told. IsScriptPlace script.now told.place) }
     ensures nothing { IfOk result (λ told. told.place ≡ None → string_bytes told.text ≡ []) }
 {
+    explain_numbered(alloc, script, None)
+}
+
+/// Says why a line of a script is refused, as [`explain_script`] does, without the lines before it. The place has the
+/// number that is given, whatever the line is.
+///
+/// A fault that counts statements, [`ScriptFault::TooMany`], is not seen in a line alone.
+///
+/// # Errors
+///
+/// [`NoMemory`] where memory was refused.
+pub fn explain_line(
+    alloc: Global,
+    line: &[u8],
+    number: usize,
+) -> Result<Explanation<Option<ScriptPlace>>, NoMemory>
+    ensures place { IfOk result (λ told. IsLinePlace number line.now told.place) }
+    ensures nothing { IfOk result (λ told. told.place ≡ None → string_bytes told.text ≡ []) }
+{
+    explain_numbered(alloc, line, Some(number))
+}
+
+/// Says why a script is refused, or a line with this number.
+fn explain_numbered(
+    alloc: Global,
+    script: &[u8],
+    number: Option<usize>,
+) -> Result<Explanation<Option<ScriptPlace>>, NoMemory>
+    ensures place { IfOk result (λ told. IsNumberedPlace number script.now told.place) }
+    ensures nothing { IfOk result (λ told. told.place ≡ None → string_bytes told.text ≡ []) }
+{
     let mut text = String::new(alloc);
     let refused = match read_script_at(alloc, script) {
         Ok(_) => return Ok(Explanation { place: None, text }),
@@ -65,12 +97,23 @@ pub fn explain_script(
         return Err(AllocError);
     }
     let line = line_of(script, refused.place, refused.fault);
-    let place = place_in(line, refused.place);
+    let own = place_in(line, refused.place);
+    let place = numbered(own, number);
     push_place(&mut text, place, cut_at(line, refused.place), refused.fault)?;
     Ok(Explanation {
         place: Some(place),
         text,
     })
+}
+
+/// A place with the number of its line, where one is given.
+fn numbered(place: ScriptPlace, number: Option<usize>) -> ScriptPlace
+    ensures { result ≡ numbered place number }
+{
+    match number {
+        Some(line) => ScriptPlace { line, ..place },
+        None => place,
+    }
 }
 
 /// The line of the first fault.

@@ -3,11 +3,13 @@
 ghost use Rattle.std.specs.Prelude.{◌≤◌, length};
 ghost use Rattle.pr_basic.specs.Limits.{statement_limit};
 
-use pr_basic::{Statement, StatusMode, read_script};
+use pr_basic::{ScriptFault, Statement, StatusMode, cut_line, read_script};
 use pr_bus::Delays;
 use pr_capture::{Source, TraceInput};
 use pr_cli::{CliFault, Ending, PictureFault};
-use pr_explain::{explain_reading, explain_script, explain_stop, explain_trace, remark_on};
+use pr_explain::{
+    explain_line, explain_reading, explain_script, explain_stop, explain_trace, remark_on,
+};
 use pr_listing::{
     ListingFault, ListingForm, TextFault, has_typed_strings, looks_like_disk, looks_like_text,
     looks_saved,
@@ -181,14 +183,29 @@ fn script_hint(
         Err(CliFault::Script(_)) if form == ListingForm::Text && may_be_petcat(script) => {
             Some(PETCAT_TEXT)
         }
-        Ok(_) if form == ListingForm::Text && has_typed_strings(script) => Some(TYPED_STRINGS),
+        Ok(_) if form == ListingForm::Text && is_typed(script) => Some(TYPED_STRINGS),
         _ => None,
     }
 }
 
 /// Whether a script that is refused may be petcat's text: its heading is a line that begins with `;`.
 fn may_be_petcat(script: &[u8]) -> bool {
-    has_typed_strings(script) || begins_with_heading(script)
+    is_typed(script) || begins_with_heading(script)
+}
+
+/// Whether a string of a script has a small letter or a brace. Most scripts have none at all, which is soon seen.
+fn is_typed(script: &[u8]) -> bool {
+    has_typed_byte(script) && has_typed_strings(script)
+}
+
+/// Whether there is a small letter or a brace.
+fn has_typed_byte(bytes: &[u8]) -> bool {
+    for byte in bytes {
+        if byte.is_ascii_lowercase() || *byte == b'{' {
+            return true;
+        }
+    }
+    false
 }
 
 /// Whether the first byte that is no blank or end of a line is `;`.
@@ -243,9 +260,48 @@ fn run_told(
 ) -> Result<String, AllocError> {
     match answer {
         Ok(Ending::Stopped) => stop_told(rt, script, job),
-        Err(CliFault::Script(_)) => Ok(explain_script(rt.alloc(), script)?.text),
+        Err(CliFault::Script(fault)) => script_told(rt.alloc(), script, fault),
         Ok(Ending::Done) | Err(_) => Ok(String::new(rt.alloc())),
     }
+}
+
+/// Why a script is refused, by the line of its first fault alone where that is enough.
+fn script_told(alloc: Global, script: &[u8], fault: ScriptFault) -> Result<String, AllocError> {
+    if let Some(number) = line_number(fault) {
+        let told = explain_line(alloc, line_numbered(script, number), number)?;
+        if told.place.is_some() {
+            return Ok(told.text);
+        }
+    }
+    Ok(explain_script(alloc, script)?.text)
+}
+
+/// The number of the line that alone has a fault, from 1.
+fn line_number(fault: ScriptFault) -> Option<usize> {
+    match fault {
+        ScriptFault::UnknownWord(number)
+        | ScriptFault::BadNumber(number)
+        | ScriptFault::BadDevice(number)
+        | ScriptFault::BadSecond(number)
+        | ScriptFault::BadByte(number)
+        | ScriptFault::TooLong(number) => Some(number),
+        ScriptFault::TooMany(_) | ScriptFault::NoMemory => None,
+    }
+}
+
+/// The line of a script with this number, from 1, without its end; empty where there is none.
+fn line_numbered(script: &[u8], number: usize) -> &[u8] {
+    let mut rest = script;
+    let mut left = number;
+    while !rest.is_empty() {
+        let (line, more) = cut_line(rest);
+        if left <= 1 {
+            return line;
+        }
+        left -= 1;
+        rest = more;
+    }
+    rest
 }
 
 /// What there is to say of the error that stopped a run. The script is run again: no delay changes
