@@ -43,10 +43,13 @@ fn zero_of(alloc: Global, input: TraceInput<'_>, first: &[u8]) -> Result<u64, Al
 }
 
 /// The same after a table's first row. Since times count from that row's, it is the time of a row with 0 in that place; in a
-/// table without times a row more is later.
+/// table without times a row more is later. Instants have no moment 0 but the first.
 fn zero_behind(alloc: Global, mut reader: CsvReader<'_>, row: &[u8]) -> Result<u64, AllocError>
     requires few { line_number reader + 2 < 2 ^ 64 }
 {
+    if has_instant(row) {
+        return Ok(0);
+    }
     let row = with_zero(alloc, row)?;
     let Some(time) = time_of(&mut reader, row.as_slice())? else {
         return Ok(0);
@@ -55,6 +58,11 @@ fn zero_behind(alloc: Global, mut reader: CsvReader<'_>, row: &[u8]) -> Result<u
         Some(next) if next == time => Ok(time),
         _ => Ok(0),
     }
+}
+
+/// Whether a row has an instant of a day, as 2024-06-21T14:28:30.5Z, for its time.
+fn has_instant(row: &[u8]) -> bool {
+    row.contains(&b':')
 }
 
 /// A row with 0 for its time.

@@ -346,8 +346,8 @@ fn show(rt: &impl Eprint, lines: Result<String, AllocError>) {
     }
 }
 
-/// What more there is to say of a trace: why it is refused, if it is; and of a recording where its trace begins, if that is
-/// later than asked for, and what is odd about it. A trace text has no other signals, nor probes.
+/// What more there is to say of a trace: why it is refused, if it is; of a recording where its trace begins, if that is later
+/// than asked for; and what is odd about it.
 fn trace_told(
     rt: &impl AllocGlobal,
     bytes: &[u8],
@@ -360,12 +360,9 @@ fn trace_told(
         Err(fault) if is_of_input(fault) => explain_trace(alloc, bytes, trace)?.text,
         Err(_) => return Ok(String::new(alloc)),
     };
-    if trace.source == Source::Text {
-        return Ok(refusal);
-    }
     let remarks = remark_on(alloc, bytes, trace)?;
     let mut text = String::new(alloc);
-    if remarks.later > 0 {
+    if remarks.later > 0 && trace.source != Source::Text {
         let begins = trace.start.saturating_add(remarks.later);
         write!(
             text,
