@@ -19,7 +19,8 @@ export class Editor {
     this.signs = [];       // of each line: '', 'fine', 'unanswered', 'stopped', 'unreached', 'refused'
     this.titles = [];
     this.note = null;      // { line, from, to, words, kind }
-    this.area.addEventListener('input', () => { this.measure(); this.draw(); onInput(); });
+    // (a browser lays a long listing out anew before it can be drawn: the worker prints it meanwhile)
+    this.area.addEventListener('input', () => { this.measure(); requestAnimationFrame(() => this.draw()); onInput(); });
     this.area.addEventListener('scroll', () => this.draw(), { passive: true });
     this.numbers.addEventListener('click', event => {
       const number = event.target.closest('.number');

@@ -60,8 +60,7 @@ export function save() {
     const plain = hash.length <= LINK_LIMIT ? hash : '';
     if (turn !== saves) return plain;               // a later listing is kept by now
     history.replaceState(null, '', `${location.pathname}${location.search}${plain ? `#${plain}` : ''}`);
-    lastHash = location.hash;
-    own.set(listing);
+    if (isNewAddress()) own.set(listing);
     return plain;
   });
 }

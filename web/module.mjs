@@ -33,6 +33,7 @@ export const loadPrint1525 = (() => {
   const ROOM = 2 ** 20, WIDER = 32;
   // The smallest block has 2^LEAST bytes: a statement's vectors grow to these at once, and not step by step.
   const LEAST = 8;
+  const SIZES = Array.from({ length: 32 }, (_, c) => 2 ** c);
 
   // The heap that the module imports, which has the page's own buffers too: the memory above `__heap_base`.
   // A block has 2^c bytes, c from LEAST to 31, after 16 bytes of which the first holds c. Freed blocks are kept by c.
@@ -56,15 +57,15 @@ export const loadPrint1525 = (() => {
     }
 
     // The power of two that is the size of a block of `size` bytes, by its exponent; 32 where there is no such block.
-    const classOf = size => (!(size >= 0 && size <= 2 ** 31) ? 32 : size <= 2 ** LEAST ? LEAST : 32 - Math.clz32(size - 1));
+    const classOf = size => (!(size >= 0 && size <= SIZES[31]) ? 32 : size <= SIZES[LEAST] ? LEAST : 32 - Math.clz32(size - 1));
 
     // Makes a block of 2^c bytes at the top of the heap, or the last block one of 2^c bytes, and says whether the browser gives the memory.
     function place(at, c) {
-      const missing = at + 2 ** c - bytes.length;
+      const missing = at + SIZES[c] - bytes.length;
       // A memory that cannot grow in place is copied: so it grows by half of what it is, if the browser gives that.
       const pages = size => Math.ceil(size / PAGE);
       if (missing > 0 && !grow(pages(Math.max(missing, bytes.length / 2))) && !grow(pages(missing))) return false;
-      top = at + 2 ** c;
+      top = at + SIZES[c];
       bytes[at - 16] = c;
       return true;
     }
@@ -82,7 +83,7 @@ export const loadPrint1525 = (() => {
 
     // Writes what an allocation came to: whether there is a block, and its address, as two numbers of 64 bits.
     function tell(to, at) {
-      const first = Number(to) / 4;
+      const first = to / 4;
       halves[first] = at ? 1 : 0;
       halves[first + 1] = 0;
       halves[first + 2] = at || 16;
@@ -92,22 +93,19 @@ export const loadPrint1525 = (() => {
     return {
       get,
       put,
-      rattle_alloc(to, size) {
-        tell(to, get(Number(size)));
+      alloc(to, size) {
+        tell(to, get(size));
       },
-      rattle_realloc(to, block, kept, size) {
-        const at = Number(block), wanted = Number(size), had = bytes[at - 16], c = classOf(wanted);
+      realloc(to, at, kept, size) {
+        const had = bytes[at - 16], c = classOf(size);
         // (the last block grows where it is)
-        if (c <= had || (c <= 31 && at + 2 ** had === top && place(at, c))) return tell(to, at);
-        const next = get(wanted);
+        if (c <= had || (c <= 31 && at + SIZES[had] === top && place(at, c))) return tell(to, at);
+        const next = get(size);
         if (next) {
-          bytes.copyWithin(next, at, at + Number(kept));
+          bytes.copyWithin(next, at, at + kept);
           put(at);
         }
         return tell(to, next);
-      },
-      rattle_dealloc(block) {
-        put(Number(block));
       },
     };
   }
@@ -115,8 +113,11 @@ export const loadPrint1525 = (() => {
   // One instance, and calls of its exports.
   function makeInstance(compiled) {
     let heap = null;
-    const later = name => (...words) => heap[name](...words);
-    const imports = Object.fromEntries(['rattle_alloc', 'rattle_realloc', 'rattle_dealloc'].map(it => [it, later(it)]));
+    const imports = {
+      rattle_alloc: (to, size) => heap.alloc(Number(to), Number(size)),
+      rattle_realloc: (to, at, kept, size) => heap.realloc(Number(to), Number(at), Number(kept), Number(size)),
+      rattle_dealloc: at => heap.put(Number(at)),
+    };
     /** @type {any} */
     const exports = new WebAssembly.Instance(compiled, { heap: imports }).exports;
 

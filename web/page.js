@@ -100,6 +100,7 @@ export let printed = 0, printing = false;     // (the tests wait for them)
 /** Prints what is there now. While the worker prints, only the latest of what comes meanwhile is printed then. */
 export async function print() {
   wanted++;
+  hurry();
   if (printing || !ready) return;
   printing = true;
   const slow = setTimeout(() => document.body.classList.add('printing'), 250);
@@ -121,6 +122,14 @@ export async function print() {
   printing = false;
 }
 
+let hurry = () => {};
+
+/** Waits for some milliseconds, or until there is more to print. */
+const whileQuiet = milliseconds => new Promise(done => {
+  hurry = () => done();
+  setTimeout(done, milliseconds);
+});
+
 async function printNow(version) {
   const { source } = state;
   if (!source) {
@@ -129,6 +138,9 @@ async function printNow(version) {
     if (version !== wanted && performance.now() - lastShown < 400) return;
     lastShown = performance.now();
     showRun(answer, version);
+    // (the end takes the worker as long again: it waits while a long listing is typed)
+    if (answer.code <= 1 && answer.milliseconds > 100) await whileQuiet(Math.min(answer.milliseconds, 400));
+    if (version !== wanted) return;
     const end = answer.code <= 1 ? await ask('end', {}, version) : {};
     if (version !== wanted || !end) return;
     Object.assign(answer, end);

@@ -32,12 +32,19 @@ export function sheetsOf(svg) {
   return picture;
 }
 
+/** Where the next group ends. (Each mark has a <, and none a g: so a browser is there at once.) */
+function endOf(svg, at) {
+  let end = svg.indexOf('g>', at);
+  while (!svg.startsWith('</', end - 2)) end = svg.indexOf('g>', end + 1);
+  return end - 2;
+}
+
 /** Finds the rows of a sheet, and gives where its text ends. */
 function readRows(svg, sheet) {
   let at = sheet.from;
   while (svg.startsWith('<g ', at)) {
-    const begin = svg.indexOf('\n', at) + 1, end = svg.indexOf('</g>', begin);
-    const y = Number(/translate\(0 (\d+)/.exec(svg.slice(at, begin))[1]) / STEP;
+    const begin = svg.indexOf('\n', at) + 1, end = endOf(svg, begin);
+    const y = parseInt(svg.slice(svg.indexOf('(0 ', at) + 3, begin)) / STEP;
     sheet.rows.push({ y, from: begin, to: end, held: svg.startsWith('<g opacity', at) });
     at = end + 5;
   }
