@@ -16,8 +16,8 @@
 //                 `explain` what its option --explain tells on standard error
 //     sheets      where a sheet is asked for that there is not, how many there are, else 0
 //
-// The methods `edges`, `readings`, `intervals`, `statementLines`, `scriptFault`, `bounds` and `task` give numbers in place
-// of a text: see print1525.d.mts.
+// The methods `edges`, `readings`, `intervals`, `extremeDelays`, `statementLines`, `scriptFault`, `bounds` and `task` give
+// numbers in place of a text: see print1525.d.mts.
 //
 // The numbers are those of include/print1525.h, and for recordings those of crates/pr_web/src/answer.rt.
 // `module.words(answer)` says a stop or a fault in the program's words.
@@ -158,6 +158,8 @@ export const loadPrint1525 = (() => {
   };
   // Numbers of 64 bits as they are.
   const EXACT = { size: 8, read: (buffer, at, length) => new BigUint64Array(buffer, at, length).slice() };
+  // Numbers of 16 bits.
+  const SHORTS = { size: 2, read: (buffer, at, length) => new Uint16Array(buffer, at, length).slice() };
   // Edges: the moment and the levels of each.
   const EDGES = {
     size: 8,
@@ -351,6 +353,12 @@ export const loadPrint1525 = (() => {
         return endedAs(ended, () => heard('print1525_run_bytes', [...runWords(asked), Number(asked.device || 4)]));
       },
       bus: asked => call('print1525_bus', [...scriptWords(asked), numberOf(asked.format || 'text', ['text', 'vcd'], 'format')]),
+      // The delay numbers by which every delay of a script's run is the least or the greatest.
+      extremeDelays: asked => {
+        const [script, four, five, status] = runWords(asked), extreme = numberOf(asked.extreme, ['least', 'greatest'], 'extreme');
+        const told = [0, 4, 5].map(party => made('print1525_extreme_delays', [script, four, five, status, party, extreme], SHORTS, ROOM));
+        return { ...answerOf(told.find(({ code }) => code) || told[0]), delays: told.map(({ made }) => made || new Uint16Array(0)) };
+      },
       // The text of the script that a listing says: 'text' (the listing itself), 'prg' (a saved program) or 'petcat' (petcat's text).
       listing: ({ bytes, form = 'text' }) => call('print1525_listing', [bytesOf(bytes), numberOf(form, ['text', 'prg', 'petcat'], 'form')]),
       // The bytes that a printer gets, and the character set before them: 0 graphic/upper case, 1 lower/upper case.

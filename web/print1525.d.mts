@@ -121,6 +121,8 @@ export interface Print1525 {
   pages(asked: Run & Part & Drawn): TextAnswer;
   /** the trace of a script's run */
   bus(asked: Run & { format?: 'text' | 'vcd' }): TextAnswer;
+  /** the delay numbers by which every delay of a script's run is the least or the greatest */
+  extremeDelays(asked: Omit<Run, 'delays'> & { extreme: 'least' | 'greatest' }): Answer & { delays: Uint16Array[] };
   /** the text of the script that a listing says: the text itself, a saved program, or petcat's text */
   listing(asked: { bytes: Bytes; form?: 'text' | 'prg' | 'petcat' }): TextAnswer;
   /** the page of a printer's bytes, or a part of it; `set` 0 is graphic/upper case (the default), 1 lower/upper case */

@@ -3,7 +3,7 @@
 
 import { loadPrint1525 } from './module.mjs';
 import { marksMore, marksOf } from './sheets.js';
-import { countsOf, delayNumbers, edgeAt, framesOf, lineStarts, textOfEdges, useBounds } from './wire.js';
+import { countsOf, edgeAt, framesOf, lineStarts, textOfEdges, useBounds } from './wire.js';
 
 let print1525 = null;
 const shown = { run: 0, kind: '', ask: null, lines: null };   // what is on paper; `run` is the number of its print
@@ -165,18 +165,17 @@ const jobs = {
   async trace({ printers, status, delays, extreme, script: listing, form }) {
     const { script, refused } = await scriptOf({ script: listing, form });
     if (refused) return refused;
-    const run = { script, printers, status, delays: extreme ? lasting() : delays, format: 'text' };
-    let bus = await print1525.bus(run);
-    if (bus.code > 1) return answerOf(bus);
-    const decode = async () => print1525.decode({ bytes: bus.text, input: 'text', output: 'readings' });
+    const run = { script, printers, status, delays, format: 'text' };
     if (extreme) {
-      const { edges, frames } = { edges: await print1525.edges({ bytes: bus.text }), frames: framesOf((await print1525.readings({ bytes: bus.text })).readings, latin((await decode()).text)) };
-      run.delays = delayNumbers(extreme === 'greatest', printers, frames, edges);
-      bus = await print1525.bus(run);
-      if (bus.code > 1) return answerOf(bus);
+      const numbers = await print1525.extremeDelays({ script, printers, status, extreme });
+      if (numbers.code) return answerOf(numbers);
+      run.delays = numbers.delays;
     }
+    const bus = await print1525.bus(run);
+    if (bus.code > 1) return answerOf(bus);
+    const said = await print1525.decode({ bytes: bus.text, input: 'text', output: 'readings' });
     // (that the trace of a run is lawful is proved)
-    const kept = await keepWire({ bytes: bus.text, input: 'text' }, await decode(), 'lawful');
+    const kept = await keepWire({ bytes: bus.text, input: 'text' }, said, 'lawful');
     wire.ask = run;
     return { ...answerOf(bus), ...kept, delays: run.delays };
   },

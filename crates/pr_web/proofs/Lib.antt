@@ -6,3 +6,6 @@ pub mod Lines
 pub mod Middles
 pub mod CutWords
 pub mod Asking
+pub mod Taking
+pub mod Counting
+pub mod Deciding

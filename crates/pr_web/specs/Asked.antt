@@ -20,11 +20,12 @@ use Rattle.pr_recording.specs.declared.wording.Wording.{Wording}
 use Rattle.pr_report.specs.declared.detail.Detail.{Detail}
 use Rattle.pr_report.specs.declared.report.Report.{Report}
 use Rattle.pr_web.specs.Answers.{answer_of, number_read, place_of_trace, plain, refusal}
-use Rattle.pr_web.specs.Giving.{Gives, GivesEdges, GivesFault, GivesIntervals, GivesJson, GivesLines, GivesPages, GivesRaw, GivesReadings, GivesReport, GivesRows, GivesRun, HandsBytes, HandsRemarks, HandsRunBytes, HasNoMemory, Hands}
+use Rattle.pr_web.specs.Giving.{Gives, GivesEdges, GivesExtremes, GivesFault, GivesIntervals, GivesJson, GivesLines, GivesPages, GivesRaw, GivesReadings, GivesReport, GivesRows, GivesRun, HandsBytes, HandsRemarks, HandsRunBytes, HasNoMemory, Hands}
 use Rattle.pr_web.specs.Numbers.{bounds_numbers}
 use Rattle.pr_web.specs.Settings.{IsInput, is_yes}
 use Rattle.pr_web.specs.declared.answer.Answer.{Answer}
 use Rattle.pr_web.specs.declared.answer.Told.{Told}
+use Rattle.pr_web.specs.declared.extremes.Party.{Party}
 
 -- a number that means no setting is refused, and the buffer is as it was
 abbrev pub Refuses : ℕ → (old new : List ℕ) → Answer → Type 0
@@ -139,6 +140,13 @@ TellsRaw (Some format) (Ok shapes) is_lower bytes old new answer =
 -- the line of each statement of a script
 abbrev pub TellsLines : (script : List ℕ) → (old new : List ℕ) → Answer → Type 0
 TellsLines script old new answer = (told : Told) × GivesLines script old new told × (answer ≡ answer_of told)
+
+-- the numbers by which each delay of a party in a script's run is the least or the greatest
+abbrev pub TellsExtremes :
+    (is_greatest : Bool) → Option Party → Present → StatusMode → (script : List ℕ) → (old new : List ℕ) → Answer → Type 0
+TellsExtremes is_greatest None present mode script old new answer = Refuses 21 old new answer
+TellsExtremes is_greatest (Some party) present mode script old new answer =
+    (told : Told) × GivesExtremes is_greatest party present mode script old new told × (answer ≡ answer_of told)
 
 -- the place of a script's first fault
 abbrev pub TellsFault : (script : List ℕ) → (old new : List ℕ) → Answer → Type 0

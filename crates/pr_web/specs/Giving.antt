@@ -4,6 +4,8 @@ use Rattle.pr_wire.specs.declared.Edge.{Edge}
 use Rattle.pr_base.specs.Lines.{lines_of}
 use Rattle.pr_basic.specs.Faults.{IsFirstFault}
 use Rattle.pr_basic.specs.Grammar.{IsScript}
+use Rattle.pr_basic.specs.Runs.{items_sent}
+use Rattle.pr_basic.specs.declared.session.StatusMode.{StatusMode}
 use Rattle.pr_basic.specs.declared.fault.ScriptFault.{ScriptFault}
 use Rattle.pr_basic.specs.declared.statement.Statement.{Statement}
 use Rattle.pr_capture.specs.declared.format.TraceFormat.{TraceFormat}
@@ -32,12 +34,15 @@ use Rattle.pr_report.specs.declared.oddities.Oddities.{Oddities}
 use Rattle.pr_report.specs.declared.report.Report.{Report}
 use Rattle.pr_explain.specs.OddLines.{AreRemarks}
 use Rattle.pr_explain.specs.declared.oddities.Remarks.{Remarks}
+use Rattle.pr_serial.specs.declared.Present.{Present}
 use Rattle.pr_web.specs.Answers.{answer_of, plain}
+use Rattle.pr_web.specs.Extremes.{extreme_numbers}
 use Rattle.pr_report.specs.Intervals.{intervals}
 use Rattle.pr_web.specs.Lengths.{interval_numbers}
 use Rattle.pr_web.specs.Numbers.{AreLineNumbers, IsFaultRow, edge_numbers, flag, reading_rows}
 use Rattle.pr_web.specs.declared.answer.Answer.{Answer}
 use Rattle.pr_web.specs.declared.answer.Told.{Told}
+use Rattle.pr_web.specs.declared.extremes.Party.{Party}
 use Rattle.pr_web.specs.declared.answer.Told.TheVariants.{Written, TooSmall, Refused}
 
 -- what was made of an input: the text of the whole input, or the fault that prevents it
@@ -196,6 +201,15 @@ GivesLines script old new told =
 abbrev pub GivesFault : (script : List ℕ) → (old new : List ℕ) → Told → Type 0
 GivesFault script old new told =
     ((numbers : List ℕ) × IsFaultRow script numbers × Gives (Ok tt) numbers old new told)
+    ⊎ HasNoMemory old new told
+
+-- the buffer gets the numbers by which each delay of a party in a script's run is the least or the greatest
+abbrev pub GivesExtremes :
+    (is_greatest : Bool) → Party → Present → StatusMode → (script : List ℕ) → (old new : List ℕ) → Told → Type 0
+GivesExtremes is_greatest party present mode script old new told =
+    ((statements : List Statement) × IsScript script statements
+    × Gives (Ok tt) (extreme_numbers is_greatest party present (items_sent mode present statements)) old new told)
+    ⊎ ((fault : ScriptFault) × IsFirstFault script fault × (told ≡ Refused (Script fault)) × (new ≡ old))
     ⊎ HasNoMemory old new told
 
 -- the buffer gets an explanation, and the answer has its place

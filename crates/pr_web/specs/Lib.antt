@@ -7,3 +7,6 @@ pub mod Asked
 pub mod Rows
 pub mod Words
 pub mod Refusals
+pub mod Listening
+pub mod Extremes
+pub mod ExtremeLaws

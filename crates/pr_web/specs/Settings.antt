@@ -25,6 +25,8 @@ use Rattle.pr_capture.specs.declared.format.Source.TheVariants as source
 use Rattle.pr_capture.specs.declared.format.TraceInput.{TraceInput}
 use Rattle.pr_serial.specs.Bus.{DelayNumbers}
 use Rattle.pr_serial.specs.declared.Present.{Present}
+use Rattle.pr_web.specs.declared.extremes.Party.{Party}
+use Rattle.pr_web.specs.declared.extremes.Party.TheVariants as party
 
 -- the format of a recording: a trace text, a Value Change Dump, a table of comma separated values, or the one that its
 -- first 4096 bytes show and else a text, or else a table
@@ -48,6 +50,12 @@ WithShapes characters Answers = (asked : Result Shapes CharactersFault) × AsksS
 -- the printer with a number
 abbrev pub printer_of : ℕ → Option Device
 printer_of number = if number == 4 then Some Four else (if number == 5 then Some Five else None)
+
+-- who takes delays: the computer, or the printer with a number
+abbrev pub party_of : ℕ → Option Party
+party_of number =
+    if number == 0 then Some party.Computer
+    else (if number == 4 then Some party.Four else (if number == 5 then Some party.Five else None))
 
 -- the BASIC error with a number
 abbrev pub stop_of : ℕ → Option Stop

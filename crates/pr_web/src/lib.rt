@@ -13,6 +13,8 @@
 //!   intervals come to (`lengths`), and delays. `scripts` has
 //!   the line of each statement, the place of a fault, and parts of pages. The page draws and marks by these, and
 //!   reads no text for them.
+//!   `extremes` has the numbers by which each delay of a run is the least or the greatest: it performs the script over
+//!   a bus without wires that keeps what was sent (`item_log`).
 //! - `words` reads the words of a command line, for the program in JavaScript, and `refusals` says why they ask for no task.
 //! - `settings` gives the numbers that the page passes their meaning.
 //!
@@ -26,6 +28,8 @@
 
 mod answer;
 mod explanations;
+mod extremes;
+mod item_log;
 mod lengths;
 mod numbers;
 mod recordings;
@@ -40,6 +44,7 @@ pub use explanations::{
     print1525_explain_reading, print1525_explain_script, print1525_explain_stop,
     print1525_explain_trace, print1525_remarks,
 };
+pub use extremes::{delays_make_the_trace, print1525_extreme_delays};
 pub use numbers::{print1525_bounds, print1525_edges, print1525_intervals, print1525_reading_rows};
 pub use recordings::{
     print1525_check_json, print1525_heard, print1525_readings, print1525_report, print1525_reprint,

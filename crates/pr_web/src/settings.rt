@@ -2,8 +2,9 @@
 
 ghost use Rattle.std.specs.Prelude.{◌≡◌, take};
 ghost use Rattle.pr_options.specs.Found.{found_source};
-ghost use Rattle.pr_web.specs.Settings.{AsksShapes, IsInput, detail_of, device_of, format_of, mode_of, printer_of, rate_of, report_of, sheet_of, shown_of, source_of, stop_of, wording_of};
+ghost use Rattle.pr_web.specs.Settings.{AsksShapes, IsInput, detail_of, device_of, format_of, mode_of, party_of, printer_of, rate_of, report_of, sheet_of, shown_of, source_of, stop_of, wording_of};
 
+use crate::extremes::Party;
 use pr_basic::StatusMode;
 use pr_capture::{Signals, Source, TraceInput};
 use pr_channels::Stop;
@@ -63,6 +64,18 @@ pub fn printer_for(number: u8) -> Option<Device>
     match number {
         4 => Some(Device::Four),
         5 => Some(Device::Five),
+        _ => None,
+    }
+}
+
+/// Who takes delays: 0 the computer, or printer 4 or 5.
+pub fn party_for(number: u8) -> Option<Party>
+    ensures { result ≡ party_of number }
+{
+    match number {
+        0 => Some(Party::Computer),
+        4 => Some(Party::Four),
+        5 => Some(Party::Five),
         _ => None,
     }
 }

@@ -2,9 +2,9 @@ use crate::answer::Answer;
 use crate::{
     print1525_bounds, print1525_bus_asked, print1525_check_json, print1525_edges,
     print1525_explain_reading, print1525_explain_script, print1525_explain_stop,
-    print1525_explain_trace, print1525_heard, print1525_intervals, print1525_part_of_pages,
-    print1525_part_of_raw, print1525_reading_rows, print1525_readings, print1525_refusal,
-    print1525_remarks, print1525_report, print1525_reprint, print1525_run_bytes,
+    print1525_explain_trace, print1525_extreme_delays, print1525_heard, print1525_intervals,
+    print1525_part_of_pages, print1525_part_of_raw, print1525_reading_rows, print1525_readings,
+    print1525_refusal, print1525_remarks, print1525_report, print1525_reprint, print1525_run_bytes,
     print1525_script_fault, print1525_statement_lines, print1525_task,
 };
 use std::alloc::Global;
@@ -317,6 +317,42 @@ fn bytes_of_a_printer(rt: HostRuntime) {
         &mut answer,
     );
     assert!(rt; answer.code == 0 && answer.length == 0);
+}
+
+/// What is answered for the delay numbers of a party, with both printers present.
+fn extreme(alloc: Global, script: &[u8], party: u8, greatest: u8, out: &mut [u16]) -> Answer {
+    let mut answer = NOTHING;
+    print1525_extreme_delays(alloc, script, 1, 1, 0, party, greatest, out, &mut answer);
+    answer
+}
+
+#[test]
+fn least_and_greatest_delays(rt: HostRuntime) {
+    let mut out = [7u16; 99];
+    // LISTEN 4, a byte with end-or-identify, UNLISTEN.
+    let script = b"OPEN 4,4:PRINT#4,\"A\";";
+    let told = extreme(rt.alloc(), script, 0, 1, &mut out);
+    assert!(rt; told.code == 0 && told.length == 20 + 18 + 21);
+    assert!(rt; out.starts_with(&[900, 1000, 198, 180, 180, 180, 180]));
+    // R, then BB and RY of the byte.
+    assert!(rt; out[19..].starts_with(&[100, 900, 59, 180]));
+    // R and CR.
+    assert!(rt; out[56..].starts_with(&[180, 100, 100, 7]));
+    let told = extreme(rt.alloc(), script, 4, 1, &mut out);
+    assert!(rt; told.code == 0 && told.length == 11);
+    assert!(rt; out.starts_with(&[999, 9999, 79, 9999, 50, 120, 79, 999, 9999, 79, 59]));
+    let told = extreme(rt.alloc(), script, 5, 1, &mut out);
+    assert!(rt; told.code == 0 && told.length == 8);
+    assert!(rt; out.starts_with(&[999, 9999, 79, 59, 999, 9999, 79, 59]));
+    let told = extreme(rt.alloc(), script, 5, 0, &mut out);
+    assert!(rt; told.code == 0 && told.length == 8);
+    assert!(rt; out.starts_with(&[0, 0, 0, 0, 0, 0, 0, 0, 9999]));
+    let told = extreme(rt.alloc(), script, 6, 0, &mut out);
+    assert!(rt; told.code == 2 && told.fault == 21);
+    let told = extreme(rt.alloc(), b"PRUNT", 0, 0, &mut out);
+    assert!(rt; told.code == 2 && told.fault == 1 && told.place == 1);
+    let told = extreme(rt.alloc(), script, 4, 0, &mut out[..10]);
+    assert!(rt; told.code == 4 && told.length == 11);
 }
 
 #[test]
