@@ -58,7 +58,7 @@
  *   a watched printer 8192.
  * - Memory: malloc, realloc and free of one allocator, aligned as C demands. Where they give none, a call fails with
  *   PRINT1525_FAULT_NO_MEMORY and has freed what it took.
- * - Signal handlers: the calls for words, watched printers and edges, which take no memory, and no others.
+ * - Signal handlers: the calls for words, watched printers, receivers and decoders, which take no memory, and no others.
  * - fork: a child may make calls where it may call malloc.
  * - No call touches files, streams, locales, the time or the state of floating point; errno only where malloc does.
  *
@@ -1012,6 +1012,11 @@ PRINT1525_OWN int print1525_own_answer(print1525_details *details, print1525_pla
     }
 }
 
+/* How many bytes so many items have; as many as there can be, if they are too many. */
+PRINT1525_OWN size_t print1525_own_room(size_t count, size_t size) {
+    return count > SIZE_MAX / size ? SIZE_MAX : count * size;
+}
+
 /* Whether two pieces of memory have a byte in common. */
 PRINT1525_OWN int print1525_own_overlap(const void *a, size_t a_size, const void *b, size_t b_size) {
     const uintptr_t from_a = PRINT1525_OWN_ADDRESS(a), from_b = PRINT1525_OWN_ADDRESS(b);
@@ -1043,7 +1048,7 @@ PRINT1525_OWN const void *print1525_own_input(print1525_own_call *call, const vo
 
 PRINT1525_OWN void print1525_own_delays(print1525_own_call *call, print1525_delays *list, const void *buffer,
                                         size_t capacity) {
-    const size_t size = list->length * sizeof *list->numbers;
+    const size_t size = print1525_own_room(list->length, sizeof *list->numbers);
     list->numbers =
         PRINT1525_OWN_AS(const uint16_t *, print1525_own_input(call, list->numbers, size, buffer, capacity));
 }
@@ -1176,7 +1181,7 @@ PRINT1525_CALL int print1525_raw(const void *bytes, size_t length, const print15
 
 PRINT1525_CALL int print1525_print(const uint16_t *inputs, size_t length, const print1525_settings *settings,
                                    void *buffer, size_t capacity, print1525_details *details) {
-    const size_t size = length * sizeof *inputs;
+    const size_t size = print1525_own_room(length, sizeof *inputs);
     print1525_own_call call;
     print1525_plain_answer answer;
     if (print1525_own_begin(&call, inputs, size, settings, buffer, capacity)->fault != PRINT1525_FAULT_NONE)
@@ -1371,11 +1376,11 @@ PRINT1525_CALL int print1525_explain_reading(const void *recording, size_t lengt
 
 PRINT1525_CALL int print1525_edges(const void *recording, size_t length, const print1525_settings *settings,
                                    print1525_edge *edges, size_t capacity, print1525_details *details) {
+    const size_t size = print1525_own_room(capacity, sizeof *edges);
     print1525_own_call call;
     print1525_plain_answer answer;
     size_t index, count;
-    if (print1525_own_begin(&call, recording, length, settings, edges, capacity * sizeof *edges)->fault !=
-        PRINT1525_FAULT_NONE)
+    if (print1525_own_begin(&call, recording, length, settings, edges, size)->fault != PRINT1525_FAULT_NONE)
         return print1525_own_refuse(details, call.fault);
     answer = print1525_own_recording(&call, PRINT1525_OWN_EDGES, length, 0, capacity);
     count = answer.code == 0 || answer.code == 2 ? answer.length / 2 : 0;
@@ -1474,7 +1479,8 @@ PRINT1525_CALL int print1525_strict_end(const print1525_strict *strict, print152
 
 PRINT1525_CALL int print1525_strict_edges(uint8_t device, const print1525_edge *edges, size_t length, uint16_t *inputs,
                                           size_t capacity, print1525_details *details) {
-    const int fault = print1525_own_refused(edges, length * sizeof *edges, inputs, capacity * sizeof *inputs);
+    const int fault = print1525_own_refused(edges, print1525_own_room(length, sizeof *edges), inputs,
+                                            print1525_own_room(capacity, sizeof *inputs));
     print1525_edge no_edge = {0, 0, 0, 0};
     uint16_t nothing[1];
     print1525_plain_answer answer;
@@ -1504,6 +1510,8 @@ PRINT1525_CALL int print1525_printer_byte(print1525_printer *printer, uint8_t by
     print1525_plain_answer answer;
     if (printer == NULL || (marks == NULL && capacity > 0))
         return print1525_own_refuse(details, PRINT1525_FAULT_NULL_POINTER);
+    if (print1525_own_overlap(printer, sizeof *printer, marks, print1525_own_room(capacity, sizeof *marks)))
+        return print1525_own_refuse(details, PRINT1525_FAULT_OVERLAP);
     kept = *printer;
     print1525_plain_printer_byte(&kept, byte, marks == NULL ? nothing : marks, capacity, &answer);
     *printer = kept;
@@ -1512,13 +1520,16 @@ PRINT1525_CALL int print1525_printer_byte(print1525_printer *printer, uint8_t by
 
 PRINT1525_CALL int print1525_printer_bytes(print1525_printer *printer, const void *bytes, size_t length, size_t *taken,
                                            print1525_mark *marks, size_t capacity, print1525_details *details) {
-    const int fault = print1525_own_refused(bytes, length, marks, capacity * sizeof *marks);
+    const size_t size = print1525_own_room(capacity, sizeof *marks);
+    const int fault = print1525_own_refused(bytes, length, marks, size);
     print1525_printer kept;
     print1525_mark nothing[1];
     uint8_t no_byte = 0;
     print1525_plain_run run;
     if (printer == NULL || taken == NULL) return print1525_own_refuse(details, PRINT1525_FAULT_NULL_POINTER);
     if (fault != PRINT1525_FAULT_NONE) return print1525_own_refuse(details, fault);
+    if (print1525_own_overlap(printer, sizeof *printer, marks, size))
+        return print1525_own_refuse(details, PRINT1525_FAULT_OVERLAP);
     kept = *printer;
     print1525_plain_printer_bytes(&kept, bytes == NULL ? &no_byte : PRINT1525_OWN_AS(const uint8_t *, bytes), length,
                                   marks == NULL ? nothing : marks, capacity, &run);
@@ -1531,7 +1542,7 @@ PRINT1525_CALL int print1525_printer_bytes(print1525_printer *printer, const voi
 PRINT1525_OWN int print1525_own_pixels(int over, const print1525_mark *marks, size_t length,
                                        const print1525_region *region, uint8_t *pixels, size_t capacity,
                                        print1525_details *details) {
-    const int fault = print1525_own_refused(marks, length * sizeof *marks, pixels, capacity);
+    const int fault = print1525_own_refused(marks, print1525_own_room(length, sizeof *marks), pixels, capacity);
     print1525_region read;
     print1525_mark no_mark = {0, 0, 0, 0, 0, 0, 0};
     uint8_t nothing[1];

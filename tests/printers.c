@@ -66,6 +66,15 @@ static int refusals(void) {
     WANT(print1525_printer_bytes(&printer, NULL, 1, &taken, mark, 2, &details) == PRINT1525_REFUSED && details.fault == PRINT1525_FAULT_NULL_POINTER);
     WANT(print1525_printer_bytes(&printer, "A", 1, NULL, mark, 2, &details) == PRINT1525_REFUSED && details.fault == PRINT1525_FAULT_NULL_POINTER);
     WANT(print1525_printer_bytes(&printer, mark, 1, &taken, mark, 2, &details) == PRINT1525_REFUSED && details.fault == PRINT1525_FAULT_OVERLAP);
+    print1525_mark *const itself = (print1525_mark *)(void *)&printer;
+    WANT(print1525_printer_byte(&printer, 65, itself, 1, &details) == PRINT1525_REFUSED && details.fault == PRINT1525_FAULT_OVERLAP);
+    WANT(print1525_printer_bytes(&printer, "A", 1, &taken, itself, 1, &details) == PRINT1525_REFUSED && details.fault == PRINT1525_FAULT_OVERLAP);
+    // (so many items that the number of their bytes is none)
+    const size_t many = SIZE_MAX / 16 + 1;
+    WANT(print1525_printer_bytes(&printer, "A", 1, &taken, NULL, many, &details) == PRINT1525_REFUSED && details.fault == PRINT1525_FAULT_NULL_POINTER);
+    WANT(print1525_printer_page(NULL, many, NULL, NULL, 0, &details) == PRINT1525_REFUSED && details.fault == PRINT1525_FAULT_NULL_POINTER);
+    WANT(print1525_edges("0 111\n", 6, NULL, NULL, many, &details) == PRINT1525_REFUSED && details.fault == PRINT1525_FAULT_NULL_POINTER);
+    WANT(print1525_strict_edges(4, NULL, many, NULL, 0, &details) == PRINT1525_REFUSED && details.fault == PRINT1525_FAULT_NULL_POINTER);
     WANT(taken == 7);
     WANT(print1525_printer_bytes(&printer, "AB", 2, &taken, NULL, 0, &details) == PRINT1525_DONE && taken == 0 && details.length == 0);
     WANT(print1525_printer_bytes(&printer, NULL, 0, &taken, NULL, 0, &details) == PRINT1525_DONE && taken == 0 && details.length == 0);
