@@ -165,10 +165,9 @@ function oddOf(module, asked) {
 function traceTold(module, asked, answer) {
   if (answer.fault === 9) return '';
   const why = explained(answer, () => module.explainTrace(asked));
-  if (asked.input === 'text') return why;
   const { later, odd } = oddOf(module, asked);
   const begins = `  the trace begins at microsecond ${BigInt(asked.start) + BigInt(later)} of the recording, where the levels of all three lines are first known\n`;
-  return (later ? begins : '') + why + odd;
+  return (later && asked.input !== 'text' ? begins : '') + why + odd;
 }
 
 /** The file of characters that a job names, or throws the line that says why it has none. No other file is opened before. */
