@@ -1009,6 +1009,9 @@ static void try_edge_pointers(void) {
     if (!is_answer(details, PRINT1525_DONE, 0, 0, 0)) is_wrong("no room for no inputs", 0);
     print1525_strict_edges(4, edges, 3, (uint16_t *)(void *)(edges + 2), 1, &details);
     if (!is_answer(details, PRINT1525_REFUSED, PRINT1525_FAULT_OVERLAP, 0, 0)) is_wrong("edges that overlap the inputs", 0);
+    /* So many edges that the number of their bytes is none. */
+    print1525_edges("0 111\n", 6, NULL, NULL, SIZE_MAX / 16 + 1, &details);
+    if (!is_answer(details, PRINT1525_REFUSED, PRINT1525_FAULT_NULL_POINTER, 0, 0)) is_wrong("too many edges", 0);
     /* The edge is the decoder's own, and so is the place of the reading. */
     print1525_decoder_edge(&decoder, &first, &reading, NULL);
     other = decoder;

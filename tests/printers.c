@@ -73,7 +73,6 @@ static int refusals(void) {
     const size_t many = SIZE_MAX / 16 + 1;
     WANT(print1525_printer_bytes(&printer, "A", 1, &taken, NULL, many, &details) == PRINT1525_REFUSED && details.fault == PRINT1525_FAULT_NULL_POINTER);
     WANT(print1525_printer_page(NULL, many, NULL, NULL, 0, &details) == PRINT1525_REFUSED && details.fault == PRINT1525_FAULT_NULL_POINTER);
-    WANT(print1525_edges("0 111\n", 6, NULL, NULL, many, &details) == PRINT1525_REFUSED && details.fault == PRINT1525_FAULT_NULL_POINTER);
     WANT(print1525_strict_edges(4, NULL, many, NULL, 0, &details) == PRINT1525_REFUSED && details.fault == PRINT1525_FAULT_NULL_POINTER);
     WANT(taken == 7);
     WANT(print1525_printer_bytes(&printer, "AB", 2, &taken, NULL, 0, &details) == PRINT1525_DONE && taken == 0 && details.length == 0);
