@@ -23,12 +23,16 @@ function kindOf(bytes, name) {
 }
 
 export let taking = 0;     // files that are read and not yet shown (the tests wait for them)
+let taken = 0;                       // how many files were dropped
 
 /** Shows a file as what it seems to be. */
 export async function takeFile(file) {
+  const turn = ++taken;
   taking++;
   try {
-    const bytes = new Uint8Array(await file.arrayBuffer()), why = refusalOf(bytes, file.name);
+    const bytes = new Uint8Array(await file.arrayBuffer());
+    if (turn !== taken) return;                     // a later file was dropped by now
+    const why = refusalOf(bytes, file.name);
     tellOnce('file', why);
     if (!why) await take(bytes, file.name, kindOf(bytes, file.name));
   } catch (error) {
@@ -41,9 +45,10 @@ export async function takeFile(file) {
 /** Shows a saved program as petcat writes it; as the script that the module makes of it, where that would be another program. */
 async function takeProgram(bytes, name) {
   if (!ready) return tellOnce('file', `${name} cannot be read before the page is ready.`);
-  const listing = petcatOf(bytes);
+  const listing = petcatOf(bytes), turn = taken, before = editor.area.value;
   let answer;
   try { answer = await ask('isSame', { program: bytes, listing: encode(listing ?? ''), form: 'petcat' }); } catch (error) { return tellFailed(error); }
+  if (turn !== taken || before !== editor.area.value) return;   // another file was dropped, or more was typed
   if (answer.code) return tellOnce('file', `${name} cannot be read as a saved program: ${answer.words || 'out of memory'}.`);
   leaveSource();
   keepEarlier();
