@@ -15,7 +15,7 @@ use pr_dots::Shapes;
 use pr_files::{Noting, save};
 use pr_listing::{ListingForm, TextFault, read_text};
 use pr_options::{Job, Task};
-use std::alloc::{AllocError, Global};
+use std::alloc::Global;
 use std::cell::Cell;
 use std::fs::{File, Files};
 use std::io;
@@ -194,12 +194,8 @@ fn answer_recording<R: Read + Drop, W: Write + Drop>(
     aside: Aside<'_>,
 ) -> (u8, W) {
     let mut input = Watched::new(Noting::new(reader));
-    match read_first(rt.alloc(), &mut input) {
-        Ok(first) => {
-            let Ok(work) = found_work(rt.alloc(), work, first.as_slice()) else {
-                clear(rt, aside.is_shown);
-                return (tell(rt, CliFault::NoMemory), writer);
-            };
+    match found_work(rt.alloc(), work, &mut input) {
+        Ok((work, first)) => {
             let whole = first.as_slice().chain(input.into_inner());
             answer_over(rt, whole, writer, names, work, aside)
         }
@@ -218,23 +214,29 @@ fn answer_recording<R: Read + Drop, W: Write + Drop>(
     }
 }
 
-/// What is to be done, by the first bytes of a recording.
-fn found_work<'a>(alloc: Global, work: Work<'a>, first: &[u8]) -> Result<Work<'a>, AllocError> {
+/// What is to be done, by the first bytes of a recording, and these bytes.
+fn found_work<'a, R: Read>(
+    alloc: Global,
+    work: Work<'a>,
+    input: &mut Watched<R>,
+) -> Result<(Work<'a>, Vec<u8>), CliFault> {
     let Work {
         job,
         before,
         shapes,
     } = work;
-    let job = found_job(job, first);
+    let mut first = read_first(alloc, input)?;
+    let job = found_job(job, first.as_slice());
     let job = match before {
-        Some(before) => started_job(alloc, job, first, before)?,
+        Some(before) => started_job(alloc, job, input, &mut first, before)?,
         None => job,
     };
-    Ok(Work {
+    let work = Work {
         job,
         before: None,
         shapes,
-    })
+    };
+    Ok((work, first))
 }
 
 /// The first bytes of an input: 4096, or all where there are fewer.
