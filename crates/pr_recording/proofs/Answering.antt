@@ -480,14 +480,21 @@ checked start old new input v h =
     (λ text k. record { edges = k.edges; own = k.own; says = k.says; leaves = k.leaves })
 
 -- what holds of an answer holds of it without what is odd
-pub own_without : (v : Result Oddities CliFault) (P : CliFault → Type 0) → IfErr v P → IfErr (without_odd v) P
-own_without (Ok odd) P h = tt
-own_without (Err f) P h = h
+pub own_decoded : (v : Result Oddities CliFault) → IfErr v (IsRefusal false) → IfErr (without_odd v) IsDecodeFault
+own_decoded (Ok odd) h = tt
+own_decoded (Err f) h = h
+
+pub own_checked : (v : Result Oddities CliFault) → IfErr v (IsRefusal true) → IfErr (without_odd v) IsReportFault
+own_checked (Ok odd) h = tt
+own_checked (Err f) h = h
 
 pub ok_without : (v : Result Oddities CliFault) (P : Type 0) → OnOk v P → OnOk (without_odd v) P
 ok_without (Ok odd) P h = h
 ok_without (Err f) P h = tt
 
 pub err_without : (v : Result Oddities CliFault) (f : CliFault) (b : Type 0) → (IsErrOf v f ↔ b) → (IsErrOf (without_odd v) f ↔ b)
-err_without (Ok odd) f b k = (λ h. absurd (cc), λ h. absurd (let e = k.1 h in cc (e)))
-err_without (Err x) f b k = (λ h. k.0 (cc (h)), λ h. let e = k.1 h in cc (e))
+err_without (Ok odd) f b k = (λ h. absurd (cc (h)), λ h. absurd (cc (k.1 h)))
+err_without (Err x) f b k = (
+  λ h. k.0 (let q : x ≡ f = cc (h) in ap (λ (y : CliFault). Err y) q),
+  λ h. let q : x ≡ f = cc (k.1 h) in ap (λ (y : CliFault). Err y) q,
+)

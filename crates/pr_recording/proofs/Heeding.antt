@@ -181,7 +181,10 @@ told_lines settled n own (Some f) e is some lines = stopped_lines settled n own 
 
 -- where nothing stops edges, nothing stops those that were taken
 no_stop : (n : DecodeReport) (own v : Option CliFault) (w : Wording) (edges : List Edge) (written : List ℕ) → v ≡ stop_at n.back own → is_some v ≡ true → HasTold w edges written n → stop_at (back_in edges) own ≡ None → ⊥
-no_stop n own v w edges written is some h none = let e : v ≡ None = is ∙ (ap (λ b. stop_at b own) h.back ∙ none) in absurd (cc (some, ap (λ x. is_some x) e))
+no_stop n own v w edges written is some h none =
+    let e : v ≡ None = is ∙ (ap (λ b. stop_at b own) h.back ∙ none) in
+    let k : is_some v ≡ false = ap (λ (x : Option CliFault). is_some x) e in
+    absurd (cc (some, k))
 
 pub ends_told : GivenAreSettled → (c : Bool) (n : DecodeReport) (own : Option CliFault) (v : Option CliFault) (f : Option WaveFault) (e : Ended) → v ≡ stop_at n.back own → is_some v ≡ true → e.refused ≡ refused_by c n.back own f
     → ((s : Source) (edges : List Edge) → HasJudged s edges n.judge → f ≡ fault_of (edges_checked s edges)) → e.lines ≡ n.log.lines
@@ -211,12 +214,12 @@ ends_whole input c n own cut a v e is refused reads judges accounts odds ends = 
     let k = of_front w edges written n none h.told.heeded in
     let all = reads edges k.given k.read in
     let accounted = accounts w k.given written k.accounted in
-    let odd : e.odd ≡ oddities_of edges (k.given ++ option_to_list cut) = odds w edges (k.given ++ option_to_list cut) written k.seen accounted in
+    let said : e.odd ≡ oddities_of edges (k.given ++ option_to_list cut) = odds w edges (k.given ++ option_to_list cut) written k.seen accounted in
     record {
       refused = refused ∙ refuses c n own v judges input.source w edges written h;
       lines =
-          ends w edges (k.given ++ option_to_list cut) written odd accounted
+          ends w edges (k.given ++ option_to_list cut) written said accounted
           ∙ (ap (λ rs. readings_text w rs ++ last_lines w input v edges rs) (sym all)
           ∙ (ap (λ x. readings_text w (readings_of edges) ++ last_lines w input x edges (readings_of edges)) (judges input.source edges h.judged) ∙ sym (ap (λ t. told_of w input t edges) stop)));
-      odd = λ none. odd ∙ ap (λ rs. oddities_of edges rs) (sym all);
+      odd = λ whole. said ∙ ap (λ rs. oddities_of edges rs) (sym all);
     }

@@ -6,11 +6,9 @@ use Rattle.pr_report.specs.declared.detail.Bounds.{Bounds}
 use Rattle.pr_report.specs.declared.interval.Interval.{Interval}
 use Rattle.pr_report.specs.declared.outside.Outside.{Outside}
 use Rattle.pr_report.specs.Intervals.{intervals, length_of}
-use Rattle.pr_wire.specs.declared.WaveFault.{WaveFault}
-use Rattle.pr_report.specs.declared.detail.Bounds.TheVariants.{Guide, Profile}
-use Rattle.pr_report.specs.Outside.{all_outside, conclusion, first_of, guide_verdict, outside_at, outside_in}
+use Rattle.pr_report.specs.declared.detail.Bounds.TheVariants.{Guide}
+use Rattle.pr_report.specs.Outside.{all_outside, first_of, outside_at, outside_in}
 use Rattle.pr_report.specs.Steps.{earlier, kept_with}
-use Rattle.pr_report.specs.Taking.{outside_kept}
 
 -- the first of two lists
 pub first-append : (xs ys : List Outside) → first_of (xs ++ ys) ≡ earlier (first_of xs) (first_of ys)
@@ -52,19 +50,9 @@ found-more b rs r held before after same was is =
     ∙ (ap (λ o. earlier o (first_of (outside_in b intervals r))) was
     ∙ (sym (first-append (all_outside b rs) (outside_in b intervals r)) ∙ ap first_of (sym (outside-push b rs r)))))
 
--- the first interval outside that is kept
-pub kept-none : (b : Bounds) → None ≡ outside_kept b []
-kept-none Profile = refl
-kept-none Guide = refl
-
+-- where it is kept
 pub kept-more : (b : Bounds) (rs : List Reading) (r : Reading) (held : Bounds) (before after : Option Outside) → held ≡ b
-    → before ≡ outside_kept b rs → after ≡ kept_with held before r → after ≡ outside_kept b (rs ++ r ∷ [])
-kept-more Profile rs r held before after same was is = is ∙ (ap (λ h. kept_with h before r) same ∙ was)
-kept-more Guide rs r held before after same was is =
-    found-more Guide rs r Guide before after refl was (is ∙ ap (λ h. kept_with h before r) same)
-
--- the verdict is by it
-pub kept-told : (b held : Bounds) (rs : List Reading) (fault : Option WaveFault) (kept : Option Outside) → held ≡ Guide → held ≡ b → kept ≡ outside_kept b rs
-    → guide_verdict kept ≡ conclusion b fault rs
-kept-told Profile held rs fault kept guide same is = absurd (cc)
-kept-told Guide held rs fault kept guide same is = ap guide_verdict is
+    → (b ≡ Guide → before ≡ first_of (all_outside Guide rs)) → after ≡ kept_with held before r
+    → b ≡ Guide → after ≡ first_of (all_outside Guide (rs ++ r ∷ []))
+kept-more b rs r held before after same was is guide =
+    found-more Guide rs r Guide before after refl (was guide) (is ∙ ap (λ h. kept_with h before r) (same ∙ guide))

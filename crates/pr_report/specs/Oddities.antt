@@ -64,19 +64,19 @@ abbrev pub is_odd : Oddities → Bool
 is_odd o = o.no_byte || o.no_attention || o.atn_rests || o.clock_rests || o.data_rests
 
 -- what to try: of signals the other levels, unless a byte was acknowledged, or other signals; a trace text has neither
-abbrev pub other_signals : (is_inverted no_byte : Bool) → List ℕ
-other_signals is_inverted false = codes "try other signals with --names\n"
-other_signals false true = codes "try --invert for probes behind inverters, or other signals with --names\n"
+abbrev pub other_signals : (no_byte is_inverted : Bool) → List ℕ
+other_signals false is_inverted = codes "try other signals with --names\n"
+other_signals true false = codes "try --invert for probes behind inverters, or other signals with --names\n"
 other_signals true true = codes "try without --invert, or other signals with --names\n"
 
-abbrev pub to_try : Source → (is_inverted no_byte : Bool) → List ℕ
-to_try Text is_inverted no_byte = codes "in a trace text the levels are those of ATN, CLOCK and DATA, and 1 is released\n"
-to_try Vcd is_inverted no_byte = other_signals is_inverted no_byte
-to_try Csv is_inverted no_byte = other_signals is_inverted no_byte
+abbrev pub to_try : Source → (no_byte is_inverted : Bool) → List ℕ
+to_try Text no_byte is_inverted = codes "in a trace text the levels are those of ATN, CLOCK and DATA, and 1 is released\n"
+to_try Vcd no_byte is_inverted = other_signals no_byte is_inverted
+to_try Csv no_byte is_inverted = other_signals no_byte is_inverted
 
 -- the same, if anything is odd
 abbrev pub advice : TraceInput → Oddities → List ℕ
-advice input o = told_if (is_odd o) (to_try input.source input.signals.is_inverted o.no_byte)
+advice input o = told_if (is_odd o) (to_try input.source o.no_byte input.signals.is_inverted)
 
 -- the lines, of a recording that is read so
 abbrev pub oddities_text : TraceInput → Oddities → List ℕ

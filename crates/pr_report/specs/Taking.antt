@@ -1,17 +1,16 @@
 -- Linking words: which readings a survey has taken. The clauses of `Survey` say all that a caller needs of them. No reader needs to
 -- believe them.
-use Rattle.std.specs.Prelude.{◌≡◌, ℕ, ◌==◌, ◌<◌, ◌^◌, List, [], ◌∷◌, length, get_or, Option, None}
+use Rattle.std.specs.Prelude.{◌≡◌, ℕ, ◌==◌, ◌<◌, ◌^◌, List, [], ◌∷◌, length, get_or}
 use Rattle.std.specs.List.{count_by, list_any}
 use Rattle.pr_decode.specs.declared.reading.Reading.{Reading}
 use Rattle.pr_decode.specs.Readings.{greatest}
 use Rattle.pr_report.specs.declared.detail.Bounds.{Bounds}
-use Rattle.pr_report.specs.declared.detail.Bounds.TheVariants.{Guide, Profile}
+use Rattle.pr_report.specs.declared.detail.Bounds.TheVariants.{Guide}
 use Rattle.pr_report.specs.declared.interval.Interval.{Interval}
 use Rattle.pr_report.specs.declared.interval.Interval.TheVariants.{Ready, FirstPull, Answer, AnswerLength, PullAfterAnswer, ShortestLow, LongestLow, ShortestHigh, LongestHigh, Acknowledgement}
 use Rattle.pr_wire.specs.declared.Edge.{Edge}
 use Rattle.pr_report.specs.declared.counts.Counts.{Counts}
 use Rattle.pr_report.specs.declared.oddities.LinesSeen.{LinesSeen}
-use Rattle.pr_report.specs.declared.outside.Outside.{Outside}
 use Rattle.pr_report.specs.declared.survey.Survey.{Survey}
 use Rattle.pr_report.specs.declared.tally.Tally.{Tally}
 use Rattle.pr_report.specs.Intervals.{highest_of, is_outside, lowest_of}
@@ -57,17 +56,12 @@ pub record HasCounted (rs : List Reading) (c : Counts) : Type 0 where
 abbrev pub number_taken : Survey → ℕ
 number_taken s = s.taken
 
--- the first interval outside that a survey keeps: the verdict by the profile needs none
-abbrev pub outside_kept : Bounds → List Reading → Option Outside
-outside_kept Profile rs = None
-outside_kept Guide rs = first_of (all_outside Guide rs)
-
--- these readings were taken, and held against these bounds
+-- these readings were taken, and held against these bounds; the verdict by the profile needs no interval outside
 pub record HasSurveyed (b : Bounds) (rs : List Reading) (s : Survey) : Type 0 where
   pub taken : s.taken ≡ length rs
   pub few : length rs < 2 ^ 64
   pub bounds : s.bounds ≡ b
-  pub outside : s.outside ≡ outside_kept b rs
+  pub outside : b ≡ Guide → s.outside ≡ first_of (all_outside Guide rs)
   pub counts : HasCounted rs s.counts
   pub ready : Tallies b Ready rs s.ready
   pub first_pull : Tallies b FirstPull rs s.first_pull

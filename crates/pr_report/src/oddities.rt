@@ -172,13 +172,13 @@ fn is_odd(odd: Oddities) -> bool
     odd.no_byte || odd.no_attention || odd.atn_rests || odd.clock_rests || odd.data_rests
 }
 
-/// What to try of a recording of signals, whose levels are inverted or not, and in which a byte was acknowledged or none.
-fn other_signals(is_inverted: bool, no_byte: bool) -> &'static [u8]
-    ensures { result.now ≡ other_signals is_inverted no_byte }
+/// What to try of a recording of signals, in which no byte was acknowledged or one was, and whose levels are inverted or not.
+fn other_signals(no_byte: bool, is_inverted: bool) -> &'static [u8]
+    ensures { result.now ≡ other_signals no_byte is_inverted }
 {
-    match (is_inverted, no_byte) {
-        (_, false) => b"try other signals with --names\n",
-        (false, true) => {
+    match (no_byte, is_inverted) {
+        (false, _) => b"try other signals with --names\n",
+        (true, false) => {
             b"try --invert for probes behind inverters, or other signals with --names\n"
         }
         (true, true) => b"try without --invert, or other signals with --names\n",
@@ -186,14 +186,14 @@ fn other_signals(is_inverted: bool, no_byte: bool) -> &'static [u8]
 }
 
 /// What to try of a recording in this format.
-fn to_try(source: Source, is_inverted: bool, no_byte: bool) -> &'static [u8]
-    ensures { result.now ≡ to_try source is_inverted no_byte }
+fn to_try(source: Source, no_byte: bool, is_inverted: bool) -> &'static [u8]
+    ensures { result.now ≡ to_try source no_byte is_inverted }
 {
     match source {
         Source::Text => {
             b"in a trace text the levels are those of ATN, CLOCK and DATA, and 1 is released\n"
         }
-        Source::Vcd | Source::Csv => other_signals(is_inverted, no_byte),
+        Source::Vcd | Source::Csv => other_signals(no_byte, is_inverted),
     }
 }
 
@@ -201,7 +201,7 @@ fn to_try(source: Source, is_inverted: bool, no_byte: bool) -> &'static [u8]
 fn push_advice(text: &mut Vec<u8>, input: TraceInput<'_>, odd: Oddities) -> Result<(), NoMemory>
     ensures { OnOk result (text.new.items ≡ text.old.items ++ advice input.entry odd) }
 {
-    let line = to_try(input.source, input.signals.is_inverted, odd.no_byte);
+    let line = to_try(input.source, odd.no_byte, input.signals.is_inverted);
     push_if(text, is_odd(odd), line)
 }
 

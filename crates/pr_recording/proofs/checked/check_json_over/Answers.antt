@@ -1,5 +1,4 @@
-use Rattle.pr_recording.proofs.Answering.{checked, err_without, ok_without, own_without}
-use Rattle.pr_cli.specs.Report.{IsReportFault}
+use Rattle.pr_recording.proofs.Answering.{checked, err_without, ok_without, own_checked}
 use Rattle.pr_cli.specs.declared.fault.CliFault.TheVariants.{ReadFailed, WriteFailed}
 use Rattle.pr_recording.proofs.checked.check_json_over.Goals as goal
 
@@ -14,7 +13,7 @@ pub returns-clause-flushed : goal.returns-clause-flushed
 returns-clause-flushed g c = rw c.without_odd.ensures (ok_without c.tell_input.result _ c.tell_input.ensures.flushed)
 
 pub returns-clause-own : goal.returns-clause-own
-returns-clause-own g c = rw c.without_odd.ensures (own_without c.tell_input.result IsReportFault c.tell_input.ensures.own)
+returns-clause-own g c = rw c.without_odd.ensures (own_checked c.tell_input.result c.tell_input.ensures.own)
 
 pub returns-clause-read_failed : goal.returns-clause-read_failed
 returns-clause-read_failed g c = rw c.without_odd.ensures (err_without c.tell_input.result ReadFailed _ c.tell_input.ensures.read_failed)
