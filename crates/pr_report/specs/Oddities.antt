@@ -1,7 +1,10 @@
 -- Trusted: the last lines of the report on a recording in which no byte is acknowledged, attention never comes or a line
 -- rests at 0: what is odd, and what to try.
-use Rattle.std.specs.Prelude.{ℕ, not, ◌||◌, Bool, true, false, List, [], ◌∷◌, ◌++◌, Option, Some, None, codes, if◌then◌else◌}
+use Rattle.std.specs.Prelude.{ℕ, not, ◌&&◌, ◌||◌, Bool, true, false, List, [], ◌∷◌, ◌++◌, Option, Some, None, codes, if◌then◌else◌}
 use Rattle.std.specs.List.{list_any}
+use Rattle.pr_capture.specs.declared.format.Source.{Source}
+use Rattle.pr_capture.specs.declared.format.Source.TheVariants.{Csv, Text, Vcd}
+use Rattle.pr_capture.specs.declared.format.TraceInput.{TraceInput}
 use Rattle.pr_wire.specs.declared.Edge.{Edge}
 use Rattle.pr_wire.specs.declared.Levels.{Levels}
 use Rattle.pr_decode.specs.declared.reading.FrameEnd.TheVariants.{Acknowledged, Cut, Unacknowledged}
@@ -33,7 +36,8 @@ abbrev pub last_levels : List Edge → Option Levels
 last_levels [] = None
 last_levels (e ∷ es) = Some (levels_after e.levels es)
 
--- what is odd: a line rests at 0 where the recording begins and ends with it at 0
+-- what is odd: a line rests at 0 where the recording begins and ends with it at 0. Acknowledged bytes came over CLOCK and
+-- DATA: these two rest at 0 then where the recording begins and ends within a transfer, which is not odd
 abbrev pub odd_levels : (no_byte no_attention : Bool) → (first last : Option Levels) → Oddities
 odd_levels no_byte no_attention None last =
     record { no_byte = no_byte; no_attention = no_attention; atn_rests = false; clock_rests = false; data_rests = false }
@@ -43,8 +47,8 @@ odd_levels no_byte no_attention (Some a) (Some b) = record {
   no_byte = no_byte;
   no_attention = no_attention;
   atn_rests = not (a.atn || b.atn);
-  clock_rests = not (a.clock || b.clock);
-  data_rests = not (a.line || b.line);
+  clock_rests = no_byte && not (a.clock || b.clock);
+  data_rests = no_byte && not (a.line || b.line);
 }
 
 -- what is odd about edges that say these readings
@@ -59,16 +63,27 @@ told_if b line = if b then line else []
 abbrev pub is_odd : Oddities → Bool
 is_odd o = o.no_byte || o.no_attention || o.atn_rests || o.clock_rests || o.data_rests
 
--- what to try, if anything is odd
-abbrev pub advice : Oddities → List ℕ
-advice o = told_if (is_odd o) (codes "try --invert for probes behind inverters, or other signals with --names\n")
+-- what to try: of signals the other levels, unless a byte was acknowledged, or other signals; a trace text has neither
+abbrev pub other_signals : (no_byte is_inverted : Bool) → List ℕ
+other_signals false is_inverted = codes "try other signals with --names\n"
+other_signals true false = codes "try --invert for probes behind inverters, or other signals with --names\n"
+other_signals true true = codes "try without --invert, or other signals with --names\n"
 
--- the lines
-abbrev pub oddities_text : Oddities → List ℕ
-oddities_text o =
+abbrev pub to_try : Source → (no_byte is_inverted : Bool) → List ℕ
+to_try Text no_byte is_inverted = codes "in a trace text the levels are those of ATN, CLOCK and DATA, and 1 is released\n"
+to_try Vcd no_byte is_inverted = other_signals no_byte is_inverted
+to_try Csv no_byte is_inverted = other_signals no_byte is_inverted
+
+-- the same, if anything is odd
+abbrev pub advice : TraceInput → Oddities → List ℕ
+advice input o = told_if (is_odd o) (to_try input.source o.no_byte input.signals.is_inverted)
+
+-- the lines, of a recording that is read so
+abbrev pub oddities_text : TraceInput → Oddities → List ℕ
+oddities_text input o =
     told_if o.no_byte (codes "no byte is acknowledged\n")
     ++ told_if o.no_attention (codes "attention never comes: ATN is not pulled\n")
     ++ told_if o.atn_rests (codes "ATN rests at 0\n")
     ++ told_if o.clock_rests (codes "CLOCK rests at 0\n")
     ++ told_if o.data_rests (codes "DATA rests at 0\n")
-    ++ advice o
+    ++ advice input o

@@ -4,10 +4,11 @@ ghost use Rattle.std.specs.Prelude.{◌≡◌, ◌++◌, ◌∷◌, ◌||◌, []
 ghost use Rattle.std.specs.List.{list_any};
 ghost use Rattle.pr_wire.specs.declared.Edge.{Edge};
 ghost use Rattle.pr_decode.specs.declared.reading.Reading.{Reading};
-ghost use Rattle.pr_report.specs.Oddities.{advice, is_acknowledged, is_attention, is_odd, odd_levels, oddities_of, oddities_text, told_if};
+ghost use Rattle.pr_report.specs.Oddities.{advice, is_acknowledged, is_attention, is_odd, odd_levels, oddities_of, oddities_text, other_signals, to_try, told_if};
 ghost use Rattle.pr_report.specs.Steps.{first_or};
 ghost use Rattle.pr_report.specs.Taking.{HasSeen};
 
+use pr_capture::{Source, TraceInput};
 use pr_decode::{FrameEnd, Reading};
 use pr_wire::{Edge, Levels, NoMemory};
 
@@ -20,9 +21,9 @@ pub struct Oddities {
     pub no_attention: bool,
     /// The recording begins and ends with ATN at 0.
     pub atn_rests: bool,
-    /// The recording begins and ends with CLOCK at 0.
+    /// No byte is acknowledged, and the recording begins and ends with CLOCK at 0.
     pub clock_rests: bool,
-    /// The recording begins and ends with DATA at 0.
+    /// No byte is acknowledged, and the recording begins and ends with DATA at 0.
     pub data_rests: bool,
 }
 
@@ -149,8 +150,8 @@ fn odd_levels(
         no_byte,
         no_attention,
         atn_rests: !(first.atn || last.atn),
-        clock_rests: !(first.clock || last.clock),
-        data_rests: !(first.line || last.line),
+        clock_rests: no_byte && !(first.clock || last.clock),
+        data_rests: no_byte && !(first.line || last.line),
     }
 }
 
@@ -171,24 +172,51 @@ fn is_odd(odd: Oddities) -> bool
     odd.no_byte || odd.no_attention || odd.atn_rests || odd.clock_rests || odd.data_rests
 }
 
-/// Adds what to try, if anything is odd.
-fn push_advice(text: &mut Vec<u8>, odd: Oddities) -> Result<(), NoMemory>
-    ensures { OnOk result (text.new.items ≡ text.old.items ++ advice odd) }
+/// What to try of a recording of signals, in which no byte was acknowledged or one was, and whose levels are inverted or not.
+fn other_signals(no_byte: bool, is_inverted: bool) -> &'static [u8]
+    ensures { result.now ≡ other_signals no_byte is_inverted }
 {
-    push_if(
-        text,
-        is_odd(odd),
-        b"try --invert for probes behind inverters, or other signals with --names\n",
-    )
+    match (no_byte, is_inverted) {
+        (false, _) => b"try other signals with --names\n",
+        (true, false) => {
+            b"try --invert for probes behind inverters, or other signals with --names\n"
+        }
+        (true, true) => b"try without --invert, or other signals with --names\n",
+    }
 }
 
-/// Adds a line for each thing that is odd about a recording, and one with what to try, if there is any.
+/// What to try of a recording in this format.
+fn to_try(source: Source, no_byte: bool, is_inverted: bool) -> &'static [u8]
+    ensures { result.now ≡ to_try source no_byte is_inverted }
+{
+    match source {
+        Source::Text => {
+            b"in a trace text the levels are those of ATN, CLOCK and DATA, and 1 is released\n"
+        }
+        Source::Vcd | Source::Csv => other_signals(no_byte, is_inverted),
+    }
+}
+
+/// Adds what to try of a recording that is read so, if anything is odd.
+fn push_advice(text: &mut Vec<u8>, input: TraceInput<'_>, odd: Oddities) -> Result<(), NoMemory>
+    ensures { OnOk result (text.new.items ≡ text.old.items ++ advice input.entry odd) }
+{
+    let line = to_try(input.source, odd.no_byte, input.signals.is_inverted);
+    push_if(text, is_odd(odd), line)
+}
+
+/// Adds a line for each thing that is odd about a recording, and one with what to try, if there is any: `--invert` only
+/// where no byte is acknowledged, and no option of signals where the recording is a trace text.
 ///
 /// # Errors
 ///
 /// [`NoMemory`] where a growth of the text was refused. Nothing is promised of the text then.
-pub fn push_oddities(text: &mut Vec<u8>, odd: Oddities) -> Result<(), NoMemory>
-    ensures { OnOk result (text.new.items ≡ text.old.items ++ oddities_text odd) }
+pub fn push_oddities(
+    text: &mut Vec<u8>,
+    input: TraceInput<'_>,
+    odd: Oddities,
+) -> Result<(), NoMemory>
+    ensures { OnOk result (text.new.items ≡ text.old.items ++ oddities_text input.entry odd) }
 {
     push_if(text, odd.no_byte, b"no byte is acknowledged\n")?;
     push_if(
@@ -199,6 +227,6 @@ pub fn push_oddities(text: &mut Vec<u8>, odd: Oddities) -> Result<(), NoMemory>
     push_if(text, odd.atn_rests, b"ATN rests at 0\n")?;
     push_if(text, odd.clock_rests, b"CLOCK rests at 0\n")?;
     push_if(text, odd.data_rests, b"DATA rests at 0\n")?;
-    push_advice(text, odd)?;
+    push_advice(text, input, odd)?;
     Ok(())
 }

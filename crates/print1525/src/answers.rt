@@ -9,7 +9,7 @@ use crate::progress::{Progress, clear};
 use crate::shown::Shown;
 use crate::starts::started_job;
 use crate::statuses::{FAILED, ending_status, fault_status, is_answered, text_status};
-use crate::told::{show_oddities, subject_of, tell_heard, tell_listing, tell_more};
+use crate::told::{Subject, show_oddities, subject_of, tell_heard, tell_listing, tell_more};
 use pr_cli::{CliFault, Ending, SCRIPT_LIMIT, TeeReader, Watched};
 use pr_dots::Shapes;
 use pr_files::{Noting, save};
@@ -312,7 +312,7 @@ fn answer_over<R: Read + Drop, W: Write + Drop>(
     let input = input.into_inner();
     let output = output.into_inner();
     let status = match answer {
-        Ok(answer) => tell_answer(rt, answer),
+        Ok(answer) => tell_answer(rt, subject, answer),
         Err(CliFault::ReadFailed) => tell_failed(
             rt,
             CliFault::ReadFailed,
@@ -334,14 +334,14 @@ fn answer_over<R: Read + Drop, W: Write + Drop>(
 fn ending_of(answer: Result<Answer, CliFault>) -> Result<Ending, CliFault> {
     match answer {
         Ok(Answer::Ended(ending) | Answer::Heard(ending, _)) => Ok(ending),
-        Ok(Answer::Overheard(_, _) | Answer::Reprinted(_)) => Ok(Ending::Done),
+        Ok(Answer::Overheard(_, _) | Answer::Remarked(_)) => Ok(Ending::Done),
         Err(fault) => Err(fault),
     }
 }
 
 /// Gives the exit status of a job that ended so. Where its bytes do not say in which character set a printer prints
 /// them, tells that in one line on standard error, and then what is odd about a recording that was not listed.
-fn tell_answer(rt: &(impl Eprint + AllocGlobal), answer: Answer) -> u8
+fn tell_answer(rt: &(impl Eprint + AllocGlobal), subject: Subject<'_>, answer: Answer) -> u8
     ensures { result ≡ answer_status answer }
 {
     match answer {
@@ -352,11 +352,11 @@ fn tell_answer(rt: &(impl Eprint + AllocGlobal), answer: Answer) -> u8
         }
         Answer::Overheard(heard, odd) => {
             tell_heard(rt, heard);
-            show_oddities(rt, odd);
+            show_oddities(rt, subject, odd);
             ending_status(Ending::Done)
         }
-        Answer::Reprinted(odd) => {
-            show_oddities(rt, odd);
+        Answer::Remarked(odd) => {
+            show_oddities(rt, subject, odd);
             ending_status(Ending::Done)
         }
     }
