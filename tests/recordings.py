@@ -108,7 +108,19 @@ def samples_of(edges, choice):
     return head + ",".join(NAMES) + "\n" + "\n".join(rows) + "\n", ["--from", "csv", *words]
 
 
-FORMS = (text_of, dump_of, dump_of, table_of, table_of, table_of)
+def numbers_of(edges, choice):
+    """A row a change, each anywhere in its microsecond: with the number of its sample, or with sigrok-cli's time of it, which is that number
+    times the whole nanoseconds of one sample."""
+    rate = choice.choice((3, 12, 24))
+    name, step = choice.choice((("Sample", 1), ("Time", 1000 // rate)))
+    lines = [f"; Samplerate: {rate} MHz", ",".join([name, *NAMES])]
+    for time, levels in edges:
+        number = time * rate + choice.randrange(rate)
+        lines.append(",".join([str(number * step), *levels]))
+    return "\n".join(lines) + "\n", ["--from", "csv"]
+
+
+FORMS = (text_of, dump_of, dump_of, table_of, table_of, table_of, numbers_of)
 WAYS = ([], [], ["--intervals"], ["--bounds", "guide"], ["--intervals", "--bounds", "guide"], ["--as", "json"])
 
 
