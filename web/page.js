@@ -299,7 +299,7 @@ function tellRefusal({ name, line, column, explanation, place, inPetcat }, words
   if (paper.picture) words('', 'The paper and the wire still show the run before.');
   signs[number] = 'refused';
   titles[number] = sentence;
-  editor.tell(signs, titles, { line: number, from, to: Math.min(from + width, Math.max(text.length, from + 1)), words: sentence, kind: 'refused' });
+  editor.tell(signs, titles, { line: number, from, to: Math.min(from + width, Math.max(text.length, from + 1)), words: name, kind: 'refused' });
 }
 
 /** A run's statuses and its stop. */

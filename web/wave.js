@@ -150,7 +150,7 @@ export class Wave {
     const around = this.intervalsAt(moment);
     around.sort((a, b) => (a.to - a.from) - (b.to - b.from));
     const part = around.find(part => wire && part.line === wire.bit) || around[0] || null, frame = this.frameUnder(moment);
-    const bit = part && frame >= 0 && / half$/.test(part.name) ? this.bitAt(this.frames[frame], part.from) : null;
+    const bit = part && frame >= 0 && 'SV'.includes(part.kind) ? this.bitAt(this.frames[frame], part.from) : null;
     return { moment, frame, part, bit, wire, level: !part && wire ? this.levelAt(wire, moment) : null };
   }
 

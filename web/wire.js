@@ -120,8 +120,8 @@ export function frameAt(frames, moment) {
   return low - 1;
 }
 
-/** A part of the wave that has a name: `{ name, from, to, line, bounds }`, moments in microseconds. */
-const partOf = (kind, from, to, line = DELAYS[kind][1]) => ({ name: nameOf(kind), from, to, line, bounds: boundsOf(kind) });
+/** A part of the wave that is a delay of some kind: `{ kind, name, from, to, line, bounds }`, moments in microseconds. */
+const partOf = (kind, from, to, line = DELAYS[kind][1]) => ({ kind, name: nameOf(kind), from, to, line, bounds: boundsOf(kind) });
 
 /** The delays around a moment, of those that edges end: `delays` has the kind of each and since when it counts. */
 export function delaysAt({ times, levels }, delays, moment) {
