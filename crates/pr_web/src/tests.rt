@@ -142,7 +142,11 @@ fn edges_and_readings_as_numbers(rt: HostRuntime) {
         &mut answer,
     );
     assert!(rt; answer.code == 0 && answer.length == 18);
-    assert!(rt; out.starts_with(&[4, 0, 0, 0, 1, 1100, 1150, 0, 0, 0, 1190, 1190, 0, 0, 0, 0, 0]));
+    assert!(rt;
+        out.starts_with(&[
+            4, 0, 0, 0, 1, 1100, 1150, 0, 0, 0, 1190, 1190, 0, 0, 0, 0, 0
+        ])
+    );
     print1525_bounds(rt.alloc(), &mut out, &mut answer);
     assert!(rt; answer.code == 0 && answer.length == 30);
     assert!(rt;
