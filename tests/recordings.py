@@ -9,6 +9,7 @@ again. Then 20 recordings that keep the Programmer's Reference Guide's bounds ar
 
 import contextlib
 import io
+import os
 import random
 import re
 import subprocess
@@ -245,4 +246,6 @@ def main():
 
 
 if __name__ == "__main__":
+    if len(sys.argv) < 3 or not os.access(sys.argv[1], os.X_OK):
+        sys.exit(__doc__)
     sys.exit(main())
