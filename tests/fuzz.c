@@ -2,7 +2,7 @@
  *
  * Each input and buffer ends where memory ends. In each round a call, its settings, its input and its room are drawn; settings,
  * decoders and receivers are mostly lawful, and sometimes bytes of nothing. What every call has to keep is tested: a status of 0 to 3
- * with the details that belong to it, a buffer that stays as it was behind the text and with every other status, inputs that stay,
+ * with the details that belong to it, a buffer that stays as it was after the text and with every other status, inputs that stay,
  * and the same answer when it is asked again. Some allocations are refused. Status 0, else 1 and a line with the round. */
 #define _DEFAULT_SOURCE
 #include "print1525.h"

@@ -69,7 +69,7 @@ static int refusals(void) {
     print1525_mark *const itself = (print1525_mark *)(void *)&printer;
     WANT(print1525_printer_byte(&printer, 65, itself, 1, &details) == PRINT1525_REFUSED && details.fault == PRINT1525_FAULT_OVERLAP);
     WANT(print1525_printer_bytes(&printer, "A", 1, &taken, itself, 1, &details) == PRINT1525_REFUSED && details.fault == PRINT1525_FAULT_OVERLAP);
-    // (so many items that the number of their bytes is none)
+    // (so many items that their bytes have no number)
     const size_t many = SIZE_MAX / 16 + 1;
     WANT(print1525_printer_bytes(&printer, "A", 1, &taken, NULL, many, &details) == PRINT1525_REFUSED && details.fault == PRINT1525_FAULT_NULL_POINTER);
     WANT(print1525_printer_page(NULL, many, NULL, NULL, 0, &details) == PRINT1525_REFUSED && details.fault == PRINT1525_FAULT_NULL_POINTER);

@@ -60,7 +60,7 @@ def dump_of(edges, choice):
 
 
 def time_text(time, decimals, choice):
-    """A time of whole microseconds in a unit with so many decimals of a second."""
+    """A time of whole microseconds in a unit with this many decimals of a second."""
     if decimals >= 6:
         return str(time * 10 ** (decimals - 6)) if choice.randrange(8) else f"{time}E+{decimals - 6}"
     if choice.randrange(8) == 0:
