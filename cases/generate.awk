@@ -74,7 +74,7 @@ function commands(   i, n, pair, part, dot, name) {
     page("escape-before-codes", "27 before a code: nothing, and the code counts.", \
         "27 18 65 27 146 66 27 14 67 27 15 68 27 17 69 27 145 70 27 13 71 27 10 72 27 8 193 27 26 2 194 13")
     page("escapes-in-a-row", "27 before 27 does nothing, however many; the last one counts.", "27 27 27 16 0 9 65 27 27 27 66 13")
-    page("parameters-like-codes", "Parameters are no codes: 8 and 13 behind 27 16, 10 and 13 behind 16, 14 and 18 behind 26.", \
+    page("parameters-like-codes", "Parameters are no codes: 8 and 13 after 27 16, 10 and 13 after 16, 14 and 18 after 26.", \
         "27 16 0 8 65 193 27 16 0 13 66 16 10 13 67 26 14 18 68 13")
     page("parameters-like-commands", "Parameters are no commands: 16, 26 and 27 as parameters of each other.", \
         "16 27 16 65 16 26 27 66 26 16 27 67 27 16 0 27 68 27 16 26 16 69 13")
@@ -100,7 +100,7 @@ function lines() {
     page("dots-and-a-cell-that-wraps", "A line of dots that wraps in character mode is 21/126 inch high.", "8 27 16 1 223 193 15 65 13")
     page("wrap-keeps-styles", "A wrap ends the line as 10 does: override, reverse and width go on.", "17 18 14 16 55 56 65 66 67 13 68 13")
     page("move-without-a-mark", "A move alone marks nothing, and ends with its line.", "16 53 48 13 65 27 16 1 223 10 66 13")
-    page("wrap-behind-a-move", "A mark that does not fit behind a move leaves an empty row.", "27 16 1 220 65 13 14 27 16 1 220 66 13")
+    page("wrap-behind-a-move", "A mark that does not fit after a move leaves an empty row.", "27 16 1 220 65 13 14 27 16 1 220 66 13")
     page("pitches", "Rows of 21 and of 14/126 inch: the mode in which the line ends counts.", "65 13 8 193 13 194 10 15 66 13 8 10 10 15 10 10 67 13")
     page("pitch-of-a-mixed-line", "A line of a cell and dots: the mode in which it ends counts.", "65 8 193 13 194 15 66 13 67 8 195 15 10 68 13")
     page("empty-lines", "Empty lines are rows too.", "13 10 13 8 13 10 14 10 13")
@@ -133,7 +133,7 @@ function random_pages(   i, n, bytes) {
     }
 }
 
-# A script of statements, between which a | stands, with these printers and this status.
+# A script of statements, separated by |, with these printers and this status.
 function script(name, shows, statements, present, status,   i, n, part, words) {
     begin_case("script/made-" name, shows)
     n = split(statements, part, "[|]")
@@ -149,7 +149,7 @@ function chars(bytes,   i, n, part, text) {
     return text
 }
 function pending(name, first, rest) {
-    script("pending-behind-" name, "A command cut in two by a selection of the other set: its bytes go on behind it.", \
+    script("pending-behind-" name, "A command cut in two by a selection of the other set: its bytes go on after it.", \
         "OPEN 1,4:OPEN 2,4,7|PRINT#1,\"A\"" chars(first) ";|PRINT#2," chars(rest) "\"B\"", "both", "each")
 }
 function scripts(   i, j, n, list, modes, all) {
@@ -171,7 +171,7 @@ function scripts(   i, j, n, list, modes, all) {
     script("second-before-the-other", "LISTEN to another printer selects nothing for this one: printer 4 listens on in its own set.", \
         "OPEN 4,4,7:OPEN 5,5|CMD 4,\"A\";|PRINT#5,\"B\"", "both", "each")
     script("channel-127", "A file of 127 gets no line feed.", "OPEN 127,4|PRINT#127,\"A\"|CMD 127,\"B\"|PRINT \"C\"|PRINT#127", "both", "each")
-    script("channel-255", "A file of 255 gets a line feed behind each list, under CMD too.", \
+    script("channel-255", "A file of 255 gets a line feed after each list, under CMD too.", \
         "OPEN 255,4|PRINT#255,\"A\"|CMD 255,\"B\"|PRINT \"C\"|PRINT \"D\";|PRINT#255", "both", "each")
     script("screen-behind-channel-128", "PRINT# ends its channel number: the screen gets no line feed.", \
         "OPEN 128,4|PRINT#128,\"A\"|PRINT \"B\"", "both", "each")
@@ -207,7 +207,7 @@ function scripts(   i, j, n, list, modes, all) {
                 "Error " substr(all[i], 1, 1) " while a CMD is in force: the held byte and an UNLISTEN belong to the statement that stops.", \
                 "OPEN 4,4|CMD 4,\"A\"|" substr(all[i], 3) "|PRINT \"B\"", "both", modes[j])
     for (j = 1; j <= 2; j++)
-        script("stop-5-" modes[j], "Error 5 by a byte that waited for an absent printer; the LISTEN is sent, and an UNLISTEN behind it.", \
+        script("stop-5-" modes[j], "Error 5 by a byte that waited for an absent printer; the LISTEN is sent, and an UNLISTEN after it.", \
             "OPEN 4,4|OPEN 5,5|CMD 5,\"A\";|CMD 4,\"B\"|PRINT \"C\"", "4", modes[j])
     random_scripts()
 }
@@ -492,14 +492,14 @@ function traces(   i, part) {
     refused_ends("free-first", "In a command, from DATA's release to CLOCK's pull", "listen", "NE1", "")
     lawful_ends("free-data", "In a data byte, from DATA's release to CLOCK's pull", "letter", "NE2", "")
     interval("free-pulse", "From DATA's release to the answer to end-or-identify", "data", "YE1", "")
-    interval("pulse", "The answer to end-or-identify, behind a wait of 250", "data", "EI1", "", "least")
-    interval("pulse", "The answer to end-or-identify, behind a wait of 200", "data", "EI1", "YE1 200", "greatest", bound_greatest["YE"] + bound_greatest["EI"] - 200)
+    interval("pulse", "The answer to end-or-identify, after a wait of 250", "data", "EI1", "", "least")
+    interval("pulse", "The answer to end-or-identify, after a wait of 200", "data", "EI1", "YE1 200", "greatest", bound_greatest["YE"] + bound_greatest["EI"] - 200)
     interval("after", "From the end of the answer to CLOCK's pull", "data", "RY1", "")
     lawful_ends("bit-command", "In a command, from CLOCK's pull to its release for the third bit", "listen", "S3", "")
     refused_ends("bit-data", "In a data byte, from CLOCK's pull to its release for the first bit", "letter", "S9", "")
-    refused_ends("high-command", "In a command, from CLOCK's release to its pull behind the first bit", "listen", "V1", "")
-    lawful_ends("high-data", "In a data byte, from CLOCK's release to its pull behind the seventh bit", "letter", "V15", "")
-    interval("high-7", "From CLOCK's release to its pull behind the last bit", "listen", "V8", "")
+    refused_ends("high-command", "In a command, from CLOCK's release to its pull after the first bit", "listen", "V1", "")
+    lawful_ends("high-data", "In a data byte, from CLOCK's release to its pull after the seventh bit", "letter", "V15", "")
+    interval("high-7", "From CLOCK's release to its pull after the last bit", "listen", "V8", "")
     lawful_ends("last-first", "In a command, from CLOCK's last pull to the acknowledgement", "listen", "F1", "")
     refused_ends("last-data", "In a data byte, from CLOCK's last pull to the acknowledgement", "letter", "F2", "")
     interval("ack-second", "From the first command's acknowledgement to the second look", "second", "AW2", "")
@@ -508,8 +508,8 @@ function traces(   i, part) {
     interval("ack-data-byte", "From a data byte's acknowledgement to the next look", "two", "BB3", "")
     interval("ack-data-call", "From a data byte's acknowledgement to ATN's pull", "print", "BB3", "")
     lawful_ends("freed-released", "From ATN's release to DATA's, where no printer listens", "other", "DR1", "")
-    interval("freed-unlistened", "From ATN's release to DATA's behind UNLISTEN", "unlisten", "DR1", "")
-    interval("freed-rest", "From ATN's release to CLOCK's behind UNLISTEN", "unlisten", "CR1", "")
+    interval("freed-unlistened", "From ATN's release to DATA's after UNLISTEN", "unlisten", "DR1", "")
+    interval("freed-rest", "From ATN's release to CLOCK's after UNLISTEN", "unlisten", "CR1", "")
     interval("freed-byte", "From ATN's release to the look before a byte", "letter", "BB2", "")
     interval("freed-call", "From ATN's release to its next pull, where DATA is pulled", "again", "BB2", "")
     interval("freed-dropped", "From ATN's release to CLOCK's for a byte that nobody hears", "other", "BB2", "")

@@ -254,7 +254,7 @@ function trace_line(text, i,   part) {
     moment[i] = part[1]
     level[i] = part[2]
 }
-# Bytes of an input told by numbers, as lines too.
+# Bytes of an input given by numbers, or by lines.
 function number_line(text,   i, n, part) {
     n = split(text, part, " ")
     for (i = 1; i <= n; i++) {
@@ -264,7 +264,7 @@ function number_line(text,   i, n, part) {
     }
 }
 function missing(what) { print "NOT REACHED: " what; bad = 1 }
-# A count for the tables: - where there can be none; a missing one is told.
+# A count for the tables: - where there can be none; a missing one is reported.
 function number(count, may_be, what) {
     if (!may_be) { if (count) { print "NOT POSSIBLE: " what; bad = 1 } return "-" }
     if (!count) missing(what)
@@ -321,7 +321,7 @@ FILENAME ~ /Table.antt$/ {
         sub(/ =.*/, "")
         known++
         if (known == 13) known++
-        if (clause[known] != $0) { print "Table.antt has the row " $0 ", here stands " clause[known]; bad = 1 }
+        if (clause[known] != $0) { print "Table.antt has the row " $0 ", here is " clause[known]; bad = 1 }
     }
     next
 }

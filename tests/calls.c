@@ -15,12 +15,12 @@
  *     calls explain_trace RECORDING
  *     calls explain_reading RECORDING
  *     calls strict DEVICE                             (a trace text; the inputs that the device receives, a number each line)
- *     calls settings                                  (numbers that stand for no setting; no input)
+ *     calls settings                                  (numbers that are no setting; no input)
  *     calls pointers                                  (pointers that are NULL, and memory that overlaps; no input)
  *     calls words                                     (the number and the words of each fault, and messages; no input)
  *     calls receivers                                 (a strict receiver's answers and refusals; no input)
  *     calls decoder                                   (a decoder's answers and refusals; no input)
- *     calls readings                                  (a recording; each reading with all that is told of it, a line each)
+ *     calls readings                                  (a recording; each reading with all that is known of it, a line each)
  *
  * Writes the text to standard output, and a line to standard error as print1525 does, and ends with the
  * status. Before that the call is made with buffers of all sizes from 0 to what is needed, and with each allocation
@@ -30,8 +30,8 @@
  * settings of a recording. (So are edges above MOST_PLACES of those at which numbers are changed.)
  * Input and buffer end where memory ends, so a byte read or written beyond them is a fault. Each answer has to be as the
  * header says, all memory has to be given back, and a refusal
- * may change nothing; else a line beginning with WRONG is told, and the status is 99. Behind each edge each number of
- * a strict receiver and of a decoder is changed to others: which are still one is told by `is_strict` and `is_decoder` here, as docs/DEFINITIONS.md says, and all others have to be refused. Linked with -Wl,--wrap=malloc,--wrap=realloc,--wrap=free. */
+ * may change nothing; else a line beginning with WRONG is written, and the status is 99. After each edge each number of
+ * a strict receiver and of a decoder is changed to others: which are still one is decided by `is_strict` and `is_decoder` here, as docs/DEFINITIONS.md says, and all others have to be refused. Linked with -Wl,--wrap=malloc,--wrap=realloc,--wrap=free. */
 #define _DEFAULT_SOURCE
 #include "print1525.h"
 #include <stddef.h>
@@ -132,7 +132,7 @@ static void read_delays(job *j, const char *text) {
     }
 }
 
-/* A printer's inputs, a number each line, ending where memory ends. The header's names stand for 256 and 257. */
+/* A printer's inputs, a number each line, ending where memory ends. 256 and 257 have names in the header. */
 static void read_numbers(job *j) {
     static const uint16_t selections[] = {PRINT1525_SELECT_UPPER, PRINT1525_SELECT_LOWER};
     size_t index, lines = 0;
@@ -214,7 +214,7 @@ static void try_size(const job *j, guarded buffer, size_t capacity, print1525_de
         if (!are_details(answer, true_answer) || memcmp(front, text, answer.length) != 0)
             is_wrong("another text in a buffer of size", capacity);
         if (!is_untouched(front + true_answer.length, capacity - true_answer.length))
-            is_wrong("bytes behind the text are written, size", capacity);
+            is_wrong("bytes after the text are written, size", capacity);
         return;
     }
     if (!is_untouched(front, capacity)) is_wrong("the buffer is written, size", capacity);
@@ -248,7 +248,7 @@ static size_t try_refusals(const job *j, guarded buffer, size_t capacity, print1
         } else if (!are_details(answer, true_answer) || (has_text(true_answer) && memcmp(front, text, true_answer.length) != 0))
             is_wrong("another answer with a refused allocation", (size_t)number);
     }
-    if (all > 0 && told == 0) is_wrong("no refused allocation is told", (size_t)all);
+    if (all > 0 && told == 0) is_wrong("no refused allocation is reported", (size_t)all);
     if (all > 0 && true_answer.fault == PRINT1525_FAULT_NO_SUCH_INPUT) is_wrong("memory is taken of a number that is no input", (size_t)all);
     return told;
 }
@@ -354,7 +354,7 @@ static int may_be_answered(placed_strict at) {
            told->fault <= PRINT1525_FAULT_TRUNCATED;
 }
 
-/* At each how many of so many edges numbers are changed. */
+/* After how many of the edges numbers are changed. */
 static size_t step_of(size_t count) { return is_all ? 1 : count / MOST_PLACES + 1; }
 
 static placed_strict place_strict(void) {
@@ -417,7 +417,7 @@ static void try_other_numbers(placed_strict at, const print1525_strict *strict, 
     }
 }
 
-/* A copy of a strict receiver goes its own way: it tells the same of the same edge, and an edge that it refuses changes nothing but the copy. */
+/* A copy of a strict receiver goes its own way: it says the same of the same edge, and an edge that it refuses changes nothing but the copy. */
 static void try_copy(placed_strict at, const print1525_strict *strict, const print1525_edge *edge) {
     const print1525_strict before = *strict;
     print1525_strict other = *strict;
@@ -427,29 +427,29 @@ static void try_copy(placed_strict at, const print1525_strict *strict, const pri
     print1525_strict_edge(&other, edge, &input, &told);
     give(at, edge);
     if (!are_details(told, *at.details) || input != *at.input || !are_same(&other, at.strict, strict_fields, STRICT_FIELDS))
-        is_wrong("a copy of a receiver, behind edges", strict->taken);
+        is_wrong("a copy of a receiver, after edges", strict->taken);
     if (told.status == PRINT1525_DONE) {
         give(at, edge);
-        if (!is_refused_with(at, PRINT1525_FAULT_BAD_ORDER, other.taken)) is_wrong("an edge that comes again, behind edges", strict->taken);
+        if (!is_refused_with(at, PRINT1525_FAULT_BAD_ORDER, other.taken)) is_wrong("an edge that comes again, after edges", strict->taken);
     }
-    if (memcmp(&before, strict, sizeof before) != 0) is_wrong("a receiver changes with its copy, behind edges", strict->taken);
+    if (memcmp(&before, strict, sizeof before) != 0) is_wrong("a receiver changes with its copy, after edges", strict->taken);
 }
 
-/* A fault is told again with each edge and each end, and the receiver stays as it is. */
+/* A fault is reported again with each edge and each end, and the receiver stays as it is. */
 static void try_fault_again(placed_strict at, const print1525_edge *edges, size_t count) {
     const print1525_strict before = *at.strict;
     const print1525_details fault = *at.details;
     size_t index;
     for (index = 0; index < count && index < 20; index++) {
         give(at, &edges[index]);
-        if (!are_details(fault, *at.details) || *at.input != PRINT1525_NO_INPUT) is_wrong("a fault is not told again at edge", index);
+        if (!are_details(fault, *at.details) || *at.input != PRINT1525_NO_INPUT) is_wrong("a fault is not reported again at edge", index);
         end(at);
-        if (!are_details(fault, *at.details)) is_wrong("a fault is not told at an end behind edge", index);
+        if (!are_details(fault, *at.details)) is_wrong("a fault is not reported at an end after edge", index);
     }
     if (!are_same(&before, at.strict, strict_fields, STRICT_FIELDS)) is_wrong("a receiver that has refused an edge changes", before.taken);
 }
 
-/* A receiver that is given the edges one by one receives the same inputs, or tells the same first fault; and takes no memory. */
+/* A receiver that is given the edges one by one receives the same inputs, or reports the same first fault; and takes no memory. */
 static void try_strict(uint8_t device, const print1525_edge *edges, size_t count, print1525_details whole, const uint16_t *inputs) {
     static placed_strict at, others;
     size_t received = 0, index;
@@ -477,8 +477,8 @@ static void try_strict(uint8_t device, const print1525_edge *edges, size_t count
         try_other_numbers(others, at.strict, &edges[0]);
     }
     if (at.details->status != whole.status || at.details->fault != whole.fault || at.details->place != whole.place)
-        is_wrong("a receiver tells another answer, fault", (size_t)at.details->fault);
-    if (whole.status == PRINT1525_DONE && received != whole.length) is_wrong("a receiver gives so many inputs", received);
+        is_wrong("a receiver gives another answer, fault", (size_t)at.details->fault);
+    if (whole.status == PRINT1525_DONE && received != whole.length) is_wrong("a receiver gives another number of inputs", received);
 }
 
 /* The devices of the bus have receivers; each other is refused, with the numbers as they were. */
@@ -503,14 +503,14 @@ static void try_devices(placed_strict at) {
         give(at, &first);
         if (!is_answer(*at.details, PRINT1525_DONE, 0, 0, 0)) is_wrong("the first edge", device);
         end(at);
-        if (!is_answer(*at.details, PRINT1525_DONE, 0, 0, 0)) is_wrong("an end behind the first edge", device);
+        if (!is_answer(*at.details, PRINT1525_DONE, 0, 0, 0)) is_wrong("an end after the first edge", device);
         give(at, &early);
         if (!is_refused_with(at, PRINT1525_FAULT_TOO_EARLY, 1)) is_wrong("an edge that comes too early", device);
         try_fault_again(at, &first, 1);
     }
 }
 
-/* Numbers that no edges make, behind the first edge and before it. */
+/* Numbers that no edges make, after the first edge and before it. */
 static void try_receivers(void) {
     static const print1525_edge first = {0, 1, 1, 1};
     const placed_strict at = place_strict();
@@ -550,7 +550,7 @@ static void try_any_bus(uint8_t device, const print1525_edge *edges, size_t coun
         if (got >= whole.length || inputs[got] != input) is_wrong("a receiver on any bus gets another input at edge", index);
         got++;
     }
-    if (got != whole.length) is_wrong("a receiver on any bus gets so many inputs", got);
+    if (got != whole.length) is_wrong("a receiver on any bus gets another number of inputs", got);
 }
 
 /* What a device receives: the whole list at once with buffers of all sizes, and edge by edge. */
@@ -576,7 +576,7 @@ static print1525_details receive(uint8_t device, guarded text) {
             is_wrong("another answer to a buffer of inputs of size", capacity);
     }
     for (index = answer.status == PRINT1525_DONE ? answer.length : 0; index <= count; index++)
-        if (inputs[index] != (UNTOUCHED << 8 | UNTOUCHED)) is_wrong("an input behind those received is written", index);
+        if (inputs[index] != (UNTOUCHED << 8 | UNTOUCHED)) is_wrong("an input after those received is written", index);
     if (answer.status != PRINT1525_DONE && answer.status != PRINT1525_REFUSED) is_wrong("an answer of print1525_strict_edges", (size_t)answer.status);
     try_strict(device, edges, count, answer, inputs);
     try_any_bus(device, edges, count, answer, inputs);
@@ -585,14 +585,14 @@ static print1525_details receive(uint8_t device, guarded text) {
     return answer;
 }
 
-/* The line that the program tells on standard error; after a stop the last line of its page text. */
+/* The line that the program writes on standard error; after a stop the last line of its page text. */
 static void tell(print1525_details answer) {
     char message[99];
     if (answer.status == PRINT1525_STOPPED) fprintf(stderr, "stop %d at %lu\n", answer.fault - 100, (unsigned long)answer.place);
     else if (print1525_message(&answer, message, sizeof message)) fprintf(stderr, "print1525: %s\n", message);
 }
 
-/* Each number that stands for no setting is refused, the first of several, before the characters and the input are looked at; and
+/* Each number that is no setting is refused, the first of several, before the characters and the input are looked at; and
  * bad characters before the input is. */
 static void try_settings(void) {
     static const struct {
@@ -673,7 +673,7 @@ static void try_settings(void) {
             j.settings.set = rows[row].set;
             j.settings.printer = rows[row].printer;
             j.settings.sheet = rows[row].sheet;
-            /* (A form is refused behind the characters.) */
+            /* (A form is refused after the characters.) */
             if (times == 0 && rows[row].fault != PRINT1525_FAULT_NO_SUCH_FORM) j.settings.characters = bad.bytes, j.settings.characters_length = bad.size;
             if (!is_answer(call(&j, buffer.bytes, buffer.size), PRINT1525_REFUSED, rows[row].fault, 0, 0) || !is_untouched(buffer.bytes, buffer.size))
                 is_wrong("a setting that is none, row", row);
@@ -790,7 +790,7 @@ static void try_pointers(void) {
                 is_wrong("a NULL pointer, call", 10 * name + at);
         }
         if (!is_untouched(buffer.bytes, buffer.size)) is_wrong("a buffer beside a NULL pointer, call", name);
-        /* A buffer of ten bytes from byte 20 on overlaps what reaches into it from before, from behind, or whole. */
+        /* A buffer of ten bytes from byte 20 on overlaps what reaches into it at its beginning, at its end, or whole. */
         for (at = 0; at < 38; at++) {
             static const size_t begins[] = {0, 12, 18, 20, 24, 28, 30, 40}, sizes[] = {20, 8, 4, 10, 2, 8, 9, 2};
             const size_t row = at % 8, begin = begins[row], size = sizes[row], place = at / 8;
@@ -838,7 +838,7 @@ static void try_words(void) {
         for (capacity = 0; capacity < sizeof text; capacity++) {
             memset(text, UNTOUCHED, sizeof text);
             if (print1525_message(&rows[row], text, capacity) != length) is_wrong("a message's length, capacity", capacity);
-            if (!is_untouched((const uint8_t *)(const void *)text + capacity, sizeof text - capacity)) is_wrong("behind a message", capacity);
+            if (!is_untouched((const uint8_t *)(const void *)text + capacity, sizeof text - capacity)) is_wrong("after a message", capacity);
             if (capacity > 0 && (strlen(text) != (length < capacity ? length : capacity - 1) || strncmp(all, text, capacity - 1) != 0))
                 is_wrong("a message in little room", capacity);
         }
@@ -871,12 +871,12 @@ static const field byte_fields[] = {
 
 static const print1525_byte no_byte = {0, 0, 0, 0, 0, 0, 0, 0, 0, 0, 0, 0, 0, 0};
 
-/* A reading that a decoder can tell of a recording. */
+/* A reading that a decoder can give of a recording. */
 static int is_lawful(const print1525_reading *reading) {
     return (reading->byte.bits == 8) == (reading->kind <= PRINT1525_BYTE_LAST) && reading->byte.bits <= 8 && reading->byte.byte < 1 << reading->byte.bits;
 }
 
-/* A reading that a decoder can tell, whatever its numbers are. */
+/* A reading that a decoder can give, whatever its numbers are. */
 static int may_be_read(const print1525_reading *reading, print1525_details answer) {
     if (!is_answer(answer, PRINT1525_DONE, 0, 0, reading->kind != PRINT1525_NO_READING)) return 0;
     if (reading->kind == PRINT1525_NO_READING) return !reading->end && are_same(&reading->byte, &no_byte, byte_fields, BYTE_FIELDS);
@@ -939,12 +939,12 @@ static void try_decoder_copy(placed_decoder at, const print1525_decoder *decoder
     print1525_decoder_edge(at.decoder, edge, at.reading, at.answer);
     if (!are_details(answer, *at.answer) || reading.kind != at.reading->kind || reading.end != at.reading->end ||
         !are_same(&reading.byte, &at.reading->byte, byte_fields, BYTE_FIELDS) || !are_same(&other, at.decoder, decoder_fields, DECODER_FIELDS))
-        is_wrong("a copy of a decoder, behind edges", count);
-    if (memcmp(&before, decoder, sizeof before) != 0) is_wrong("a decoder changes with its copy, behind edges", count);
+        is_wrong("a copy of a decoder, after edges", count);
+    if (memcmp(&before, decoder, sizeof before) != 0) is_wrong("a decoder changes with its copy, after edges", count);
 }
 
-/* Memory of zeros is a decoder just begun. A decoder refuses an edge that stands before the one taken last, with nothing changed; a byte that the
- * recording's end cuts is told by the end alone, as often as it is asked for. */
+/* Memory of zeros is a decoder just begun. A decoder refuses an edge that is before the one taken last, with nothing changed; a byte that the
+ * recording's end cuts is given by the end alone, as often as it is asked for. */
 static void try_decoder(void) {
     static const char levels[] = "100110111101111101";
     static const print1525_edge later = {9, 1, 0, 1}, earlier = {8, 1, 1, 1};
@@ -1052,7 +1052,7 @@ static uint8_t named(const uint8_t *names, size_t count, int index) {
     return index >= 0 && (size_t)index < count ? names[index] : (uint8_t)index;
 }
 
-/* The settings of a call, each by its name in the header: what another number stands for is told by the text. */
+/* The settings of a call, each by its name in the header: what another number means is said by the text. */
 static void set(job *j, int words, char **word) {
     static const print1525_settings defaults = PRINT1525_SETTINGS_INIT;
     static const uint8_t presents[] = {PRINT1525_PRESENT_NONE, PRINT1525_PRESENT_4, PRINT1525_PRESENT_5, PRINT1525_PRESENT_BOTH};
@@ -1159,7 +1159,7 @@ static const char *kind_of(uint8_t kind) {
     }
 }
 
-/* A reading with all that is told of it, as tests/readings.py --fields has it. */
+/* A reading with all that is known of it, as tests/readings.py --fields has it. */
 static void tell_reading(const print1525_reading *reading) {
     const print1525_byte *const byte = &reading->byte;
     const uint64_t moments[] = {reading->end, byte->look, byte->ready, byte->answered, byte->answer_ended, byte->pull,
@@ -1170,7 +1170,7 @@ static void tell_reading(const print1525_reading *reading) {
     printf(" %u %u %u %u\n", byte->command, byte->eoi, byte->bits, byte->byte);
 }
 
-/* All readings of a recording; the numbers of the decoder and of what it tells stand where memory ends. */
+/* All readings of a recording; the numbers of the decoder and of its answer are where memory ends. */
 static int readings(guarded text) {
     const guarded place = guard((text.size / 6 + 1) * sizeof(print1525_edge));
     const placed_decoder at = place_decoder(), others = place_decoder();

@@ -1,7 +1,7 @@
 /* What a caller of include/print1525.h carries, as the header says: how much stack the calls take, and that they work on a thread with
  * no more; in a child of fork; in a signal handler (the calls for edges, words and watched printers) while the program is within a call; over a malloc
  * that aligns no better than C demands and gives memory full of rubbish; and into buffers full of rubbish. Status 0, else a line for
- * each thing that is WRONG and 1. With a word it tells the stack that each call takes. Linked with
+ * each thing that is WRONG and 1. With a word it writes the stack that each call takes. Linked with
  * -Wl,--wrap=malloc,--wrap=realloc,--wrap=free. */
 #define _GNU_SOURCE
 #include "print1525.h"
@@ -32,7 +32,7 @@ typedef struct {
     size_t size;
 } block;
 
-/* Memory at 16 bytes behind a multiple of 32, full of rubbish. */
+/* Memory at 16 bytes after a multiple of 32, full of rubbish. */
 void *__wrap_malloc(size_t size) {
     char *const whole = (char *)__real_malloc(size + 80);
     char *place;

@@ -1,5 +1,5 @@
 # A trace text as a table of samples, released = 1. usage: awk [-v unit=s|ms|us|ns|ps] [-v by=SEPARATOR] -f csv.awk TRACE
-# With -v rate=MHZ there are no times, but a row a sample at this whole number of megahertz, up to 100 microseconds behind
+# With -v rate=MHZ there are no times, but a row a sample at this whole number of megahertz, up to 100 microseconds after
 # the last edge.
 BEGIN {
     if (unit == "") unit = "s"

@@ -1,4 +1,4 @@
-# Whether sigrok reads the bytes that `decode` tells, frame for frame: each is the same byte, a command or not, with end-or-identify or
+# Whether sigrok reads the bytes that `decode` writes, frame for frame: each is the same byte, a command or not, with end-or-identify or
 # without, and was ready and ended between its look and its end. The first difference is printed, and the exit status is then 1.
 # usage: awk -f frames.awk DECODED READ, where READ has of each frame when it was ready, CLOCK's last pull, and the byte in words
 function number(hex) { return 16 * (index("0123456789ABCDEF", substr(hex, 1, 1)) - 1) + index("0123456789ABCDEF", substr(hex, 2, 1)) - 1 }
@@ -18,7 +18,7 @@ NR == FNR && $3 ~ /^[$][0-9A-F][0-9A-F]$/ {
     frame($1, $2, $4 ~ /^(LISTEN|UNLISTEN|TALK|UNTALK|SECOND|CLOSE|OPEN|command)/, number(substr($3, 2)), / end-or-identify$/ ? " eoi" : "")
     next
 }
-# Another whole byte: its line does not tell end-or-identify.
+# Another whole byte: its line does not show end-or-identify.
 NR == FNR && /^(command|byte) [0-9]+ at / { frame($4, / given up at / ? $(NF - 1) : "", $1 == "command", $2, "?") }
 NR == FNR { next }
 {

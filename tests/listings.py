@@ -11,6 +11,7 @@ is 2, a line is on standard error, and nothing on standard output. It prints wha
 
 The forms are made here from what the Commodore 64's manuals say of tokens and lines, and from petcat's names."""
 
+import os
 import random
 import re
 import subprocess
@@ -224,6 +225,8 @@ def main():
         sys.stdout.buffer.write({"text": lambda: as_text(lines), "prg": lambda: as_program(lines, rng),
             "petcat": lambda: as_petcat(lines, rng)}[sys.argv[3]]())
         return
+    if len(sys.argv) < 2 or not os.access(sys.argv[1], os.X_OK):
+        sys.exit(__doc__)
     program, count = sys.argv[1], int(sys.argv[2]) if len(sys.argv) > 2 else 200
     rng = random.Random(1525)
     for i in range(count):

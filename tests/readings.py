@@ -99,8 +99,8 @@ def stretches_of(edges):
 
 def first_late(stretch, following):
     """When an edge first comes too late for a bit since CLOCK was released."""
-    behind = stretch.edges[1:] + [it.edges[0] for it in following[:1]]
-    return next((edge.time for edge in behind if edge.time - stretch.time > LONGEST_BIT), None)
+    after = stretch.edges[1:] + [it.edges[0] for it in following[:1]]
+    return next((edge.time for edge in after if edge.time - stretch.time > LONGEST_BIT), None)
 
 
 class Reading:
@@ -138,17 +138,17 @@ class Reading:
 
 def reading_at(stretches, rules):
     """What begins with the first of some stretches, and how many stretches its bits are."""
-    opening, behind = stretches[0], stretches[1:]
+    opening, after = stretches[0], stretches[1:]
     turns = opening.turns()
     if opening.called and "call" not in rules or not opening.clock or len(turns) < 2:
         return None
-    if not behind or any(stretch.called for stretch in behind[:2]):
+    if not after or any(stretch.called for stretch in after[:2]):
         return None
     reading = Reading(turns, rules)
-    reading.pull = behind[0].time
+    reading.pull = after[0].time
     at = 0
-    while len(reading.bits) < 8 and at + 2 < len(behind):
-        low, high, following = behind[at : at + 3]
+    while len(reading.bits) < 8 and at + 2 < len(after):
+        low, high, following = after[at : at + 3]
         is_late = "silence" not in rules and first_late(high, [following]) is not None
         if high.called or following.called or is_late:
             break
@@ -156,7 +156,7 @@ def reading_at(stretches, rules):
         reading.lows.append(high.time - low.time)
         reading.highs.append(following.time - high.time)
         at += 2
-    last, rest = behind[at], behind[at + 1 :]
+    last, rest = after[at], after[at + 1 :]
     reading.last_pull = last.time
     if reading.is_whole():
         end_frame(reading, last, rest)

@@ -1,7 +1,7 @@
 #!/usr/bin/env python3
 """tests/recording.py SEED [--guide]: a made recording of a bus as a C64's KERNAL and its devices drive it, as a trace text.
 
-It is no trace of the profile: ATN is pulled 20 microseconds before CLOCK, DATA is set behind CLOCK's pull, a bit takes 60 to 90
+It is no trace of the profile: ATN is pulled 20 microseconds before CLOCK, DATA is set after CLOCK's pull, a bit takes 60 to 90
 microseconds, and listeners hold DATA for up to 20 ms. Before UNLISTEN the KERNAL lets CLOCK go, as if it sent one more byte. Some
 recordings begin or end in the middle of a transfer; in some a byte is given up, is not acknowledged, or nobody answers a call; and
 some talkers set DATA before CLOCK's first pull. The same seed makes the same recording.
@@ -109,7 +109,7 @@ class Session:
         self.now = atn + 20
 
     def attention(self, *commands):
-        """Commands under ATN, and its release: listeners hold DATA behind it."""
+        """Commands under ATN, and its release: listeners hold DATA after it."""
         self.call(commands == (UNLISTEN,), commands == (UNTALK,))
         for command in commands:
             self.now += self.chance.within(1000, 1100)
@@ -160,7 +160,7 @@ class Session:
         self.now = max(ends)
 
     def bit(self, talker, level):
-        """CLOCK is pulled, DATA is set behind it, and CLOCK is released: 60 to 90 microseconds."""
+        """CLOCK is pulled, DATA is set after it, and CLOCK is released: 60 to 90 microseconds."""
         low, high = self.chance.one_of(((42, 18), (50, 20), (62, 22), (66, 24), (30, 60)))
         self.wires.pull(self.now, CLOCK, talker)
         self.wires.release(self.now, DATA, talker)
@@ -171,7 +171,7 @@ class Session:
         self.now += max(high, self.least_high)
 
     def give_up(self, talker, listeners, bits, value):
-        """A byte that is given up behind some bits, while CLOCK is pulled or released. True: the same byte comes anew."""
+        """A byte that is given up after some bits, while CLOCK is pulled or released. True: the same byte comes anew."""
         for n in range(bits):
             self.bit(talker, value >> n & 1)
         way = self.chance.number(4)

@@ -9,6 +9,7 @@ again. Then 20 recordings that keep the Programmer's Reference Guide's bounds ar
 
 import contextlib
 import io
+import os
 import random
 import re
 import subprocess
@@ -59,7 +60,7 @@ def dump_of(edges, choice):
 
 
 def time_text(time, decimals, choice):
-    """A time of whole microseconds in a unit with so many decimals of a second."""
+    """A time of whole microseconds in a unit with this many decimals of a second."""
     if decimals >= 6:
         return str(time * 10 ** (decimals - 6)) if choice.randrange(8) else f"{time}E+{decimals - 6}"
     if choice.randrange(8) == 0:
@@ -261,4 +262,6 @@ def main():
 
 
 if __name__ == "__main__":
+    if len(sys.argv) < 3 or not os.access(sys.argv[1], os.X_OK):
+        sys.exit(__doc__)
     sys.exit(main())

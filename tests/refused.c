@@ -184,9 +184,9 @@ static void try_call(const job *j, int tells) {
         failed += refuse(j, number, number, &truth);
         refuse(j, number, MOST, &truth);
     }
-    if (all > 0 && failed == 0) is_wrong("no refused allocation is told", all);
+    if (all > 0 && failed == 0) is_wrong("no refused allocation is reported", all);
     if (all > 0 && refuse(j, 1, MOST, &truth) == 0) is_wrong("an answer without any memory", all);
-    if (tells) printf("%s: %ld allocations, %ld told, status %d, %lu bytes\n", j->name, all, failed, truth.status, (unsigned long)truth.length);
+    if (tells) printf("%s: %ld allocations, %ld reported, status %d, %lu bytes\n", j->name, all, failed, truth.status, (unsigned long)truth.length);
 }
 
 static print1525_settings defaults(void) {

@@ -1,4 +1,4 @@
-# A lawful trace of so many data bytes: a printer is made to listen, and then takes the byte 72 over and over, at typical delays.
+# A lawful trace of COUNT data bytes: a printer is made to listen, and then takes the byte 72 over and over, at typical delays.
 BEGIN {
     levels = split("0 111 100 001 200 000 1100 010 1150 011 1190 000 1260 010 1280 000 1350 010 1370 001 1440 011 1460 000 " \
         "1530 010 1550 000 1620 010 1640 001 1710 011 1730 000 1800 010 1820 000 1890 010 1910 001 1930 000 2030 100", listen, " ")

@@ -1,4 +1,4 @@
-# A trace text as a Value Change Dump in microseconds, released = 1, with one time stamp more behind the last edge.
+# A trace text as a Value Change Dump in microseconds, released = 1, with one time stamp more after the last edge.
 BEGIN {
     print "$timescale 1 us $end"
     print "$scope module bus $end"

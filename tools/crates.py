@@ -4,11 +4,23 @@ import hashlib
 import os
 import re
 import subprocess
+import sys
 
 ROOT = os.path.dirname(os.path.dirname(os.path.abspath(__file__)))
 PARTS = ("src", "specs", "proofs")
 # The sum of the sources that the last whole gate proved (tools/library).
 GATE_SUM = f"{ROOT}/out/gate.sum"
+
+
+def run(main, *words):
+    """Runs a tool and ends with its status. Where the reader of its output goes away, as `head` does, it ends quietly."""
+    try:
+        status = main(*words)
+        sys.stdout.flush()
+    except BrokenPipeError:
+        os.dup2(os.open(os.devnull, os.O_WRONLY), sys.stdout.fileno())
+        status = 1
+    sys.exit(status)
 
 
 def text_of(path):
