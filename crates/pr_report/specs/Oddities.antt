@@ -62,8 +62,8 @@ told_if b line = if b then line else []
 abbrev pub is_odd : Oddities → Bool
 is_odd o = o.no_byte || o.no_attention || o.atn_rests || o.clock_rests || o.data_rests
 
--- what to try of signals: the levels the other way round, or other signals; acknowledged bytes are there to be looked at, since
--- a good recording may begin and end within a transfer
+-- what to try of signals: the levels the other way round, or other signals; acknowledged bytes are there to be looked at,
+-- since a good recording may begin and end within a transfer
 abbrev pub other_signals : (no_byte is_inverted : Bool) → List ℕ
 other_signals no_byte is_inverted =
     told_if (not no_byte) (codes "if the bytes make no sense, ")
@@ -72,7 +72,8 @@ other_signals no_byte is_inverted =
 
 -- a trace text has neither probes nor other signals
 abbrev pub to_try : Source → (no_byte is_inverted : Bool) → List ℕ
-to_try Text no_byte is_inverted = codes "in a trace text the levels are those of ATN, CLOCK and DATA, and 1 is released\n"
+to_try Text no_byte is_inverted =
+    codes "in a trace text the levels are those of ATN, CLOCK and DATA, and 1 is released\n"
 to_try Vcd no_byte is_inverted = other_signals no_byte is_inverted
 to_try Csv no_byte is_inverted = other_signals no_byte is_inverted
 

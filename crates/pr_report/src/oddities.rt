@@ -172,8 +172,8 @@ fn is_odd(odd: Oddities) -> bool
     odd.no_byte || odd.no_attention || odd.atn_rests || odd.clock_rests || odd.data_rests
 }
 
-/// Adds what to try of a recording of signals, in which no byte is acknowledged or one is, and whose levels are inverted or
-/// not.
+/// Adds what to try of a recording of signals, in which no byte is acknowledged or one is, and whose levels are
+/// inverted or not.
 fn push_other_signals(text: &mut Vec<u8>, no_byte: bool, is_inverted: bool) -> Result<(), NoMemory>
     ensures { OnOk result (text.new.items ≡ text.old.items ++ other_signals no_byte is_inverted) }
 {
@@ -218,8 +218,8 @@ fn push_advice(text: &mut Vec<u8>, input: TraceInput<'_>, odd: Oddities) -> Resu
     Ok(())
 }
 
-/// Adds a line for each thing that is odd about a recording, and one with what to try, if there is any: `--invert` or to
-/// leave it out, whichever the recording is not read with, and no option where it is a trace text.
+/// Adds a line for each thing that is odd about a recording, and one with what to try, if there is any: `--invert`, or
+/// to leave it out where it is read with it, and no option where it is a trace text.
 ///
 /// # Errors
 ///
