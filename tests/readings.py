@@ -322,7 +322,7 @@ def tell(readings, bounds, has_intervals):
         print(guide_verdict(readings))
 
 
-# What to try of a recording in which no byte is acknowledged, by its form.
+# What to try of a recording, by its form.
 ADVICE = {
     "text": "in a trace text the levels are those of ATN, CLOCK and DATA, and 1 is released",
     "signals": "try --invert for probes behind inverters, or other signals with --names",
@@ -339,11 +339,11 @@ def tell_oddities(edges, readings, form="text"):
     if all(edge.atn for edge in edges):
         odd.append("attention never comes: ATN is not pulled")
     for name, line in (("ATN", "atn"), ("CLOCK", "clock"), ("DATA", "data")):
-        is_cut = has_byte and name != "ATN"
-        if edges and not is_cut and not getattr(edges[0], line) and not getattr(edges[-1], line):
+        if edges and not getattr(edges[0], line) and not getattr(edges[-1], line):
             odd.append(name + " rests at 0")
     if odd:
-        print(*odd, "try other signals with --names" if has_byte and form != "text" else ADVICE[form], sep="\n")
+        front = "if the bytes make no sense, " if has_byte and form != "text" else ""
+        print(*odd, front + ADVICE[form], sep="\n")
 
 
 def tell_json(readings):

@@ -122,8 +122,8 @@ NarratesMore more old new =
     (s : Source) (w : Wording) (edges : List Edge) (written : List ℕ) → HasNarrated s w edges written old
     → HasNarrated s w (edges ++ more) written new
 
--- the end of edges whose input has this fault, if it has one: why they are refused, the lines that were not given up before, and what
--- is odd where nothing stops them
+-- the end of edges whose input has this fault, if it has one: why they are refused, the lines that were not given up
+-- before, and what is odd where nothing stops them
 pub record EndsEdges (input : TraceInput) (w : Wording) (checked : Bool) (edges : List Edge) (written : List ℕ)
     (own : Option CliFault) (t : Ended) : Type 0 where
   pub refused : t.refused ≡ refused_for checked input.source edges own
@@ -144,7 +144,8 @@ GivesUp old new =
 abbrev pub EndsNarrated : TraceInput → (checked : Bool) → InputReader → DecodeReport → Ended → Type 0
 EndsNarrated input c r n e =
     (w : Wording) (written : List ℕ)
-    → EndsReading r (λ edges. HasNarrated input.source w edges written n) (λ edges own. EndsEdges input w c edges written own e)
+    → EndsReading r (λ edges. HasNarrated input.source w edges written n)
+    (λ edges own. EndsEdges input w c edges written own e)
 
 -- What is answered.
 

@@ -158,8 +158,8 @@ impl ReadingLog {
         seen.oddities(self.has_byte)
     }
 
-    /// Ends the readings of an input: gives the lines that are not written yet, and what follows them at the end, by the
-    /// fault of the edges that were seen, and by what is odd about them.
+    /// Ends the readings of an input: gives the lines that are not written yet, and what follows them at the end, by
+    /// the fault of the edges that were seen, and by what is odd about them.
     pub fn finish(
         self,
         trace: TraceInput<'_>,

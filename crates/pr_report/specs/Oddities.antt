@@ -1,6 +1,6 @@
 -- Trusted: the last lines of the report on a recording in which no byte is acknowledged, attention never comes or a line
 -- rests at 0: what is odd, and what to try.
-use Rattle.std.specs.Prelude.{ℕ, not, ◌&&◌, ◌||◌, Bool, true, false, List, [], ◌∷◌, ◌++◌, Option, Some, None, codes, if◌then◌else◌}
+use Rattle.std.specs.Prelude.{ℕ, not, ◌||◌, Bool, true, false, List, [], ◌∷◌, ◌++◌, Option, Some, None, codes, if◌then◌else◌}
 use Rattle.std.specs.List.{list_any}
 use Rattle.pr_capture.specs.declared.format.Source.{Source}
 use Rattle.pr_capture.specs.declared.format.Source.TheVariants.{Csv, Text, Vcd}
@@ -36,8 +36,7 @@ abbrev pub last_levels : List Edge → Option Levels
 last_levels [] = None
 last_levels (e ∷ es) = Some (levels_after e.levels es)
 
--- what is odd: a line rests at 0 where the recording begins and ends with it at 0. Acknowledged bytes came over CLOCK and
--- DATA: these two rest at 0 then where the recording begins and ends within a transfer, which is not odd
+-- what is odd: a line rests at 0 where the recording begins and ends with it at 0
 abbrev pub odd_levels : (no_byte no_attention : Bool) → (first last : Option Levels) → Oddities
 odd_levels no_byte no_attention None last =
     record { no_byte = no_byte; no_attention = no_attention; atn_rests = false; clock_rests = false; data_rests = false }
@@ -47,8 +46,8 @@ odd_levels no_byte no_attention (Some a) (Some b) = record {
   no_byte = no_byte;
   no_attention = no_attention;
   atn_rests = not (a.atn || b.atn);
-  clock_rests = no_byte && not (a.clock || b.clock);
-  data_rests = no_byte && not (a.line || b.line);
+  clock_rests = not (a.clock || b.clock);
+  data_rests = not (a.line || b.line);
 }
 
 -- what is odd about edges that say these readings
@@ -63,14 +62,18 @@ told_if b line = if b then line else []
 abbrev pub is_odd : Oddities → Bool
 is_odd o = o.no_byte || o.no_attention || o.atn_rests || o.clock_rests || o.data_rests
 
--- what to try: of signals the other levels, unless a byte was acknowledged, or other signals; a trace text has neither
+-- what to try of signals: the levels the other way round, or other signals; acknowledged bytes are there to be looked at,
+-- since a good recording may begin and end within a transfer
 abbrev pub other_signals : (no_byte is_inverted : Bool) → List ℕ
-other_signals false is_inverted = codes "try other signals with --names\n"
-other_signals true false = codes "try --invert for probes behind inverters, or other signals with --names\n"
-other_signals true true = codes "try without --invert, or other signals with --names\n"
+other_signals no_byte is_inverted =
+    told_if (not no_byte) (codes "if the bytes make no sense, ")
+    ++ told_if is_inverted (codes "try without --invert, or other signals with --names\n")
+    ++ told_if (not is_inverted) (codes "try --invert for probes behind inverters, or other signals with --names\n")
 
+-- a trace text has neither probes nor other signals
 abbrev pub to_try : Source → (no_byte is_inverted : Bool) → List ℕ
-to_try Text no_byte is_inverted = codes "in a trace text the levels are those of ATN, CLOCK and DATA, and 1 is released\n"
+to_try Text no_byte is_inverted =
+    codes "in a trace text the levels are those of ATN, CLOCK and DATA, and 1 is released\n"
 to_try Vcd no_byte is_inverted = other_signals no_byte is_inverted
 to_try Csv no_byte is_inverted = other_signals no_byte is_inverted
 

@@ -21,9 +21,9 @@ pub struct Oddities {
     pub no_attention: bool,
     /// The recording begins and ends with ATN at 0.
     pub atn_rests: bool,
-    /// No byte is acknowledged, and the recording begins and ends with CLOCK at 0.
+    /// The recording begins and ends with CLOCK at 0.
     pub clock_rests: bool,
-    /// No byte is acknowledged, and the recording begins and ends with DATA at 0.
+    /// The recording begins and ends with DATA at 0.
     pub data_rests: bool,
 }
 
@@ -150,8 +150,8 @@ fn odd_levels(
         no_byte,
         no_attention,
         atn_rests: !(first.atn || last.atn),
-        clock_rests: no_byte && !(first.clock || last.clock),
-        data_rests: no_byte && !(first.line || last.line),
+        clock_rests: !(first.clock || last.clock),
+        data_rests: !(first.line || last.line),
     }
 }
 
@@ -172,28 +172,39 @@ fn is_odd(odd: Oddities) -> bool
     odd.no_byte || odd.no_attention || odd.atn_rests || odd.clock_rests || odd.data_rests
 }
 
-/// What to try of a recording of signals, in which no byte was acknowledged or one was, and whose levels are inverted or not.
-fn other_signals(no_byte: bool, is_inverted: bool) -> &'static [u8]
-    ensures { result.now ≡ other_signals no_byte is_inverted }
+/// Adds what to try of a recording of signals, in which no byte is acknowledged or one is, and whose levels are
+/// inverted or not.
+fn push_other_signals(text: &mut Vec<u8>, no_byte: bool, is_inverted: bool) -> Result<(), NoMemory>
+    ensures { OnOk result (text.new.items ≡ text.old.items ++ other_signals no_byte is_inverted) }
 {
-    match (no_byte, is_inverted) {
-        (false, _) => b"try other signals with --names\n",
-        (true, false) => {
-            b"try --invert for probes behind inverters, or other signals with --names\n"
-        }
-        (true, true) => b"try without --invert, or other signals with --names\n",
-    }
+    push_if(text, !no_byte, b"if the bytes make no sense, ")?;
+    push_if(
+        text,
+        is_inverted,
+        b"try without --invert, or other signals with --names\n",
+    )?;
+    push_if(
+        text,
+        !is_inverted,
+        b"try --invert for probes behind inverters, or other signals with --names\n",
+    )?;
+    Ok(())
 }
 
-/// What to try of a recording in this format.
-fn to_try(source: Source, no_byte: bool, is_inverted: bool) -> &'static [u8]
-    ensures { result.now ≡ to_try source no_byte is_inverted }
+/// Adds what to try of a recording in this format, in which no byte is acknowledged or one is.
+fn push_to_try(
+    text: &mut Vec<u8>,
+    source: Source,
+    no_byte: bool,
+    is_inverted: bool,
+) -> Result<(), NoMemory>
+    ensures { OnOk result (text.new.items ≡ text.old.items ++ to_try source no_byte is_inverted) }
 {
     match source {
-        Source::Text => {
-            b"in a trace text the levels are those of ATN, CLOCK and DATA, and 1 is released\n"
-        }
-        Source::Vcd | Source::Csv => other_signals(no_byte, is_inverted),
+        Source::Text => text.extend_from_slice(
+            b"in a trace text the levels are those of ATN, CLOCK and DATA, and 1 is released\n",
+        ),
+        Source::Vcd | Source::Csv => push_other_signals(text, no_byte, is_inverted),
     }
 }
 
@@ -201,12 +212,14 @@ fn to_try(source: Source, no_byte: bool, is_inverted: bool) -> &'static [u8]
 fn push_advice(text: &mut Vec<u8>, input: TraceInput<'_>, odd: Oddities) -> Result<(), NoMemory>
     ensures { OnOk result (text.new.items ≡ text.old.items ++ advice input.entry odd) }
 {
-    let line = to_try(input.source, odd.no_byte, input.signals.is_inverted);
-    push_if(text, is_odd(odd), line)
+    if is_odd(odd) {
+        push_to_try(text, input.source, odd.no_byte, input.signals.is_inverted)?;
+    }
+    Ok(())
 }
 
-/// Adds a line for each thing that is odd about a recording, and one with what to try, if there is any: `--invert` only
-/// where no byte is acknowledged, and no option of signals where the recording is a trace text.
+/// Adds a line for each thing that is odd about a recording, and one with what to try, if there is any: `--invert`, or
+/// to leave it out where it is read with it, and no option where it is a trace text.
 ///
 /// # Errors
 ///

@@ -60,8 +60,8 @@ fn with_found(before: Option<Outside>, reading: &Reading) -> Option<Outside>
     }
 }
 
-/// The first interval that lies outside the guide's bounds, with one reading more. The verdict by the profile needs none, and
-/// none is sought for it.
+/// The first interval that lies outside the guide's bounds, with one reading more. The verdict by the profile needs
+/// none, and none is sought for it.
 pub(crate) fn with_reading(
     before: Option<Outside>,
     bounds: Bounds,

@@ -86,14 +86,14 @@ const ODD: [(Source, bool, &[Edge], bool, &str); 8] = [
         false,
         &[RELEASED],
         true,
-        "attention never comes: ATN is not pulled\ntry other signals with --names\n",
+        "attention never comes: ATN is not pulled\nif the bytes make no sense, try --invert for probes behind inverters, or other signals with --names\n",
     ),
     (
         Source::Csv,
         false,
         &[CALLED, RELEASED, CALLED],
         true,
-        "ATN rests at 0\ntry other signals with --names\n",
+        "ATN rests at 0\nCLOCK rests at 0\nif the bytes make no sense, try --invert for probes behind inverters, or other signals with --names\n",
     ),
     (
         Source::Csv,

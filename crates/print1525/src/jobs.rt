@@ -93,8 +93,8 @@ pub fn restarted_job<'a>(job: Job<'a>, start: u64) -> Job<'a>
 /// [`pr_cli::bus_as_over`]; [`pr_cli::check_over`] for the frames of a trace text,
 /// [`pr_recording::check_json_over`] for the JSON of any trace, and else
 /// [`pr_cli::check_as_over`]; [`pr_recording::decode_over`] for a list,
-/// [`pr_recording::decode_json_over`], [`pr_recording::bytes_over`], and [`pr_recording::reprint_over`] for pages; [`pr_cli::raw_over`]. They leave
-/// what they leave there. A read failed exactly if the input has failed, and a write exactly if the output has.
+/// [`pr_recording::decode_json_over`] for JSON, [`pr_recording::bytes_over`], and [`pr_recording::reprint_over`] for
+/// pages; [`pr_cli::raw_over`]. They leave what they leave there. A read failed exactly if the input has failed, and a write exactly if the output has.
 pub fn do_job<R: Read, W: Write>(
     alloc: Global,
     input: &mut Watched<R>,
