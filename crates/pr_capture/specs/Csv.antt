@@ -104,8 +104,8 @@ abbrev pub rate_or : (number : ℕ) → (rate : Option ℕ) → Result ℕ Captu
 rate_or number None = Err (NoTime number)
 rate_or number (Some rate) = Ok rate
 
--- the rate counts where the first column is another than one of times or of numbers. Beside a column that is called by a
--- word for these alone, but has none, only a rate that the caller gives counts
+-- the rate counts where the first column is another than one of times or of numbers. Beside a column that is called by a word
+-- for these alone, but has none, only a rate that the caller gives counts
 abbrev pub rate_beside : Remarks → (first : Option (List ℕ)) → Option ℕ
 rate_beside r None = rate_known r
 rate_beside r (Some name) = if is_time_alone name || is_sample_word name then r.given else rate_known r

@@ -88,7 +88,7 @@ is_whole ds (Some k) = not (are_some (drop k ds))
 abbrev pub behind_fraction : List ℕ → List ℕ
 behind_fraction l = if length (decimals_in l) == 0 then l else behind_decimals l
 
--- the same of the value of an option, which has digits, letters and perhaps a point alone: 4M, 12.5M, 24MHz, 4000000
+-- the same of the value of an option, which has digits, letters and perhaps a point alone: 4M, 12.5M, 500k, 24MHz, 4000000
 abbrev pub rate_given : (text : List ℕ) → Option ℕ
 rate_given l =
     if list_all is_letter (behind_fraction (behind_digits l)) && is_whole (decimals_in (behind_digits l)) (rate_unit (behind_fraction (behind_digits l)))
@@ -129,8 +129,8 @@ with_meta r line (Some text) = record { given = r.given; rate = rate_in (without
 abbrev pub remarked : Remarks → (line : List ℕ) → Remarks
 remarked r line = with_meta r line (behind_word (codes "METAsamplerate") line)
 
--- Columns of times: sigrok-cli adds up the time of one sample, in whole units, rounded down. Where that lacks a part, its
--- times are taken for what they are: numbers of samples, so many times.
+-- Columns of times: sigrok-cli adds up the time of one sample, in whole units, rounded down. Where that lacks a part, its times are taken
+-- for what they are: numbers of samples, so many times.
 
 abbrev pub is_this : (unit : ℕ) → Option ℕ → Bool
 is_this unit None = false
