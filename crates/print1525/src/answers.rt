@@ -10,7 +10,7 @@ use crate::shown::Shown;
 use crate::starts::started_job;
 use crate::statuses::{FAILED, ending_status, fault_status, is_answered, text_status};
 use crate::told::{show_oddities, subject_of, tell_heard, tell_listing, tell_more};
-use pr_cli::{CliFault, Ending, SCRIPT_LIMIT, TeeReader, Watched, read_whole};
+use pr_cli::{CliFault, Ending, SCRIPT_LIMIT, TeeReader, Watched};
 use pr_dots::Shapes;
 use pr_files::{Noting, save};
 use pr_listing::{ListingForm, TextFault, read_text};
@@ -361,7 +361,7 @@ fn answer_over<R: Read + Drop, W: Write + Drop>(
 fn read_again(rt: &(impl Files + AllocGlobal), name: &str, count: u64) -> Option<Vec<u8>> {
     let file = File::open(rt, name).ok()?;
     let mut input = Watched::new(file.take(count));
-    read_whole(rt.alloc(), &mut input, usize::MAX).ok()
+    pr_cli::read_whole(rt.alloc(), &mut input, usize::MAX).ok()
 }
 
 /// How a job ended, or its fault.
