@@ -17,7 +17,7 @@ use pr_listing::{ListingForm, TextFault, read_text};
 use pr_options::{Job, Task};
 use std::alloc::Global;
 use std::cell::Cell;
-use std::fs::{File, Files};
+use std::fs::{File, Files, OpenFile};
 use std::io;
 use std::io::{Error, Read, Write};
 use std::time::Clock;
@@ -59,6 +59,10 @@ pub struct Manner {
 struct Aside<'a> {
     /// An explanation follows a refusal or an error.
     is_explained: bool,
+    /// The input can be read a second time for that: it is a file by name, and no pipe or device. Any other is kept.
+    is_file: bool,
+    /// How many bytes have come of the input.
+    count: &'a Cell<u64>,
     /// A number of bytes read is on the terminal, to be cleared before anything else is said.
     is_shown: &'a Cell<bool>,
 }
@@ -91,8 +95,11 @@ pub fn answer_task(
         output: output.filter(|name| !is_standard_output(name)),
     };
     let is_shown = Cell::new(false);
+    let count = Cell::new(0);
     let aside = Aside {
         is_explained: manner.is_explained,
+        is_file: false,
+        count: &count,
         is_shown: &is_shown,
     };
     let is_apart = manner.is_watched && (names.output.is_some() || !manner.is_seen);
@@ -100,15 +107,25 @@ pub fn answer_task(
         if manner.is_typed {
             tell_waiting(rt, &work.job);
         }
-        let reader = Progress::new(rt, rt.reader(), is_apart && !manner.is_typed, &is_shown);
+        let is_watched = is_apart && !manner.is_typed;
+        let reader = Progress::new(rt, rt.reader(), is_watched, &count, &is_shown);
         return answer_from(rt, reader, names, work, aside);
     };
     match File::open(rt, name) {
         Ok(file) => {
-            let reader = Progress::new(rt, file, is_apart, &is_shown);
-            answer_from(rt, reader, names, work, aside)
+            let is_file = manner.is_explained && is_regular(&file);
+            let reader = Progress::new(rt, file, is_apart, &count, &is_shown);
+            answer_from(rt, reader, names, work, Aside { is_file, ..aside })
         }
         Err(error) => tell_file(rt, name, &error),
+    }
+}
+
+/// Whether an open file is no pipe, device or the like, so that its bytes can be read again.
+fn is_regular(file: &impl OpenFile) -> bool {
+    match file.metadata() {
+        Ok(metadata) => metadata.is_file(),
+        Err(_) => false,
     }
 }
 
@@ -162,7 +179,7 @@ fn answer_from<R: Read + Drop>(
 /// Does a job over a reader and a writer, and gives the exit status and the writer. A listing in
 /// another form is made a script's text first, and a recording's format or own moment 0 is found first.
 fn answer_job<R: Read + Drop, W: Write + Drop>(
-    rt: &(impl Eprint + AllocGlobal),
+    rt: &(impl Files + Eprint + AllocGlobal),
     reader: R,
     writer: W,
     names: Names<'_>,
@@ -186,7 +203,7 @@ fn is_to_find(job: &Job<'_>) -> bool {
 
 /// Does a job in the format, and from the moment, that a recording's first bytes show.
 fn answer_recording<R: Read + Drop, W: Write + Drop>(
-    rt: &(impl Eprint + AllocGlobal),
+    rt: &(impl Files + Eprint + AllocGlobal),
     reader: R,
     writer: W,
     names: Names<'_>,
@@ -260,7 +277,7 @@ fn read_first<R: Read>(alloc: Global, input: &mut Watched<R>) -> Result<Vec<u8>,
 
 /// Does a job over the text of a listing in another form.
 fn answer_listing<R: Read + Drop, W: Write + Drop>(
-    rt: &(impl Eprint + AllocGlobal),
+    rt: &(impl Files + Eprint + AllocGlobal),
     reader: R,
     writer: W,
     names: Names<'_>,
@@ -271,7 +288,13 @@ fn answer_listing<R: Read + Drop, W: Write + Drop>(
     let kept = TeeReader::new(rt.alloc(), reader, aside.is_explained);
     let mut input = Watched::new(Noting::new(kept));
     match read_text(rt.alloc(), &mut input, form, SCRIPT_LIMIT) {
-        Ok(text) => answer_over(rt, text.as_slice(), writer, names, work, aside),
+        Ok(text) => {
+            let aside = Aside {
+                is_file: false,
+                ..aside
+            };
+            answer_over(rt, text.as_slice(), writer, names, work, aside)
+        }
         Err(fault) => {
             let input = input.into_inner();
             clear(rt, aside.is_shown);
@@ -293,9 +316,10 @@ fn form_of(job: &Job<'_>) -> ListingForm {
 }
 
 /// Does a job over a reader and a writer, and gives the exit status and the writer. Where more is to
-/// be told, the input is kept, since a trace text's first bad line may be its last.
+/// be told, the input is kept, since a trace text's first bad line may be its last; a file is read again instead, when the
+/// job has let go what it kept.
 fn answer_over<R: Read + Drop, W: Write + Drop>(
-    rt: &(impl Eprint + AllocGlobal),
+    rt: &(impl Files + Eprint + AllocGlobal),
     reader: R,
     writer: W,
     names: Names<'_>,
@@ -304,7 +328,8 @@ fn answer_over<R: Read + Drop, W: Write + Drop>(
 ) -> (u8, W) {
     let Work { job, shapes, .. } = work;
     let subject = subject_of(&job);
-    let kept = TeeReader::new(rt.alloc(), reader, aside.is_explained);
+    let is_kept = aside.is_explained && !aside.is_file;
+    let kept = TeeReader::new(rt.alloc(), reader, is_kept);
     let mut input = Watched::new(Noting::new(kept));
     let mut output = Watched::new(Noting::new(writer));
     let answer = do_job(rt.alloc(), &mut input, &mut output, job, shapes);
@@ -324,10 +349,21 @@ fn answer_over<R: Read + Drop, W: Write + Drop>(
         }
         Err(fault) => tell(rt, fault),
     };
-    if let Some(bytes) = input.into_inner().into_bytes() {
+    let bytes = match names.input {
+        Some(name) if aside.is_file => read_again(rt, name, aside.count.get()),
+        _ => input.into_inner().into_bytes(),
+    };
+    if let Some(bytes) = bytes {
         tell_more(rt, bytes.as_slice(), subject, ending_of(answer));
     }
     (status, output.into_inner())
+}
+
+/// The first bytes of the file of this name, as many as a job has read; None where they cannot be had.
+fn read_again(rt: &(impl Files + AllocGlobal), name: &str, count: u64) -> Option<Vec<u8>> {
+    let file = File::open(rt, name).ok()?;
+    let mut input = Watched::new(file.take(count));
+    pr_cli::read_whole(rt.alloc(), &mut input, usize::MAX).ok()
 }
 
 /// How a job ended, or its fault.
