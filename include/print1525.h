@@ -54,11 +54,11 @@
  *
  * WHAT A CALLER CARRIES.
  * - Threads: no call keeps any state, so several threads may make calls at once.
- * - Stack: a call for texts takes up to PRINT1525_STACK bytes of it, a call for edges or words 4096, one of
- *   a watched printer 8192.
+ * - Stack: at most 4096 bytes of it for print1525_decoder_.., _receiver_.., _strict_.., _printer_.. and the calls under
+ *   `Words` above; at most PRINT1525_STACK for each other call, print1525_edges among them.
  * - Memory: malloc, realloc and free of one allocator, aligned as C demands. Where they give none, a call fails with
  *   PRINT1525_FAULT_NO_MEMORY and has freed what it took.
- * - Signal handlers: the calls for words, watched printers, receivers and decoders, which take no memory, and no others.
+ * - Signal handlers: the calls with at most 4096 bytes of stack, which take no memory, and no others.
  * - fork: a child may make calls where it may call malloc.
  * - No call touches files, streams, locales, the time or the state of floating point; errno only where malloc does.
  *
@@ -77,7 +77,7 @@
 #define PRINT1525_VERSION "1.0.0"
 #define PRINT1525_VERSION_NUMBER 10000
 
-/* As many bytes of stack at most a call takes. */
+/* As many bytes of stack at most any call takes. */
 #define PRINT1525_STACK 98304
 
 #ifdef __cplusplus
@@ -107,7 +107,8 @@ enum print1525_status {
 typedef struct {
     int32_t status; /* what it returned */
     int32_t fault;  /* one of enum print1525_fault; PRINT1525_FAULT_NONE with status 0 */
-    size_t place;   /* the statement, line, edge or input that the fault or an explanation names, else 0 */
+    size_t place;   /* the statement, line, edge or input that the fault or an explanation names; of
+                     * print1525_printer_bytes how many bytes it has taken; else 0 */
     size_t column;  /* with UNKNOWN_NAME and BAD_CHARACTER the column of that line, from 1, else 0 */
     size_t length;  /* with statuses 0 and 1, and with TOO_SMALL, how many items the text or list has; with a fault of
                      * a recording how many come before it; else 0 */
@@ -267,7 +268,7 @@ typedef struct {
 } print1525_name;
 
 /* What the options of the program say. Begin with PRINT1525_SETTINGS_INIT, the program's own defaults, and change what
- * you want; each call says which settings it reads. */
+ * you want; each call says which settings it reads. A number that an option does not have is refused. */
 typedef struct {
     size_t size;                      /* sizeof(print1525_settings) */
     uint8_t present;                  /* --present: enum print1525_present */
@@ -282,7 +283,7 @@ typedef struct {
     uint8_t words;                    /* --as of check and decode: enum print1525_words */
     uint8_t intervals;                /* --intervals: 1: also the intervals outside their bounds; 0: not */
     uint8_t bounds;                   /* --bounds: enum print1525_bounds */
-    uint8_t inverted;                 /* --invert: 1: levels are inverted; 0: not */
+    uint8_t inverted;                 /* --invert: 1: the levels of a dump or a table are inverted; 0: not */
     uint8_t reserved[4];              /* 0 */
     uint64_t sheet;                   /* --sheet: this sheet alone, from 1; 0: all, in a PNG file the first */
     uint64_t start;                   /* --from-time: the microsecond at which a dump or a table starts */
@@ -295,6 +296,7 @@ typedef struct {
     print1525_name data;
     const void *characters;           /* --characters: the bytes of such a file; an empty one: this project's own */
     size_t characters_length;
+    print1525_details stopped;        /* of print1525_explain_stop: the details of the run that stopped */
 } print1525_settings;
 
 #define PRINT1525_SETTINGS_INIT                                                                                     \
@@ -302,7 +304,7 @@ typedef struct {
         sizeof(print1525_settings), PRINT1525_PRESENT_BOTH, PRINT1525_MODE_EACH, PRINT1525_FROM_TEXT,               \
             PRINT1525_PAGE_LIST, PRINT1525_TRACE_TEXT, PRINT1525_SET_UPPER, 0, PRINT1525_RECORDING_TEXT,            \
             PRINT1525_WORDS_LIST, 0, PRINT1525_BOUNDS_PROFILE, 0, {0, 0, 0, 0}, 0, 0, 0, {NULL, 0}, {NULL, 0},      \
-            {NULL, 0}, {NULL, 0}, {NULL, 0}, {NULL, 0}, NULL, 0                                                     \
+            {NULL, 0}, {NULL, 0}, {NULL, 0}, {NULL, 0}, NULL, 0, {0, 0, 0, 0, 0}                                    \
     }
 
 /* ------------------------------------------------------------------------------------------- calls for texts -- */
@@ -367,9 +369,9 @@ PRINT1525_CALL int print1525_print(const uint16_t *inputs, size_t length, const 
  * Reads: a recording as below, a trace text of at most 1,099,511,627,776 bytes; words.
  * Gives: the text that `print1525 check` writes: a line for each frame that the trace spells, and `lawful`; its story;
  * or a line of JSON for each byte, as print1525_readings has them.
- * Refuses: words (20), recording (29); a text above the limit (9); and a trace by its first fault: a bad line (8) with
- * its number, an edge (11 to 16) with its index, or a line of a dump or a table (31 to 49, 70 to 77). The story and
- * the JSON of a trace that is refused are given up to the fault. */
+ * Refuses: words (20), recording with inverted (29); a text above the limit (9); and a trace by its first fault: a bad
+ * line (8) with its number, an edge (11 to 16) with its index, or a line of a dump or a table (31 to 49, 70 to 77). The
+ * story and the JSON of a trace that is refused are given up to the fault. */
 PRINT1525_CALL int print1525_check(const void *trace, size_t length, const print1525_settings *settings, void *buffer,
                                    size_t capacity, print1525_details *details);
 
@@ -378,8 +380,9 @@ PRINT1525_CALL int print1525_check(const void *trace, size_t length, const print
  * Reads: a recording: a trace text, or a dump or a table by recording, atn, clock, data, inverted, start and rate;
  * words, a list or JSON, and of a list intervals and bounds.
  * Gives: the text that `print1525 decode` writes.
- * Refuses: words (20), recording (29); and a recording by its first fault: a bad line (8), an edge earlier than the one
- * before it (12), or a line of a dump or a table (31 to 49, 70 to 77). What comes before the fault is given. */
+ * Refuses: words with intervals and bounds (20), recording with inverted (29); and a recording by its first fault: a
+ * bad line (8), an edge earlier than the one before it (12), or a line of a dump or a table (31 to 49, 70 to 77). What
+ * comes before the fault is given. */
 PRINT1525_CALL int print1525_readings(const void *recording, size_t length, const print1525_settings *settings,
                                       void *buffer, size_t capacity, print1525_details *details);
 
@@ -387,9 +390,9 @@ PRINT1525_CALL int print1525_readings(const void *recording, size_t length, cons
  *
  * Reads: a recording, as print1525_readings; page, printer, sheet and characters.
  * Gives: the text that `print1525 decode --as text` and the others write, with page as its format.
- * Refuses: recording (29), page with printer and sheet (24), in this order; characters, by their first bad line (52); a
- * recording, as print1525_readings, with the pages of what comes before the fault; and a picture (50, 51), as
- * print1525_pages. */
+ * Refuses: recording with inverted (29), page with printer and sheet (24), in this order; characters, by their first
+ * bad line (52); a recording, as print1525_readings, with the pages of what comes before the fault; and a picture (50,
+ * 51), as print1525_pages. */
 PRINT1525_CALL int print1525_reprint(const void *recording, size_t length, const print1525_settings *settings,
                                      void *buffer, size_t capacity, print1525_details *details);
 
@@ -405,21 +408,19 @@ PRINT1525_CALL int print1525_explain_script(const void *script, size_t length, c
 
 /* Why the run of a script stopped.
  *
- * Reads: the script or listing that print1525_pages ran, with its from, present and mode; and the details that it wrote
- * with status 1 (the same place may be named for those of this call).
+ * Reads: the script or listing that print1525_pages or print1525_bus ran, with its from, present and mode; and in
+ * stopped the details that it wrote with status 1, of which fault and place are read.
  * Gives: the text, and as `place` the line of the statement; no text, and 0, where there is no such statement.
- * Refuses: NULL in the place of details that stopped (80); present (22), mode (23); from (60), and a listing; and
- * details without a BASIC error (30). */
+ * Refuses: present (22), mode (23); from (60), and a listing; and stopped without a BASIC error (30). */
 PRINT1525_CALL int print1525_explain_stop(const void *script, size_t length, const print1525_settings *settings,
-                                          const print1525_details *stopped, void *buffer, size_t capacity,
-                                          print1525_details *details);
+                                          void *buffer, size_t capacity, print1525_details *details);
 
 /* Why print1525_check refuses a trace.
  *
  * Reads: a recording, as print1525_readings.
  * Gives: the text, and as `place` the line that cannot be read, or else the index of the edge with which the trace
  * stops being lawful; no text, and 0, where it is not refused.
- * Refuses: recording (29). */
+ * Refuses: recording with inverted (29). */
 PRINT1525_CALL int print1525_explain_trace(const void *trace, size_t length, const print1525_settings *settings,
                                            void *buffer, size_t capacity, print1525_details *details);
 
@@ -428,7 +429,7 @@ PRINT1525_CALL int print1525_explain_trace(const void *trace, size_t length, con
  * Reads: a recording, as print1525_readings.
  * Gives: the text, and as `place` the index of the edge with which time goes back, or else the line that cannot be
  * read; no text, and 0, where it can be read.
- * Refuses: recording (29). */
+ * Refuses: recording with inverted (29). */
 PRINT1525_CALL int print1525_explain_reading(const void *recording, size_t length, const print1525_settings *settings,
                                              void *buffer, size_t capacity, print1525_details *details);
 
@@ -445,8 +446,8 @@ typedef struct {
  *
  * Reads: a recording, as print1525_readings. `capacity` and `length` count edges.
  * Gives: the edges, for a decoder or a receiver. Levels are 0 and 1.
- * Refuses: recording (29); and a recording by its first fault: a bad line (8), or a line of a dump or a table (31 to
- * 49, 70 to 77). The edges before the fault are given. */
+ * Refuses: recording with inverted (29); and a recording by its first fault: a bad line (8), or a line of a dump or a
+ * table (31 to 49, 70 to 77). The edges before the fault are given. */
 PRINT1525_CALL int print1525_edges(const void *recording, size_t length, const print1525_settings *settings,
                                    print1525_edge *edges, size_t capacity, print1525_details *details);
 
@@ -686,11 +687,11 @@ PRINT1525_CALL int print1525_printer_byte(print1525_printer *printer, uint8_t by
 /* Gives a printer bytes, until the marks of one more have no room.
  *
  * Reads: a printer that was begun.
- * Gives: in `taken` how many bytes it has taken; their marks, `length` of them, as print1525_printer_byte. Give it the
- * rest again once the marks are used: each call takes a byte at least where `capacity` is PRINT1525_MARKS_OF_A_BYTE or
- * more.
+ * Gives: as `place` how many of the bytes it has taken, and their marks, `length` of them, as print1525_printer_byte.
+ * Give it the rest once the marks are used: each call takes a byte at least, if there is one, where `capacity` is
+ * PRINT1525_MARKS_OF_A_BYTE or more.
  * Refuses, with all as it was: NULL (80) and OVERLAP (81). */
-PRINT1525_CALL int print1525_printer_bytes(print1525_printer *printer, const void *bytes, size_t length, size_t *taken,
+PRINT1525_CALL int print1525_printer_bytes(print1525_printer *printer, const void *bytes, size_t length,
                                            print1525_mark *marks, size_t capacity, print1525_details *details);
 
 /* A region of the page in pixels, 120 to the inch across and 126 down, as in a PNG file: a dot is two by two, so the
@@ -734,7 +735,7 @@ PRINT1525_CALL int print1525_printer_draw(const print1525_mark *marks, size_t le
 PRINT1525_OWN_SIZE(print1525_details, 32);
 PRINT1525_OWN_SIZE(print1525_delays, 16);
 PRINT1525_OWN_SIZE(print1525_name, 16);
-PRINT1525_OWN_SIZE(print1525_settings, 160);
+PRINT1525_OWN_SIZE(print1525_settings, 192);
 PRINT1525_OWN_SIZE(print1525_edge, 16);
 PRINT1525_OWN_SIZE(print1525_byte, 88);
 PRINT1525_OWN_SIZE(print1525_reading, 104);
@@ -1218,7 +1219,8 @@ PRINT1525_OWN print1525_plain_answer print1525_own_recording(const print1525_own
     const uint8_t *const data = print1525_own_bytes(&s->data);
     const size_t a = s->atn.length, c = s->clock.length, d = s->data.length;
     uint8_t *const buffer = PRINT1525_OWN_AS(uint8_t *, call->buffer);
-    print1525_plain_answer answer;
+    print1525_plain_answer answer = {2, PRINT1525_FAULT_NO_SUCH_RECORDING, 0, 0};
+    if (s->inverted > 1) return answer;
     switch (of) {
     case PRINT1525_OWN_REPORT:
         print1525_plain_report(bytes, length, s->recording, atn, a, clock, c, data, d, s->inverted, s->start, s->rate,
@@ -1280,6 +1282,7 @@ PRINT1525_CALL int print1525_check(const void *trace, size_t length, const print
         return print1525_own_said(details,
                                   print1525_own_recording(&call, of, length, call.settings.words, capacity), 1);
     }
+    if (call.settings.inverted > 1) return print1525_own_refuse(details, PRINT1525_FAULT_NO_SUCH_RECORDING);
     print1525_plain_check(PRINT1525_OWN_AS(const uint8_t *, call.input), length,
                           PRINT1525_OWN_AS(uint8_t *, call.buffer), capacity, &answer);
     return print1525_own_answer(details, answer);
@@ -1308,9 +1311,9 @@ PRINT1525_CALL int print1525_reprint(const void *recording, size_t length, const
     return print1525_own_said(details, print1525_own_recording(&call, PRINT1525_OWN_REPRINT, length, 0, capacity), 1);
 }
 
-/* Explains a script, or with a stop why its run ended there. */
-PRINT1525_OWN int print1525_own_explain(const void *script, size_t length, const print1525_settings *settings,
-                                        const print1525_details *stop, void *buffer, size_t capacity,
+/* Explains a script, or why its run stopped. */
+PRINT1525_OWN int print1525_own_explain(int is_stop, const void *script, size_t length,
+                                        const print1525_settings *settings, void *buffer, size_t capacity,
                                         print1525_details *details) {
     print1525_own_call call;
     const print1525_settings *const s = &call.settings;
@@ -1319,10 +1322,9 @@ PRINT1525_OWN int print1525_own_explain(const void *script, size_t length, const
     const uint8_t *text;
     if (print1525_own_begin(&call, script, length, settings, buffer, capacity)->fault != PRINT1525_FAULT_NONE)
         return print1525_own_refuse(details, call.fault);
-    if (stop != NULL && s->present > PRINT1525_PRESENT_BOTH)
+    if (is_stop && s->present > PRINT1525_PRESENT_BOTH)
         return print1525_own_refuse(details, PRINT1525_FAULT_NO_SUCH_PRINTERS);
-    if (stop != NULL && s->mode > PRINT1525_MODE_KEPT)
-        return print1525_own_refuse(details, PRINT1525_FAULT_NO_SUCH_STATUS);
+    if (is_stop && s->mode > PRINT1525_MODE_KEPT) return print1525_own_refuse(details, PRINT1525_FAULT_NO_SUCH_STATUS);
     if (s->from != PRINT1525_FROM_TEXT) {
         listed = print1525_own_listed(&call, length, &answer);
         if (listed == NULL) return print1525_own_answer(details, answer);
@@ -1330,13 +1332,13 @@ PRINT1525_OWN int print1525_own_explain(const void *script, size_t length, const
     }
     text = listed == NULL ? PRINT1525_OWN_AS(const uint8_t *, call.input) : listed;
     to = PRINT1525_OWN_AS(uint8_t *, call.buffer);
-    if (stop == NULL) {
+    if (!is_stop) {
         print1525_plain_explain_script(text, length, to, capacity, &answer);
     } else {
-        const int is_error = stop->fault > 100 && stop->fault < 110;
-        print1525_plain_explain_stop(text, length, s->mode, PRINT1525_OWN_AS(uint8_t, is_error ? stop->fault - 100 : 0),
-                                     stop->place, s->present & 1, PRINT1525_OWN_AS(uint8_t, s->present >> 1), to,
-                                     capacity, &answer);
+        const int is_error = s->stopped.fault > 100 && s->stopped.fault < 110;
+        print1525_plain_explain_stop(text, length, s->mode,
+                                     PRINT1525_OWN_AS(uint8_t, is_error ? s->stopped.fault - 100 : 0), s->stopped.place,
+                                     s->present & 1, PRINT1525_OWN_AS(uint8_t, s->present >> 1), to, capacity, &answer);
     }
     free(listed);
     return print1525_own_explained(details, answer);
@@ -1344,16 +1346,12 @@ PRINT1525_OWN int print1525_own_explain(const void *script, size_t length, const
 
 PRINT1525_CALL int print1525_explain_script(const void *script, size_t length, const print1525_settings *settings,
                                             void *buffer, size_t capacity, print1525_details *details) {
-    return print1525_own_explain(script, length, settings, NULL, buffer, capacity, details);
+    return print1525_own_explain(0, script, length, settings, buffer, capacity, details);
 }
 
 PRINT1525_CALL int print1525_explain_stop(const void *script, size_t length, const print1525_settings *settings,
-                                          const print1525_details *stopped, void *buffer, size_t capacity,
-                                          print1525_details *details) {
-    print1525_details stop;
-    if (stopped == NULL) return print1525_own_refuse(details, PRINT1525_FAULT_NULL_POINTER);
-    stop = *stopped;
-    return print1525_own_explain(script, length, settings, &stop, buffer, capacity, details);
+                                          void *buffer, size_t capacity, print1525_details *details) {
+    return print1525_own_explain(1, script, length, settings, buffer, capacity, details);
 }
 
 PRINT1525_CALL int print1525_explain_trace(const void *trace, size_t length, const print1525_settings *settings,
@@ -1518,7 +1516,7 @@ PRINT1525_CALL int print1525_printer_byte(print1525_printer *printer, uint8_t by
     return print1525_own_answer(details, answer);
 }
 
-PRINT1525_CALL int print1525_printer_bytes(print1525_printer *printer, const void *bytes, size_t length, size_t *taken,
+PRINT1525_CALL int print1525_printer_bytes(print1525_printer *printer, const void *bytes, size_t length,
                                            print1525_mark *marks, size_t capacity, print1525_details *details) {
     const size_t size = print1525_own_room(capacity, sizeof *marks);
     const int fault = print1525_own_refused(bytes, length, marks, size);
@@ -1526,7 +1524,7 @@ PRINT1525_CALL int print1525_printer_bytes(print1525_printer *printer, const voi
     print1525_mark nothing[1];
     uint8_t no_byte = 0;
     print1525_plain_run run;
-    if (printer == NULL || taken == NULL) return print1525_own_refuse(details, PRINT1525_FAULT_NULL_POINTER);
+    if (printer == NULL) return print1525_own_refuse(details, PRINT1525_FAULT_NULL_POINTER);
     if (fault != PRINT1525_FAULT_NONE) return print1525_own_refuse(details, fault);
     if (print1525_own_overlap(printer, sizeof *printer, marks, size))
         return print1525_own_refuse(details, PRINT1525_FAULT_OVERLAP);
@@ -1534,8 +1532,7 @@ PRINT1525_CALL int print1525_printer_bytes(print1525_printer *printer, const voi
     print1525_plain_printer_bytes(&kept, bytes == NULL ? &no_byte : PRINT1525_OWN_AS(const uint8_t *, bytes), length,
                                   marks == NULL ? nothing : marks, capacity, &run);
     *printer = kept;
-    *taken = run.taken;
-    return print1525_own_tell(details, PRINT1525_DONE, PRINT1525_FAULT_NONE, 0, 0, run.marks);
+    return print1525_own_tell(details, PRINT1525_DONE, PRINT1525_FAULT_NONE, run.taken, 0, run.marks);
 }
 
 /* Marks as pixels, over those of the buffer or over paper. */

@@ -131,19 +131,9 @@ inline result explain_reading(std::string_view recording, const settings &with =
     return text_of<void>(print1525_explain_reading, recording.data(), recording.size(), with);
 }
 inline result explain_stop(std::string_view script, const print1525_details &stopped, const settings &with = {}) {
-    result made{std::string(), {}};
-    const auto call = [&] {
-        print1525_explain_stop(script.data(), script.size(), &with, &stopped, made.text.data(), made.text.size(),
-                               &made.details);
-    };
-    call();
-    if (made.details.fault == PRINT1525_FAULT_TOO_SMALL) {
-        made.text.resize(made.details.length);
-        call();
-    }
-    if (made.details.fault == PRINT1525_FAULT_NO_MEMORY) throw std::bad_alloc();
-    if (made.details.status > PRINT1525_STOPPED) throw error(made.details);
-    return made;
+    settings ran = with;
+    ran.stopped = stopped;
+    return text_of<void>(print1525_explain_stop, script.data(), script.size(), ran);
 }
 
 // The edges of a recording in any format.
@@ -225,11 +215,9 @@ public:
         print1525_mark made[PRINT1525_MARKS_OF_A_BYTE];
         while (!bytes.empty()) {
             print1525_details details{};
-            std::size_t taken = 0;
-            print1525_printer_bytes(&kept, bytes.data(), bytes.size(), &taken, made, PRINT1525_MARKS_OF_A_BYTE,
-                                    &details);
+            print1525_printer_bytes(&kept, bytes.data(), bytes.size(), made, PRINT1525_MARKS_OF_A_BYTE, &details);
             marks.insert(marks.end(), made, made + details.length);
-            bytes.remove_prefix(taken);
+            bytes.remove_prefix(details.place);
         }
         return marks;
     }

@@ -114,7 +114,6 @@ typedef struct {
     size_t count;
     uint16_t delays[3][200];
     char names[99];
-    print1525_details stopped; /* of explain_stop */
 } job;
 
 /* The lists of a value of --delays. */
@@ -157,14 +156,13 @@ static const struct {
 } text_calls[] = {
     {"pages", print1525_pages}, {"bus", print1525_bus}, {"listing", print1525_listing}, {"raw", print1525_raw}, {"check", print1525_check},
     {"decode", print1525_readings}, {"reprint", print1525_reprint}, {"explain_script", print1525_explain_script},
-    {"explain_trace", print1525_explain_trace}, {"explain_reading", print1525_explain_reading},
+    {"explain_stop", print1525_explain_stop}, {"explain_trace", print1525_explain_trace}, {"explain_reading", print1525_explain_reading},
 };
 #define TEXT_CALLS (sizeof text_calls / sizeof *text_calls)
 
 static int make(const job *j, const print1525_settings *settings, uint8_t *buffer, size_t capacity, print1525_details *details) {
     size_t index;
     if (strcmp(j->name, "print") == 0) return print1525_print(j->numbers, j->count, settings, buffer, capacity, details);
-    if (strcmp(j->name, "explain_stop") == 0) return print1525_explain_stop(j->input, j->length, settings, &j->stopped, buffer, capacity, details);
     for (index = 0; index < TEXT_CALLS; index++)
         if (strcmp(j->name, text_calls[index].name) == 0) return text_calls[index].call(j->input, j->length, settings, buffer, capacity, details);
     exit(98);
@@ -627,24 +625,34 @@ static void try_settings(void) {
     };
     static const struct {
         const char *name;
-        uint8_t recording, words, intervals, bounds;
+        uint8_t recording, words, intervals, bounds, inverted;
         int fault;
     } recordings[] = {
-        {"check", 5, 3, 9, 9, PRINT1525_FAULT_NO_SUCH_WORDS}, {"check", 5, 2, 9, 9, PRINT1525_FAULT_NO_SUCH_RECORDING}, {"check", 5, 0, 9, 9, PRINT1525_FAULT_NO_SUCH_RECORDING},
-        {"check", 255, 1, 9, 9, PRINT1525_FAULT_NO_SUCH_RECORDING}, {"check", 0, 255, 0, 0, PRINT1525_FAULT_NO_SUCH_WORDS},
-        {"decode", 0, 1, 0, 0, PRINT1525_FAULT_NO_SUCH_WORDS}, {"decode", 9, 3, 0, 0, PRINT1525_FAULT_NO_SUCH_WORDS},
-        {"decode", 0, 0, 2, 0, PRINT1525_FAULT_NO_SUCH_WORDS}, {"decode", 0, 0, 0, 2, PRINT1525_FAULT_NO_SUCH_WORDS},
-        {"decode", 5, 0, 1, 1, PRINT1525_FAULT_NO_SUCH_RECORDING}, {"decode", 5, 2, 9, 9, PRINT1525_FAULT_NO_SUCH_RECORDING},
-        {"reprint", 5, 9, 9, 9, PRINT1525_FAULT_NO_SUCH_RECORDING}, {"explain_trace", 5, 9, 9, 9, PRINT1525_FAULT_NO_SUCH_RECORDING},
-        {"explain_reading", 255, 9, 9, 9, PRINT1525_FAULT_NO_SUCH_RECORDING},
+        {"check", 5, 3, 9, 9, 0, PRINT1525_FAULT_NO_SUCH_WORDS}, {"check", 5, 2, 9, 9, 0, PRINT1525_FAULT_NO_SUCH_RECORDING}, {"check", 5, 0, 9, 9, 0, PRINT1525_FAULT_NO_SUCH_RECORDING},
+        {"check", 255, 1, 9, 9, 0, PRINT1525_FAULT_NO_SUCH_RECORDING}, {"check", 0, 255, 0, 0, 0, PRINT1525_FAULT_NO_SUCH_WORDS},
+        {"decode", 0, 1, 0, 0, 0, PRINT1525_FAULT_NO_SUCH_WORDS}, {"decode", 9, 3, 0, 0, 0, PRINT1525_FAULT_NO_SUCH_WORDS},
+        {"decode", 0, 0, 2, 0, 0, PRINT1525_FAULT_NO_SUCH_WORDS}, {"decode", 0, 0, 0, 2, 0, PRINT1525_FAULT_NO_SUCH_WORDS},
+        {"decode", 5, 0, 1, 1, 0, PRINT1525_FAULT_NO_SUCH_RECORDING}, {"decode", 5, 2, 9, 9, 0, PRINT1525_FAULT_NO_SUCH_RECORDING},
+        {"reprint", 5, 9, 9, 9, 0, PRINT1525_FAULT_NO_SUCH_RECORDING}, {"explain_trace", 5, 9, 9, 9, 0, PRINT1525_FAULT_NO_SUCH_RECORDING},
+        {"explain_reading", 255, 9, 9, 9, 0, PRINT1525_FAULT_NO_SUCH_RECORDING},
+        {"check", 0, 0, 9, 9, 2, PRINT1525_FAULT_NO_SUCH_RECORDING}, {"check", 0, 1, 9, 9, 255, PRINT1525_FAULT_NO_SUCH_RECORDING},
+        {"check", 1, 2, 9, 9, 2, PRINT1525_FAULT_NO_SUCH_RECORDING}, {"check", 2, 0, 9, 9, 16, PRINT1525_FAULT_NO_SUCH_RECORDING},
+        {"check", 0, 3, 9, 9, 2, PRINT1525_FAULT_NO_SUCH_WORDS}, {"decode", 0, 0, 0, 0, 2, PRINT1525_FAULT_NO_SUCH_RECORDING},
+        {"decode", 1, 2, 9, 9, 128, PRINT1525_FAULT_NO_SUCH_RECORDING}, {"decode", 0, 0, 2, 0, 2, PRINT1525_FAULT_NO_SUCH_WORDS},
+        {"reprint", 3, 9, 9, 9, 2, PRINT1525_FAULT_NO_SUCH_RECORDING}, {"explain_trace", 0, 9, 9, 9, 2, PRINT1525_FAULT_NO_SUCH_RECORDING},
+        {"explain_reading", 2, 9, 9, 9, 3, PRINT1525_FAULT_NO_SUCH_RECORDING},
     };
+    static const int32_t stops[] = {0, 1, 3, 91, 100, 104, 107, 109, 110, 356, 359, -153, -1, INT32_MAX, INT32_MIN};
     static const uint16_t no_input[1] = {65535};
     static const char *const drawing[] = {"pages", "raw", "print", "reprint"};
     static const char *const all[] = {"pages", "bus", "listing", "raw", "print", "check", "decode", "reprint", "explain_script", "explain_stop", "explain_trace", "explain_reading"};
     static const print1525_settings defaults = PRINT1525_SETTINGS_INIT;
     static job j;
     const guarded input = guard(7), buffer = guard(99), bad = guard(9);
+    print1525_edge edges[4];
+    print1525_details details;
     size_t row, change;
+    memset(edges, UNTOUCHED, sizeof edges);
     memcpy(input.bytes, "NO WORD", 7);
     memcpy(bad.bytes, "upper 33\n", 9);
     j.numbers = no_input;
@@ -679,8 +687,26 @@ static void try_settings(void) {
         j.settings.words = recordings[row].words;
         j.settings.intervals = recordings[row].intervals;
         j.settings.bounds = recordings[row].bounds;
+        j.settings.inverted = recordings[row].inverted;
+        if (recordings[row].inverted && strcmp(j.name, "reprint") == 0) j.settings.page = 9;
         if (!is_answer(call(&j, buffer.bytes, buffer.size), PRINT1525_REFUSED, recordings[row].fault, 0, 0) || !is_untouched(buffer.bytes, buffer.size))
             is_wrong("a setting of a recording that is none, row", row);
+        /* Edges have no words. */
+        if (recordings[row].fault != PRINT1525_FAULT_NO_SUCH_RECORDING) continue;
+        print1525_edges(input.bytes, input.size, &j.settings, edges, 4, &details);
+        if (!is_answer(details, PRINT1525_REFUSED, PRINT1525_FAULT_NO_SUCH_RECORDING, 0, 0) || !is_untouched((const uint8_t *)(const void *)edges, sizeof edges))
+            is_wrong("edges by a setting that is none, row", row);
+    }
+    /* No settings say that a run stopped, and what stopped it is none of these numbers. */
+    j.name = "explain_stop";
+    if (make(&j, NULL, buffer.bytes, buffer.size, &details) != PRINT1525_REFUSED || !is_answer(details, PRINT1525_REFUSED, PRINT1525_FAULT_NO_SUCH_STOP, 0, 0))
+        is_wrong("an explanation without settings", (size_t)details.fault);
+    for (row = 0; row < sizeof stops / sizeof *stops; row++) {
+        j.settings = defaults;
+        j.settings.stopped.fault = stops[row];
+        j.settings.stopped.place = 1;
+        if (!is_answer(call(&j, buffer.bytes, buffer.size), PRINT1525_REFUSED, PRINT1525_FAULT_NO_SUCH_STOP, 0, 0) || !is_untouched(buffer.bytes, buffer.size))
+            is_wrong("no BASIC error, row", row);
     }
     for (row = 0; row < 8; row++) {
         j.name = drawing[row / 2];
@@ -727,17 +753,17 @@ static void try_defaults(const job *j, uint8_t *buffer, size_t capacity) {
  * overlaps, with nothing changed. */
 static void try_pointers(void) {
     static const char *const names[] = {"pages", "bus", "listing", "raw", "print", "check", "decode", "reprint", "explain_script", "explain_stop", "explain_trace", "explain_reading"};
-    static const print1525_settings defaults = PRINT1525_SETTINGS_INIT;
+    print1525_settings defaults = PRINT1525_SETTINGS_INIT;
     static uint16_t shared[64];
     static job j;
     const guarded empty = guard(0), buffer = guard(4096);
     uint8_t *const bytes = (uint8_t *)(void *)shared;
     size_t name, at;
+    defaults.stopped.fault = PRINT1525_STOP_FILE_OPEN;
     for (name = 0; name < sizeof names / sizeof *names; name++) {
         print1525_details given, other;
         j.name = names[name];
         j.settings = defaults;
-        j.stopped.fault = PRINT1525_STOP_FILE_OPEN;
         j.input = empty.bytes;
         j.numbers = (const uint16_t *)(const void *)empty.bytes;
         j.length = j.count = 0;
@@ -1226,9 +1252,10 @@ int main(int words, char **word) {
         }
         if (strcmp(j.name, "print") == 0) read_numbers(&j);
         if (strcmp(j.name, "explain_stop") == 0) {
-            print1525_pages(j.input, j.length, &j.settings, NULL, 0, &j.stopped);
-            buffer = guard(j.stopped.length);
-            print1525_pages(j.input, j.length, &j.settings, buffer.bytes, buffer.size, &j.stopped);
+            print1525_pages(j.input, j.length, &j.settings, NULL, 0, &answer);
+            buffer = guard(answer.length);
+            print1525_pages(j.input, j.length, &j.settings, buffer.bytes, buffer.size, &answer);
+            j.settings.stopped = answer;
         }
         answer = call(&j, empty.bytes, 0);
         buffer = guard(answer.fault == PRINT1525_FAULT_TOO_SMALL ? answer.length + 16 : 99);

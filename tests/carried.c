@@ -1,5 +1,5 @@
 /* What a caller of include/print1525.h carries, as the header says: how much stack the calls take, and that they work on a thread with
- * no more; in a child of fork; in a signal handler (the calls for edges and words) while the program is within a call; over a malloc
+ * no more; in a child of fork; in a signal handler (the calls for edges, words and watched printers) while the program is within a call; over a malloc
  * that aligns no better than C demands and gives memory full of rubbish; and into buffers full of rubbish. Status 0, else a line for
  * each thing that is WRONG and 1. With a word it writes the stack that each call takes. Linked with
  * -Wl,--wrap=malloc,--wrap=realloc,--wrap=free. */
@@ -16,7 +16,8 @@
 #include <unistd.h>
 
 #define ROOM (1 << 20)
-#define EDGES_STACK 4096
+/* What the header says of calls that take no memory. */
+#define SMALL_STACK 4096
 #define MARK 0xC7
 
 void *__real_malloc(size_t size);
@@ -83,20 +84,60 @@ static size_t trace_length;
 static const print1525_edge edges[] = {{0, 1, 1, 1}, {100, 0, 1, 1}, {110, 0, 0, 1}, {111, 0, 0, 0}, {300, 0, 1, 0}, {400, 0, 1, 1}, {460, 0, 0, 1}};
 #define COUNT (sizeof edges / sizeof *edges)
 
-/* Each call, by its number; what it gives is in the buffer and the details. */
-#define CALLS 30
-static const char *const names[CALLS] = {"pages list", "pages text", "pages svg", "pages png", "pages pdf", "pages of petcat",
-                                         "bus text", "bus vcd", "bus of petcat", "listing", "raw text", "raw pdf", "print svg", "check",
-                                         "decoder", "strict", "strict list", "words", "readings", "readings as JSON", "reprint", "check as a story",
-                                         "check as JSON", "explain script", "explain stop", "explain trace", "explain reading", "edges", "a sheet",
-                                         "receiver"};
-static const int is_for_edges[CALLS] = {0, 0, 0, 0, 0, 0, 0, 0, 0, 0, 0, 0, 0, 0, 1, 1, 1, 1, 0, 0, 0, 0, 0, 0, 0, 0, 0, 0, 0, 1};
+/* Each call, by its number, and how much stack it takes at most; what it gives is in the buffer and the details. */
+static const struct {
+    const char *name;
+    size_t stack;
+} calls[] = {
+    {"pages list", PRINT1525_STACK}, {"pages text", PRINT1525_STACK}, {"pages svg", PRINT1525_STACK}, {"pages png", PRINT1525_STACK}, {"pages pdf", PRINT1525_STACK},
+    {"pages of petcat", PRINT1525_STACK}, {"bus text", PRINT1525_STACK}, {"bus vcd", PRINT1525_STACK}, {"bus of petcat", PRINT1525_STACK}, {"listing", PRINT1525_STACK},
+    {"raw text", PRINT1525_STACK}, {"raw pdf", PRINT1525_STACK}, {"print svg", PRINT1525_STACK}, {"check", PRINT1525_STACK}, {"decoder", SMALL_STACK},
+    {"strict", SMALL_STACK}, {"strict list", SMALL_STACK}, {"words", SMALL_STACK}, {"readings", PRINT1525_STACK}, {"readings as JSON", PRINT1525_STACK},
+    {"reprint", PRINT1525_STACK}, {"check as a story", PRINT1525_STACK}, {"check as JSON", PRINT1525_STACK}, {"explain script", PRINT1525_STACK},
+    {"explain stop", PRINT1525_STACK}, {"explain trace", PRINT1525_STACK}, {"explain reading", PRINT1525_STACK}, {"edges", PRINT1525_STACK},
+    {"a sheet", PRINT1525_STACK}, {"receiver", SMALL_STACK}, {"printer, byte by byte", SMALL_STACK}, {"printer, bytes", SMALL_STACK}, {"printer, page", SMALL_STACK},
+    {"printer, draw", SMALL_STACK},
+};
+#define CALLS ((int)(sizeof calls / sizeof *calls))
+
+/* Whether a call takes no memory, so that it may be made in a signal handler. */
+static int is_for_handlers(int call) { return calls[call].stack < PRINT1525_STACK; }
+
+/* What the watched printer prints: characters, a repeat over the end of a line, a position, codes. */
+static const char printed[] = "AB\016C\r\022D\r\010\032\377\201\032\377\252\r\017\020" "12E\033\020\001\101F";
+#define PRINTED (sizeof printed - 1)
+/* Room in a handler's buffer for the marks of a byte. */
+#define HANDLERS_ROOM (PRINT1525_MARKS_OF_A_BYTE * sizeof(print1525_mark))
+
+/* The calls of a watched printer, from 30 on: its last marks are in the buffer, or pixels. */
+static void make_printed(int call, uint8_t *buffer, size_t room, print1525_details *details) {
+    static const print1525_mark marks[] = {{0, 0, PRINT1525_CELL, 65, 1, 0, 0}, {7, 5, PRINT1525_DOTS, 77, 0, 0, 0}, {1, 9, PRINT1525_CELL, 88, 0, 1, 1}};
+    const print1525_region region = {0, 0, 40, 20};
+    print1525_mark *const made = (print1525_mark *)(void *)buffer;
+    print1525_printer printer;
+    size_t index;
+    if (call == 32) {
+        print1525_printer_page(marks, 3, &region, buffer, room, details);
+    } else if (call == 33) {
+        memset(buffer, 255, 40 * 20);
+        print1525_printer_draw(marks, 3, &region, buffer, room, details);
+    } else {
+        print1525_printer_begin(&printer);
+        print1525_printer_select(&printer, PRINT1525_SET_LOWER);
+        memset(buffer, 0, HANDLERS_ROOM);
+        for (index = 0; call == 30 && index < PRINTED; index++) print1525_printer_byte(&printer, (uint8_t)printed[index], made, PRINT1525_MARKS_OF_A_BYTE, details);
+        for (index = 0; call == 31 && index < PRINTED; index += details->place)
+            print1525_printer_bytes(&printer, printed + index, PRINTED - index, made, PRINT1525_MARKS_OF_A_BYTE, details);
+        /* (Nothing is said of the byte that no field has.) */
+        for (index = 0; index < details->length; index++) buffer[index * sizeof *made + sizeof *made - 1] = 0;
+        details->length *= sizeof *made;
+    }
+}
 
 /* The calls from 18 on: recordings, explanations, and a receiver. */
 static void make_more(int call, uint8_t *buffer, size_t room, print1525_details *details) {
     static const char bad[] = "REM\nOPEN 4,4:PRONT#4\n";
     print1525_settings settings = PRINT1525_SETTINGS_INIT;
-    print1525_details stopped = {PRINT1525_STOPPED, PRINT1525_STOP_FILE_NOT_OPEN, 6, 0, 0};
     print1525_receiver receiver;
     print1525_received received = {0, 0, 0};
     size_t index;
@@ -113,7 +154,9 @@ static void make_more(int call, uint8_t *buffer, size_t room, print1525_details 
     } else if (call == 23) {
         print1525_explain_script(bad, sizeof bad - 1, &settings, buffer, room, details);
     } else if (call == 24) {
-        print1525_explain_stop(script, sizeof script - 1, &settings, &stopped, buffer, room, details);
+        settings.stopped.fault = PRINT1525_STOP_FILE_NOT_OPEN;
+        settings.stopped.place = 7;
+        print1525_explain_stop(script, sizeof script - 1, &settings, buffer, room, details);
     } else if (call == 25) {
         print1525_explain_trace(trace, trace_length / 2, &settings, buffer, room, details);
     } else if (call == 26) {
@@ -143,7 +186,8 @@ static void make(int call, uint8_t *buffer, size_t room, print1525_details *deta
     size_t index;
     memset(details, 0, sizeof *details);
     if (call >= 18) {
-        make_more(call, buffer, room, details);
+        if (call >= 30) make_printed(call, buffer, room, details);
+        else make_more(call, buffer, room, details);
         return;
     }
     settings.from = call == 5 || call == 8 || call == 9 ? PRINT1525_FROM_PETCAT : PRINT1525_FROM_TEXT;
@@ -186,12 +230,12 @@ static void make(int call, uint8_t *buffer, size_t room, print1525_details *deta
 }
 
 /* What each call gives in the main program, and buffers for others. */
-static uint8_t wanted[CALLS][ROOM], given[ROOM];
-static print1525_details wanted_details[CALLS];
+static uint8_t wanted[sizeof calls / sizeof *calls][ROOM], given[ROOM];
+static print1525_details wanted_details[sizeof calls / sizeof *calls];
 
 static void compare(int call, const print1525_details *details, const uint8_t *buffer, const char *where) {
     if (memcmp(details, &wanted_details[call], sizeof *details) != 0 || memcmp(buffer, wanted[call], details->length) != 0) {
-        fprintf(stderr, "WRONG: %s %s: status %d, fault %d\n", names[call], where, details->status, details->fault);
+        fprintf(stderr, "WRONG: %s %s: status %d, fault %d\n", calls[call].name, where, details->status, details->fault);
         wrong = 1;
     }
 }
@@ -248,10 +292,10 @@ static void try_stacks(int tells) {
     for (call = 0; call < CALLS; call++) {
         size_t used = stack_of(call, stack + guard, size);
         used = used > none ? used - none : 0;
-        if (tells) printf("%s %lu\n", names[call], (unsigned long)used);
+        if (tells) printf("%s %lu\n", calls[call].name, (unsigned long)used);
         compare(call, &thread_details, given, "on a thread");
         /* (What `make` takes itself is a part of it.) */
-        if (used > (is_for_edges[call] ? EDGES_STACK : PRINT1525_STACK)) is_wrong(names[call], used);
+        if (used > calls[call].stack) is_wrong(calls[call].name, used);
     }
     /* A thread with that stack and no more, above memory that faults. */
     for (call = 0; call < CALLS; call++) {
@@ -279,12 +323,12 @@ static void try_fork(void) {
 static volatile sig_atomic_t signals;
 
 static void handle(int signal) {
-    static uint8_t buffer[256];
+    static uint8_t buffer[HANDLERS_ROOM];
     print1525_details details;
     int call;
     (void)signal;
     for (call = 0; call < CALLS; call++) {
-        if (!is_for_edges[call]) continue;
+        if (!is_for_handlers(call)) continue;
         make(call, buffer, sizeof buffer, &details);
         if (memcmp(&details, &wanted_details[call], sizeof details) != 0) wrong = 1;
     }
@@ -324,7 +368,7 @@ int main(int words, char **word) {
     for (call = 0; call < CALLS; call++) {
         memset(wanted[call], 0xA5, ROOM);
         make(call, wanted[call], ROOM, &wanted_details[call]);
-        if (!is_for_edges[call] && wanted_details[call].status > PRINT1525_STOPPED) is_wrong("no text, call", (unsigned long)call);
+        if (!is_for_handlers(call) && wanted_details[call].status > PRINT1525_STOPPED) is_wrong("no text, call", (unsigned long)call);
         memset(text, 0x3C, ROOM);
         make(call, text, ROOM, &details);
         compare(call, &details, text, "in another buffer");

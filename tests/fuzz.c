@@ -1,9 +1,10 @@
 /* Every call of include/print1525.h with made structures and buffers, many of them damaged: fuzz SEED ROUNDS
  *
  * Each input and buffer ends where memory ends. In each round a call, its settings, its input and its room are drawn; settings,
- * decoders and receivers are mostly lawful, and sometimes bytes of nothing. What every call has to keep is tested: a status of 0 to 3
- * with the details that belong to it, a buffer that stays as it was after the text and with every other status, inputs that stay,
- * and the same answer when it is asked again. Some allocations are refused. Status 0, else 1 and a line with the round. */
+ * decoders, receivers and printers are mostly lawful, and sometimes bytes of nothing. What every call has to keep is tested: a status of
+ * 0 to 3 with the details that belong to it, a buffer that stays as it was behind the text and with every other status, inputs that stay,
+ * and the same answer when it is asked again. Some allocations are refused. Status 0, else 1 and a line with the round. (tests/header.py
+ * says which calls of the header are not here.) */
 #define _DEFAULT_SOURCE
 #include "print1525.h"
 #include <stdio.h>
@@ -16,6 +17,8 @@
 #define UNTOUCHED 0xA5
 /* How many settings are numbers of a byte, from `present` on. */
 #define SETTINGS 12
+/* Where a printer has no room for a line more: only one of damaged numbers comes there. */
+#define LAST_LINE (((uint64_t)1 << 63) - 9999)
 
 void *__real_malloc(size_t size);
 void *__real_realloc(void *old, size_t size);
@@ -148,6 +151,9 @@ static print1525_settings made_settings(uint8_t *memories[4]) {
     made.printer4_delays.numbers = made_numbers(memories[1], 9, &made.printer4_delays.length);
     made.printer5_delays.numbers = made_numbers(memories[2], 9, &made.printer5_delays.length);
     if (below(6) == 0) made.characters = made_input(memories[3], &made.characters_length);
+    made.stopped.status = PRINT1525_STOPPED;
+    made.stopped.fault = below(9) ? PRINT1525_STOP_TOO_MANY_FILES + (int32_t)below(7) : (int32_t)(drawn() >> 9 & 0x7FFFFFFF);
+    made.stopped.place = below(9) ? below(6) : (size_t)drawn();
     return made;
 }
 
@@ -182,12 +188,6 @@ static int edges(const void *input, size_t length, const print1525_settings *set
     return status;
 }
 
-static int stop(const void *input, size_t length, const print1525_settings *settings, void *buffer, size_t capacity, print1525_details *details) {
-    details->fault = PRINT1525_STOP_TOO_MANY_FILES + (int)(length % 7);
-    details->place = length % 5;
-    return print1525_explain_stop(input, length, settings, details, buffer, capacity, details);
-}
-
 static int print(const void *input, size_t length, const print1525_settings *settings, void *buffer, size_t capacity, print1525_details *details) {
     return print1525_print((const uint16_t *)input, length, settings, buffer, capacity, details);
 }
@@ -199,7 +199,7 @@ static const struct {
 } calls[] = {
     {"edges", edges, 1}, {"pages", print1525_pages, 0}, {"bus", print1525_bus, 0}, {"listing", print1525_listing, 0}, {"raw", print1525_raw, 0},
     {"check", print1525_check, 1}, {"readings", print1525_readings, 1}, {"reprint", print1525_reprint, 1}, {"explain_script", print1525_explain_script, 0},
-    {"explain_stop", stop, 0}, {"explain_trace", print1525_explain_trace, 0}, {"explain_reading", print1525_explain_reading, 0}, {"print", print, 0},
+    {"explain_stop", print1525_explain_stop, 0}, {"explain_trace", print1525_explain_trace, 0}, {"explain_reading", print1525_explain_reading, 0}, {"print", print, 0},
 };
 #define CALLS (sizeof calls / sizeof *calls)
 #define PRINT (CALLS - 1)
@@ -346,6 +346,155 @@ static void try_strict(uint8_t *memories[6]) {
     if (!is_untouched(memories[5], ROOM - 2 * room) || !is_untouched(memories[5] + ROOM - 2 * (room - index), 2 * (room - index))) is_wrong("strict_edges", "the buffer");
 }
 
+/* Bytes that a printer gets, many of them the codes of its commands. */
+static const uint8_t *made_bytes(uint8_t *memory, size_t *length) {
+    static const uint8_t codes[] = {8, 10, 13, 14, 15, 16, 17, 18, 26, 27, 145, 146, '0', '3', 0, 1, 200, 255, 129};
+    size_t index;
+    uint8_t *front;
+    *length = below(3) ? below(40) : below(3);
+    if (*length == 0 && below(2)) return NULL;
+    front = memory + ROOM - *length;
+    for (index = 0; index < *length; index++) front[index] = below(3) ? codes[below(sizeof codes)] : (uint8_t)drawn();
+    return front;
+}
+
+static int is_same_printer(const print1525_printer *a, const print1525_printer *b) {
+    return memcmp(a, b, offsetof(print1525_printer, parameter) + 1) == 0;
+}
+
+static int is_same_mark(const print1525_mark *a, const print1525_mark *b) {
+    return memcmp(a, b, offsetof(print1525_mark, wide) + 1) == 0;
+}
+
+/* Marks that a printer made between two lines, each at its place and none above the one before it. */
+static void test_marks(const char *call, const print1525_mark *marks, size_t length, uint64_t from, uint64_t to) {
+    size_t index;
+    for (index = 0; index < length; index++) {
+        const print1525_mark *const it = marks + index;
+        if (it->x > 479 || it->kind > PRINT1525_DOTS || it->lower > 1 || it->reverse > 1 || it->wide > 1) is_wrong(call, "a mark");
+        if (from < LAST_LINE && (it->y < from || it->y > to || (index > 0 && it->y < marks[index - 1].y))) is_wrong(call, "the place of a mark");
+    }
+}
+
+/* A printer as it was before some bytes, given them one by one: the same marks, and the same printer behind them. */
+static void test_one_by_one(print1525_printer *other, const uint8_t *bytes, size_t all, const print1525_mark *marks, size_t length, const print1525_printer *printer) {
+    print1525_mark made[PRINT1525_MARKS_OF_A_BYTE];
+    print1525_details details;
+    size_t byte, index, count = 0;
+    for (byte = 0; byte < all; byte++) {
+        if (print1525_printer_byte(other, bytes[byte], made, PRINT1525_MARKS_OF_A_BYTE, &details) != PRINT1525_DONE) is_wrong("printer_byte", "a byte that was taken");
+        for (index = 0; index < details.length; index++, count++)
+            if (count >= length || !is_same_mark(made + index, marks + count)) is_wrong("printer_bytes", "another mark");
+    }
+    if (count != length) is_wrong("printer_bytes", "more marks");
+    if (!is_same_printer(other, printer)) is_wrong("printer_bytes", "another printer");
+}
+
+/* Some bytes for a printer; how many marks they make. */
+static size_t try_bytes(print1525_printer *printer, print1525_mark *marks, size_t room, print1525_details *details, uint8_t *memories[6]) {
+    const print1525_printer before = *printer;
+    print1525_printer other = before;
+    size_t length;
+    const uint8_t *const bytes = made_bytes(memories[4], &length);
+    uint8_t copy[40];
+    if (length) memcpy(copy, bytes, length);
+    if (length && below(3) == 0) {
+        const int status = print1525_printer_byte(printer, *bytes, marks, room, details);
+        test_details("printer_byte", status, details, room, 0);
+        if (status != PRINT1525_DONE && (details->fault != PRINT1525_FAULT_TOO_SMALL || !is_same_printer(&before, printer))) is_wrong("printer_byte", "a printer that refuses");
+        if (details->length > PRINT1525_MARKS_OF_A_BYTE) is_wrong("printer_byte", "too many marks");
+        if (status != PRINT1525_DONE) return 0;
+        length = 1;
+    } else {
+        test_details("printer_bytes", print1525_printer_bytes(printer, bytes, length, marks, room, details), details, room, 0);
+        if (details->status != PRINT1525_DONE || details->place > length) is_wrong("printer_bytes", "how many were taken");
+        if (length && room >= PRINT1525_MARKS_OF_A_BYTE && details->place == 0) is_wrong("printer_bytes", "no byte is taken");
+        if (details->place < length && details->length + PRINT1525_MARKS_OF_A_BYTE <= room) is_wrong("printer_bytes", "a byte that has room");
+        if (length && memcmp(copy, bytes, length) != 0) is_wrong("printer_bytes", "the input");
+        length = details->place;
+    }
+    if (length && printer->x > 480) is_wrong("printer_bytes", "the column");
+    test_marks("printer_bytes", marks, details->length, before.y, printer->y);
+    test_one_by_one(&other, bytes, length, marks, details->length, printer);
+    return details->length;
+}
+
+/* The pixels of a region with some marks: once over paper, and once drawn over paper, where they are the same. */
+static void try_pixels(const print1525_mark *marks, size_t length, print1525_details *details, uint8_t *memories[6]) {
+    static uint8_t paper[64 * 64];
+    print1525_region *const region = (print1525_region *)(void *)(memories[3] + ROOM - sizeof *region);
+    size_t size, room, index;
+    uint8_t *pixels;
+    int status, drawn_status;
+    print1525_details drawn_details;
+    region->x = below(9) ? below(960) : drawn();
+    region->y = length && below(9) ? marks[below(length)].y - below(20) : drawn() >> below(64);
+    region->width = below(30) ? below(64) : (size_t)(drawn() >> below(64));
+    region->height = below(30) ? below(64) : (size_t)(drawn() >> below(64));
+    size = region->width < 64 && region->height < 64 ? region->width * region->height : 0;
+    room = below(5) ? size : below(64 * 64);
+    pixels = memories[1] + ROOM - room;
+    memset(memories[1], UNTOUCHED, ROOM);
+    memset(paper, 255, sizeof paper);
+    status = print1525_printer_page(marks, length, region, room ? pixels : NULL, room, details);
+    drawn_status = print1525_printer_draw(marks, length, region, room ? paper : NULL, room, &drawn_details);
+    test_details("printer_page", status, details, room, 0);
+    if (status != drawn_status || memcmp(details, &drawn_details, sizeof drawn_details) != 0) is_wrong("printer_draw", "another answer");
+    if (status == PRINT1525_REFUSED && details->fault != PRINT1525_FAULT_TOO_LARGE) is_wrong("printer_page", "the fault");
+    if (status == PRINT1525_DONE && region->width < 64 && region->height < 64 && details->length != size) is_wrong("printer_page", "how many pixels");
+    size = status == PRINT1525_DONE ? details->length : 0;
+    if (!is_untouched(memories[1], ROOM - room) || !is_untouched(pixels + size, room - size)) is_wrong("printer_page", "the buffer");
+    for (index = 0; index < room; index++)
+        if (paper[index] != (index < size ? pixels[index] : 255) || (index < size && pixels[index] != 0 && pixels[index] != 255)) is_wrong("printer_draw", "a pixel");
+}
+
+static void try_printer(uint8_t *memories[6]) {
+    print1525_printer *const printer = (print1525_printer *)(void *)(memories[0] + ROOM - sizeof *printer);
+    print1525_details *const details = (print1525_details *)(void *)(memories[2] + ROOM - sizeof *details);
+    const size_t room = below(4) ? PRINT1525_MARKS_OF_A_BYTE + below(300) : below(20);
+    print1525_mark *const marks = (print1525_mark *)(void *)(memories[5] + ROOM - room * sizeof *marks);
+    size_t count, length = 0;
+    memset(memories[5], UNTOUCHED, ROOM);
+    if (print1525_printer_begin(printer) != PRINT1525_DONE) is_wrong("printer_begin", "the status");
+    for (count = below(20); count > 0; count--) {
+        if (below(5) == 0) {
+            const print1525_printer before = *printer;
+            const uint8_t set = (uint8_t)(below(4) ? below(2) : drawn());
+            if (print1525_printer_select(printer, set) != (set < 2 ? PRINT1525_DONE : PRINT1525_REFUSED)) is_wrong("printer_select", "the set");
+            if (set < 2 ? printer->lower != set : !is_same_printer(&before, printer)) is_wrong("printer_select", "the printer");
+        }
+        if (below(9) == 0) damage(printer, sizeof *printer);
+        memset(memories[5], UNTOUCHED, ROOM);
+        length = try_bytes(printer, room ? marks : NULL, room, details, memories);
+        if (!is_untouched(memories[5], ROOM - room * sizeof *marks) || !is_untouched((uint8_t *)(void *)(marks + length), (room - length) * sizeof *marks))
+            is_wrong("printer_bytes", "the buffer");
+        /* (Marks may be bytes of nothing too.) */
+        if (length && below(6) == 0) damage(marks, length * sizeof *marks);
+        try_pixels(room ? marks : NULL, length, details, memories);
+    }
+}
+
+/* Words of any numbers, in any room. */
+static void try_words(uint8_t *memories[6]) {
+    print1525_details *const details = (print1525_details *)(void *)(memories[2] + ROOM - sizeof *details);
+    const size_t room = below(3) ? below(100) : below(5);
+    char *const text = (char *)memories[5] + ROOM - room;
+    char all[200];
+    size_t length;
+    memset(memories[5], UNTOUCHED, ROOM);
+    details->status = (int32_t)(below(9) ? below(4) : drawn() >> 40);
+    details->fault = (int32_t)(below(9) ? below(110) : drawn() >> 33);
+    details->place = (size_t)(drawn() >> below(64));
+    details->column = below(2) ? 0 : (size_t)(drawn() >> below(64));
+    details->length = (size_t)drawn();
+    length = print1525_message(details, room ? text : NULL, room);
+    if (length >= sizeof all || print1525_message(details, all, sizeof all) != length || strlen(all) != length) is_wrong("message", "its length");
+    if (details->status == PRINT1525_DONE ? length != 0 : strstr(all, print1525_strerror(details->fault)) == NULL) is_wrong("message", "its words");
+    if (room && (strlen(text) != (length < room ? length : room - 1) || strncmp(text, all, room - 1) != 0)) is_wrong("message", "the text");
+    if (!is_untouched(memories[5], ROOM - room) || (room > length && !is_untouched(memories[5] + ROOM - room + length + 1, room - length - 1))) is_wrong("message", "the buffer");
+    if (strcmp(print1525_version(), PRINT1525_VERSION) != 0) is_wrong("version", "its text");
+}
+
 int main(int words, char **word) {
     const unsigned long rounds = words > 2 ? strtoul(word[2], NULL, 10) : 1000;
     uint8_t *memories[6];
@@ -353,10 +502,12 @@ int main(int words, char **word) {
     state = (words > 1 ? strtoul(word[1], NULL, 10) : 1) * 0x9E3779B97F4A7C15u | 1;
     for (index = 0; index < 6; index++) memories[index] = guard();
     for (round_now = 0; round_now < rounds; round_now++) {
-        switch (below(9)) {
+        switch (below(11)) {
         case 0: try_decoder(memories); break;
         case 1: try_strict(memories); break;
         case 2: try_receiver(memories); break;
+        case 3: try_printer(memories); break;
+        case 4: try_words(memories); break;
         default: try_text(memories); break;
         }
     }

@@ -16,7 +16,7 @@ static uint8_t inputs[MANY], drawn[HEIGHT][WIDTH], page[HEIGHT][WIDTH], part[HEI
 #define WANT(condition)                                                    \
     do {                                                                   \
         if (!(condition)) {                                                \
-            fprintf(stderr, "line %d: %s\n", __LINE__, #condition);        \
+            fprintf(stderr, "WRONG: line %d: %s\n", __LINE__, #condition); \
             return 1;                                                      \
         }                                                                  \
     } while (0)
@@ -53,7 +53,7 @@ static int refusals(void) {
     print1525_details details;
     print1525_mark mark[2];
     uint8_t pixels[16];
-    size_t taken = 7, n;
+    size_t n;
     memset(&printer, 0, sizeof printer);
     WANT(print1525_printer_begin(NULL) == PRINT1525_REFUSED);
     WANT(print1525_printer_begin(&printer) == PRINT1525_DONE);
@@ -63,21 +63,26 @@ static int refusals(void) {
     WANT(print1525_printer_select(NULL, 0) == PRINT1525_REFUSED);
     WANT(print1525_printer_byte(NULL, 65, mark, 2, &details) == PRINT1525_REFUSED && details.fault == PRINT1525_FAULT_NULL_POINTER);
     WANT(print1525_printer_byte(&printer, 65, NULL, 2, &details) == PRINT1525_REFUSED && details.fault == PRINT1525_FAULT_NULL_POINTER);
-    WANT(print1525_printer_bytes(&printer, NULL, 1, &taken, mark, 2, &details) == PRINT1525_REFUSED && details.fault == PRINT1525_FAULT_NULL_POINTER);
-    WANT(print1525_printer_bytes(&printer, "A", 1, NULL, mark, 2, &details) == PRINT1525_REFUSED && details.fault == PRINT1525_FAULT_NULL_POINTER);
-    WANT(print1525_printer_bytes(&printer, mark, 1, &taken, mark, 2, &details) == PRINT1525_REFUSED && details.fault == PRINT1525_FAULT_OVERLAP);
+    WANT(print1525_printer_bytes(NULL, "A", 1, mark, 2, &details) == PRINT1525_REFUSED && details.fault == PRINT1525_FAULT_NULL_POINTER && details.place == 0);
+    WANT(print1525_printer_bytes(&printer, NULL, 1, mark, 2, &details) == PRINT1525_REFUSED && details.fault == PRINT1525_FAULT_NULL_POINTER);
+    WANT(print1525_printer_bytes(&printer, "A", 1, NULL, 2, &details) == PRINT1525_REFUSED && details.fault == PRINT1525_FAULT_NULL_POINTER);
+    WANT(print1525_printer_bytes(&printer, mark, 1, mark, 2, &details) == PRINT1525_REFUSED && details.fault == PRINT1525_FAULT_OVERLAP);
     print1525_mark *const itself = (print1525_mark *)(void *)&printer;
     WANT(print1525_printer_byte(&printer, 65, itself, 1, &details) == PRINT1525_REFUSED && details.fault == PRINT1525_FAULT_OVERLAP);
-    WANT(print1525_printer_bytes(&printer, "A", 1, &taken, itself, 1, &details) == PRINT1525_REFUSED && details.fault == PRINT1525_FAULT_OVERLAP);
-    // (so many items that their bytes have no number)
+    WANT(print1525_printer_bytes(&printer, "A", 1, itself, 1, &details) == PRINT1525_REFUSED && details.fault == PRINT1525_FAULT_OVERLAP);
+    // (so many items that the number of their bytes is none)
     const size_t many = SIZE_MAX / 16 + 1;
-    WANT(print1525_printer_bytes(&printer, "A", 1, &taken, NULL, many, &details) == PRINT1525_REFUSED && details.fault == PRINT1525_FAULT_NULL_POINTER);
+    WANT(print1525_printer_bytes(&printer, "A", 1, NULL, many, &details) == PRINT1525_REFUSED && details.fault == PRINT1525_FAULT_NULL_POINTER);
     WANT(print1525_printer_page(NULL, many, NULL, NULL, 0, &details) == PRINT1525_REFUSED && details.fault == PRINT1525_FAULT_NULL_POINTER);
     WANT(print1525_strict_edges(4, NULL, many, NULL, 0, &details) == PRINT1525_REFUSED && details.fault == PRINT1525_FAULT_NULL_POINTER);
-    WANT(taken == 7);
-    WANT(print1525_printer_bytes(&printer, "AB", 2, &taken, NULL, 0, &details) == PRINT1525_DONE && taken == 0 && details.length == 0);
-    WANT(print1525_printer_bytes(&printer, NULL, 0, &taken, NULL, 0, &details) == PRINT1525_DONE && taken == 0 && details.length == 0);
+    details.place = 7;
+    WANT(print1525_printer_bytes(&printer, "AB", 2, NULL, 0, &details) == PRINT1525_DONE && details.place == 0 && details.length == 0);
+    details.place = 7;
+    WANT(print1525_printer_bytes(&printer, NULL, 0, NULL, 0, &details) == PRINT1525_DONE && details.place == 0 && details.length == 0);
     WANT(memcmp(&begun, &printer, sizeof printer) == 0);
+    /* Details that nobody wants: the bytes are taken all the same. */
+    WANT(print1525_printer_bytes(&begun, "AB", 2, mark, 2, NULL) == PRINT1525_DONE && begun.x == 12 && mark[1].value == 66);
+    WANT(print1525_printer_bytes(&printer, "ABC", 3, mark, 2, &details) == PRINT1525_DONE && details.place == 2 && details.length == 2 && printer.x == 12);
     memset(mark, 0, sizeof mark);
     memset(pixels, 7, sizeof pixels);
     WANT(print1525_printer_page(mark, 1, NULL, pixels, 16, &details) == PRINT1525_REFUSED && details.fault == PRINT1525_FAULT_NULL_POINTER);
@@ -116,7 +121,7 @@ int main(void) {
     print1525_printer printer, other;
     print1525_region window = {0, 0, WIDTH, HEIGHT}, place;
     print1525_details details;
-    size_t marks = 0, bytes = 0, n, taken, x, y;
+    size_t marks = 0, bytes = 0, n, x, y;
     unsigned input;
 
     if (refusals() || any_numbers()) return 1;
@@ -153,9 +158,9 @@ int main(void) {
     }
     for (x = PRINT1525_MARKS_OF_A_BYTE; x < 2000; x += 311) {
         print1525_printer_begin(&other);
-        for (n = y = 0; n < bytes; n += taken, y += details.length) {
-            WANT(print1525_printer_bytes(&other, inputs + n, bytes - n, &taken, again + y, x, &details) == PRINT1525_DONE);
-            WANT(taken > 0 && details.length <= x);
+        for (n = y = 0; n < bytes; n += details.place, y += details.length) {
+            WANT(print1525_printer_bytes(&other, inputs + n, bytes - n, again + y, x, &details) == PRINT1525_DONE);
+            WANT(details.place > 0 && details.place <= bytes - n && details.length <= x);
         }
         WANT(y == marks && other.y == printer.y && other.x == printer.x && other.pending == printer.pending);
         for (n = 0; n < marks; n++)

@@ -1,10 +1,10 @@
 #!/usr/bin/env python3
-"""tests/readings.py [--frames|--fields|--odd|--json] [--intervals] [--bounds profile|guide] [--sigrok RULE..] < TRACE: what a
+"""tests/readings.py [--frames|--fields|--odd [FORM]|--json] [--intervals] [--bounds profile|guide] [--sigrok RULE..] < TRACE: what a
 recording says, by the definitions and not by the program's code.
 
 It goes through whole stretches (crates/pr_decode/specs/Readings.antt) and writes the lines of `print1525 decode`
 (crates/pr_report/specs) up to the verdict, with --bounds guide up to and with it, or with --odd those after it, on what
-is odd about the recording. --intervals and --bounds guide are those of `decode`, --json is its `--as json` without the
+is odd about the recording, of which the trace is written so: text, signals or inverted. --intervals and --bounds guide are those of `decode`, --json is its `--as json` without the
 verdict. With --frames it writes of each whole byte when it was ready, CLOCK's last pull, and the byte. The times of the
 trace do not go back.
 
@@ -322,10 +322,19 @@ def tell(readings, bounds, has_intervals):
         print(guide_verdict(readings))
 
 
-def tell_oddities(edges, readings):
-    """Writes what is odd about a recording, and what to try."""
+# What to try of a recording, by its form.
+ADVICE = {
+    "text": "in a trace text the levels are those of ATN, CLOCK and DATA, and 1 is released",
+    "signals": "try --invert for probes behind inverters, or other signals with --names",
+    "inverted": "try without --invert, or other signals with --names",
+}
+
+
+def tell_oddities(edges, readings, form="text"):
+    """Writes what is odd about a recording in this form, and what to try."""
     odd = []
-    if not any(reading.end == "acknowledged" for reading in readings):
+    has_byte = any(reading.end == "acknowledged" for reading in readings)
+    if not has_byte:
         odd.append("no byte is acknowledged")
     if all(edge.atn for edge in edges):
         odd.append("attention never comes: ATN is not pulled")
@@ -333,7 +342,8 @@ def tell_oddities(edges, readings):
         if edges and not getattr(edges[0], line) and not getattr(edges[-1], line):
             odd.append(name + " rests at 0")
     if odd:
-        print(*odd, "try --invert for probes behind inverters, or other signals with --names", sep="\n")
+        front = "if the bytes make no sense, " if has_byte and form != "text" else ""
+        print(*odd, front + ADVICE[form], sep="\n")
 
 
 def tell_json(readings):
@@ -378,7 +388,7 @@ def main():
     edges = [Edge(line) for line in sys.stdin]
     readings = readings_of(edges, rules)
     if words[:1] == ["--odd"]:
-        tell_oddities(edges, readings)
+        tell_oddities(edges, readings, *words[1:2])
         return
     if words[:1] == ["--fields"]:
         for reading in readings:

@@ -109,7 +109,19 @@ def samples_of(edges, choice):
     return head + ",".join(NAMES) + "\n" + "\n".join(rows) + "\n", ["--from", "csv", *words]
 
 
-FORMS = (text_of, dump_of, dump_of, table_of, table_of, table_of)
+def numbers_of(edges, choice):
+    """A row a change, each anywhere in its microsecond: with the number of its sample, or with sigrok-cli's time of it, which is that number
+    times the whole nanoseconds of one sample."""
+    rate = choice.choice((3, 12, 24))
+    name, step = choice.choice((("Sample", 1), ("Time", 1000 // rate)))
+    lines = [f"; Samplerate: {rate} MHz", ",".join([name, *NAMES])]
+    for time, levels in edges:
+        number = time * rate + choice.randrange(rate)
+        lines.append(",".join([str(number * step), *levels]))
+    return "\n".join(lines) + "\n", ["--from", "csv"]
+
+
+FORMS = (text_of, dump_of, dump_of, table_of, table_of, table_of, numbers_of)
 WAYS = ([], [], ["--intervals"], ["--bounds", "guide"], ["--intervals", "--bounds", "guide"], ["--as", "json"])
 
 
@@ -117,17 +129,21 @@ def readings_in(edges):
     return readings.readings_of([readings.Edge(f"{time} {levels}") for time, levels in edges], ())
 
 
-def wanted_of(edges, way):
-    """What is to be written of these edges, without the line of the profile's verdict."""
+def wanted_of(edges, way, words):
+    """What is to be written of these edges, without the line of the profile's verdict, and what on standard error."""
     found = readings_in(edges)
     edges = [readings.Edge(f"{time} {levels}") for time, levels in edges]
+    form = "text" if "text" in words else "inverted" if "--invert" in words else "signals"
+    with contextlib.redirect_stdout(io.StringIO()) as odd:
+        readings.tell_oddities(edges, found, form)
     with contextlib.redirect_stdout(io.StringIO()) as text:
         if "json" in way:
             readings.tell_json(found)
         else:
             readings.tell(found, readings.GUIDE if "guide" in way else readings.PROFILE, "--intervals" in way)
-            readings.tell_oddities(edges, found)
-    return text.getvalue()
+    if "json" in way:
+        return text.getvalue(), re.sub("(?m)^", "  ", odd.getvalue()).rstrip(" ")
+    return text.getvalue() + odd.getvalue(), ""
 
 
 def without_verdict(text):
@@ -150,8 +166,8 @@ def differs(program, seed):
     way = choice.choice(WAYS)
     command = [program, "decode", *words, *way]
     ran = subprocess.run(command, input=text.encode(), stdout=subprocess.PIPE, stderr=subprocess.PIPE, check=False)
-    said, wanted = without_verdict(ran.stdout.decode()), wanted_of(edges, way)
-    if ran.returncode == 0 and not ran.stderr and said == wanted:
+    said, (wanted, aside) = without_verdict(ran.stdout.decode()), wanted_of(edges, way, words)
+    if ran.returncode == 0 and ran.stderr.decode() == aside and said == wanted:
         return None
     with tempfile.NamedTemporaryFile("w", delete=False, suffix=f"-{seed}") as file:
         file.write(text)

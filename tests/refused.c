@@ -3,7 +3,7 @@
  * CHARACTERS is a file as of --characters. Every call that takes memory is made over small inputs with its settings in turn. Where an
  * allocation is refused, the call fails with PRINT1525_FAULT_NO_MEMORY and nothing else in the details, or it does without and answers as
  * ever. In both cases all memory is given back, each block once; the inputs and the settings stay as they were, and so does the whole
- * buffer of a call that fails. Calls for edges and words take no memory at all. Nothing waits: a call that takes more than MOST
+ * buffer of a call that fails. Calls for edges, words and watched printers take no memory at all. Nothing waits: a call that takes more than MOST
  * allocations, and a test that takes more than SECONDS, is WRONG. Status 0, else 1 and a line for each thing that is WRONG. With `tell` it
  * writes how many allocations each call made. Linked with -Wl,--wrap=malloc,--wrap=realloc,--wrap=free. */
 #define _DEFAULT_SOURCE
@@ -108,7 +108,6 @@ typedef struct {
 
 static int make(const job *j, const print1525_settings *settings, uint8_t *buffer, size_t capacity, print1525_details *details) {
     const char *const it = j->name;
-    print1525_details stop = {PRINT1525_STOPPED, PRINT1525_STOP_FILE_NOT_OPEN, 3, 0, 0};
     int status;
     if (strcmp(it, "pages") == 0) return print1525_pages(j->input, j->length, settings, buffer, capacity, details);
     if (strcmp(it, "bus") == 0) return print1525_bus(j->input, j->length, settings, buffer, capacity, details);
@@ -119,7 +118,7 @@ static int make(const job *j, const print1525_settings *settings, uint8_t *buffe
     if (strcmp(it, "readings") == 0) return print1525_readings(j->input, j->length, settings, buffer, capacity, details);
     if (strcmp(it, "reprint") == 0) return print1525_reprint(j->input, j->length, settings, buffer, capacity, details);
     if (strcmp(it, "explain_script") == 0) return print1525_explain_script(j->input, j->length, settings, buffer, capacity, details);
-    if (strcmp(it, "explain_stop") == 0) return print1525_explain_stop(j->input, j->length, settings, &stop, buffer, capacity, details);
+    if (strcmp(it, "explain_stop") == 0) return print1525_explain_stop(j->input, j->length, settings, buffer, capacity, details);
     if (strcmp(it, "explain_trace") == 0) return print1525_explain_trace(j->input, j->length, settings, buffer, capacity, details);
     if (strcmp(it, "explain_reading") == 0) return print1525_explain_reading(j->input, j->length, settings, buffer, capacity, details);
     if (strcmp(it, "edges") != 0) exit(98);
@@ -229,6 +228,8 @@ static void try_one(const char *name, const void *input, size_t length, uint8_t 
     j.settings.trace = trace_as;
     j.settings.printer4_delays.numbers = delays;
     j.settings.printer4_delays.length = 3;
+    j.settings.stopped.fault = PRINT1525_STOP_FILE_NOT_OPEN;
+    j.settings.stopped.place = 3;
     try_call(&j, tells);
 }
 
@@ -277,6 +278,35 @@ static void try_edges(void) {
     if (taken != 0) is_wrong("memory is taken", taken);
 }
 
+/* Nor does a printer that is watched, whatever it prints, nor the pixels of its marks. */
+static void try_printer(void) {
+    static const char text[] = "AB\016C\r\022D\r\010\032\377\201\032\377\252\r\017\020" "12E\033\020\001\101F";
+    print1525_mark marks[PRINT1525_MARKS_OF_A_BYTE];
+    const print1525_region region = {0, 0, 20, 60};
+    uint8_t pixels[20 * 60], paper[20 * 60];
+    print1525_printer printer, other;
+    print1525_details details;
+    size_t index, one_by_one = 0, together = 0, made;
+    name_now = "a watched printer";
+    taken = 0;
+    refused_from = 1;
+    refused_to = MOST;
+    memset(paper, 255, sizeof paper);
+    if (print1525_printer_begin(&printer) != PRINT1525_DONE || print1525_printer_select(&printer, PRINT1525_SET_LOWER) != PRINT1525_DONE) is_wrong("no printer", 0);
+    other = printer;
+    for (index = 0; index < sizeof text - 1; index++) {
+        if (print1525_printer_byte(&printer, (uint8_t)text[index], marks, PRINT1525_MARKS_OF_A_BYTE, &details) != PRINT1525_DONE) is_wrong("a byte", details.fault);
+        one_by_one += made = details.length;
+        if (print1525_printer_page(marks, made, &region, pixels, sizeof pixels, &details) != PRINT1525_DONE) is_wrong("a page", details.fault);
+        if (print1525_printer_draw(marks, made, &region, paper, sizeof paper, &details) != PRINT1525_DONE) is_wrong("drawn marks", details.fault);
+    }
+    for (index = 0; index < sizeof text - 1; index += details.place, together += details.length)
+        if (print1525_printer_bytes(&other, text + index, sizeof text - 1 - index, marks, PRINT1525_MARKS_OF_A_BYTE, &details) != PRINT1525_DONE || details.place == 0) exit(98);
+    if (one_by_one != 516 || together != one_by_one || other.y != printer.y || memchr(paper, 0, sizeof paper) == NULL) is_wrong("its marks", (long)one_by_one);
+    refused_from = 0;
+    if (taken != 0) is_wrong("memory is taken", taken);
+}
+
 int main(int words, char **word) {
     const int tells = words > 2;
     print1525_settings settings = PRINT1525_SETTINGS_INIT;
@@ -321,5 +351,6 @@ int main(int words, char **word) {
     try_recording(csv, sizeof csv - 1, PRINT1525_RECORDING_CSV, tells);
     try_recording(bad_csv, sizeof bad_csv - 1, PRINT1525_RECORDING_CSV, tells);
     try_edges();
+    try_printer();
     return wrong != 0;
 }

@@ -11,7 +11,7 @@ static bool failed;
 
 #define CHECK(it)                                                                             \
     do {                                                                                      \
-        if (!(it)) failed = true, std::fprintf(stderr, "line %d: %s\n", __LINE__, #it);       \
+        if (!(it)) failed = true, std::fprintf(stderr, "WRONG: line %d: %s\n", __LINE__, #it); \
     } while (false)
 
 template <typename Call> static std::string message_of(Call call) {

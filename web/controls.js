@@ -3,8 +3,8 @@
 import './inside.js';
 import './printed.js';
 import { CODES } from './reading.js';
-import { $, all, button, decode, encode, fromBase64 } from './basics.js';
-import { ask, editor, fillReader, hasWebAssembly, notice, paper, print, readers, state, tellFailed, tellOnce, wave } from './page.js';
+import { $, all, decode, encode, fromBase64 } from './basics.js';
+import { ask, editor, fillReader, hasWebAssembly, notice, paper, print, readers, state, tellBriefly, tellFailed, wave } from './page.js';
 import { cover } from './telling.js';
 import { useBounds } from './wire.js';
 import { keptSource, leaveSource, showFile, takeFile } from './files.js';
@@ -178,7 +178,7 @@ async function copyText(text, made) {
   try {
     await navigator.clipboard.writeText(text);
   } catch {
-    tellOnce('link', 'The browser does not let this page copy. Use Save.');
+    tellBriefly('The browser does not let this page copy. Use Save.');
     return;
   }
   made.textContent = 'Copied';
@@ -242,15 +242,15 @@ $('file').onchange = () => {
   if (file) takeFile(file);
 };
 $('link').onclick = async () => {
-  if (state.source) return tellOnce('link', `A link carries a listing and its choices, but no file. Send ${state.source.name} itself.`);
+  if (state.source) return tellBriefly(`A link carries a listing and its choices, but no file. Send ${state.source.name} itself.`);
   const plain = await save(), link = location.href;
-  if (!plain) return notice('link', 'This listing is too long for a link. Save it as a file.', [button('Close', () => notice('link', ''))]);
+  if (!plain) return tellBriefly('This listing is too long for a link. Save it as a file.');
   try {
     await navigator.clipboard.writeText(link);
     $('link').textContent = 'Copied';
     setTimeout(() => { $('link').textContent = 'Copy link'; }, 1600);
   } catch {
-    notice('link', 'The browser does not let this page copy. The address bar now has the link.', [button('Close', () => notice('link', ''))]);
+    tellBriefly('The browser does not let this page copy. The address bar now has the link.');
   }
 };
 

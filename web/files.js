@@ -25,6 +25,9 @@ function kindOf(bytes, name) {
 export let taking = 0;     // files that are read and not yet shown (the tests wait for them)
 let taken = 0;                       // how many files were dropped
 
+/** What is read by now is no longer wanted: something else was chosen. */
+export const leaveReads = () => { taken++; };
+
 /** Shows a file as what it seems to be. */
 export async function takeFile(file) {
   const turn = ++taken;
@@ -88,6 +91,7 @@ export function showFile(source) {
   state.source = source;
   wave.moved = false;
   notice('lines', '');
+  notice('passing', '');
   tellSource();
   print();
 }
@@ -189,9 +193,8 @@ export function showSource(answer) {
   const { source } = state;
   document.body.classList.remove('stale');
   const why = answer.code === 2 ? `It cannot be read to its end: ${answer.words}.` : answer.code > 2 ? 'Memory ran out.' : '';
-  const told = (answer.told || '').split('\n').map(line => line.trim()).filter(line => line && !/^[\^~]+$/.test(line));
-  const verdict = !answer.verdict ? '' : answer.verdict === 'lawful' ? 'It is lawful.' : `${answer.verdict[0].toUpperCase()}${answer.verdict.slice(1)}.`;
-  tellSource(why || verdict, told.length ? answer.told.replace(/\n$/, '') : '');
+  const verdict = !answer.verdict ? '' : answer.isLawful ? 'It is lawful.' : `${answer.verdict[0].toUpperCase()}${answer.verdict.slice(1)}.`;
+  tellSource(why || verdict, (answer.told || '').trimEnd());
   if (answer.svg) showPaper(decode(answer.svg)); else clearPaper();
   if (source.kind === 'raw') { showWire(null); cover('A printer\'s bytes have no trace.'); return; }
   cover('');

@@ -2,7 +2,7 @@
 
 import { $, decode, encode, fromBase64, toBase64 } from './basics.js';
 import { EARLIER_LIMIT, editor, LINK_LIMIT, LISTING_LIMIT, notice, print, state, tellOnce, wave } from './page.js';
-import { leaveSource, take } from './files.js';
+import { leaveReads, leaveSource, take } from './files.js';
 import { showChoices } from './controls.js';
 
 export let saving = 0, saves = 0;
@@ -21,7 +21,7 @@ export const FIRST = `10 REM TYPE: THE PAPER FOLLOWS
 export function listingChanged() {
   clearTimeout(saving);
   saving = setTimeout(save, 300);
-  notice('drag', '');
+  notice('passing', '');
   print();
 }
 
@@ -155,6 +155,7 @@ export function openFromMenu(value) {
   const [what, index] = value.split(' ');
   if (!what) return;
   const example = what === 'example' ? examples[index] : null;
+  leaveReads();
   notice('file', '');
   if (example?.bytes) return take(fromBase64(example.bytes), example.name, example.kind);
   const { text, form = 'text' } = example || (what === 'earlier' ? store.get('earlier')[index] : { text: '' });

@@ -84,13 +84,26 @@ export const hasTyped = text => text.length < 200000 && /[a-z{]/.test(text) && t
 /** Whether bytes are a text's: control codes are tabs and line ends alone. */
 export const isTextual = bytes => bytes.every(byte => byte >= 32 || byte === 9 || byte === 10 || byte === 13);
 
+/**
+ * How files begin that are none of a listing, a recording and a printer's bytes.
+ * @type {[RegExp, string][]}
+ */
+const OTHERS = [
+  [/^\x89PNG/, 'a picture (PNG)'], [/^\xff\xd8\xff/, 'a picture (JPEG)'], [/^GIF8[79]a/, 'a picture (GIF)'], [/^RIFF[^]{4}WEBP/, 'a picture (WebP)'],
+  [/^(II\*\0|MM\0\*)/, 'a picture (TIFF)'], [/^BM[^]{4}\0\0\0\0[^]{4}[\x0c\x28\x34\x38\x40\x6c\x7c]\0\0\0/, 'a picture (BMP)'], [/^\0\0[\x01\x02]\0[\x01-\xff]\0/, 'an icon'],
+  [/^RIFF[^]{4}WAVE/, 'a sound (WAV)'], [/^RIFF/, 'a sound or a film'], [/^(OggS|fLaC|ID3)/, 'a sound'], [/^[^]{4}ftyp/, 'a film or a picture'], [/^\x1aE\xdf\xa3/, 'a film'],
+  [/^%PDF/, 'a PDF'], [/^PK(\x03\x04|\x05\x06|\x07\x08)/, 'a ZIP archive'], [/^(\x1f\x8b\x08|BZh[1-9]1AY&SY|\xfd7zXZ\0|7z\xbc\xaf|Rar!\x1a|\x28\xb5\x2f\xfd)/, 'a packed file'],
+  [/^[^]{257}ustar/, 'an archive (TAR)'], [/^MZ[^]*\0/, 'a program for Windows or DOS'], [/^\x7fELF/, 'a program for Linux'], [/^(\xcf\xfa\xed\xfe|\xca\xfe\xba\xbe)/, 'a program'],
+  [/^\0asm/, 'a WebAssembly module'], [/^SQLite format 3\0/, 'a database'], [/^\xd0\xcf\x11\xe0/, 'a document'],
+  [/^C64(S)? tape|^C64-TAPE-RAW/, 'a tape image'], [/^C64 CARTRIDGE/, 'a cartridge image'],
+];
+const DISK_SIZES = [174848, 175531, 196608, 197376];
+
 /** Why a file is none of what the page takes, in words, or nothing. */
 export function refusalOf(bytes, name) {
   if (!bytes.length) return `${name} is empty.`;
-  const head = String.fromCharCode(...bytes.subarray(0, 8));
-  const [, what] = [['\x89PNG', 'a picture'], ['\xff\xd8\xff', 'a picture'], ['GIF8', 'a picture'], ['%PDF', 'a PDF'], ['PK\x03\x04', 'a ZIP archive']]
-    .find(([begin]) => head.startsWith(begin)) || [];
+  const head = String.fromCharCode(...bytes.subarray(0, 264)), [, what] = OTHERS.find(([begins]) => begins.test(head)) || [];
   if (what) return `${name} is ${what}: drop a listing, a saved program, a trace, a recording or a printer's bytes.`;
-  const isDisk = [174848, 175531, 196608, 197376].includes(bytes.length);
+  const isDisk = DISK_SIZES.includes(bytes.length);
   return isDisk ? `${name} is a disk image: take the program out of it first, with VICE's c1541 for example.` : '';
 }

@@ -16,11 +16,11 @@
 //                 `explain` what its option --explain tells on standard error
 //     sheets      where a sheet is asked for that there is not, how many there are, else 0
 //
-// The methods `edges`, `readings`, `intervals`, `extremeDelays`, `statementLines`, `scriptFault`, `bounds` and `task` give
-// numbers in place of a text: see print1525.d.mts.
+// The methods `edges`, `edgeDelays`, `readings`, `intervals`, `extremeDelays`, `statementLines`, `scriptFault`, `bounds` and
+// `task` give numbers in place of a text: see print1525.d.mts.
 //
 // The numbers are those of include/print1525.h, and for recordings those of crates/pr_web/src/answer.rt.
-// `module.words(answer)` says a stop or a fault in the program's words.
+// `module.words(answer)` says a stop or a fault in the program's words, and `module.faultName(answer)` without its place.
 
 export const loadPrint1525 = (() => {
   'use strict';
@@ -172,6 +172,18 @@ export const loadPrint1525 = (() => {
       return { times, levels };
     },
   };
+  // Delays: the kind of each and the moment from which it counts.
+  const DELAYS_OF_EDGES = {
+    size: 8,
+    read(buffer, at, length) {
+      const halves = new Uint32Array(buffer, at, 2 * length), kinds = new Uint8Array(length / 2), since = new Float64Array(length / 2);
+      for (let i = 0; i < kinds.length; i++) {
+        kinds[i] = halves[4 * i];
+        since[i] = halves[4 * i + 2] + halves[4 * i + 3] * 4294967296;
+      }
+      return { kinds, since };
+    },
+  };
 
   const FAULTS = {
     1: 'unknown word', 2: 'bad number', 3: 'bad device', 4: 'bad secondary address', 5: 'bad byte', 6: 'too long',
@@ -188,7 +200,7 @@ export const loadPrint1525 = (() => {
 
   // The numbers of a reading's row, and the kinds of delay, in their orders.
   const ROW = ['end', 'endMoment', 'bits', 'byte', 'isCommand', 'readyToSend', 'readyForData', 'hasEoi', 'pulled', 'released', 'firstPull', 'lastPull',
-    'shortestLow', 'longestLow', 'shortestHigh', 'longestHigh', 'textLength'];
+    'shortestLow', 'longestLow', 'shortestHigh', 'longestHigh', 'printerListens', 'textLength'];
   // The intervals of a byte, in the order of the summary, and what the lengths of each come to.
   const INTERVALS = ['ready', 'first pull', 'answer', 'answer length', 'pull after answer', 'shortest low half', 'longest low half', 'shortest high half',
     'longest high half', 'acknowledgement'];
@@ -201,8 +213,7 @@ export const loadPrint1525 = (() => {
     const reading = {};
     for (let i = 0; i < ROW.length; i++) reading[ROW[i]] = rows[at + i];
     reading.end = ENDS[reading.end];
-    reading.isCommand = reading.isCommand === 1;
-    reading.hasEoi = reading.hasEoi === 1;
+    for (const name of ['isCommand', 'hasEoi', 'printerListens']) reading[name] = reading[name] === 1;
     return reading;
   }
 
@@ -210,13 +221,16 @@ export const loadPrint1525 = (() => {
   const isLine = fault => (fault >= 1 && fault <= 8) || (fault >= 31 && fault <= 49) || fault === 52 || (fault >= 62 && ![72, 73].includes(fault));
   const isOfListing = fault => fault >= 60 && fault <= 64;
 
+  // A stop or a fault by its name, without its place.
+  const faultName = ({ code, fault }) => (code === 1 ? `?${STOPS[fault]}` : code === 2 ? FAULTS[fault] : code === 3 ? 'out of memory' : '');
+
   function words({ code, fault, line, column, edge }) {
-    if (code === 1) return `?${STOPS[fault]}  ERROR`;
-    if (code === 3) return 'out of memory';
-    if (code !== 2) return '';
-    if (isEdge(fault)) return `edge ${edge}: ${FAULTS[fault]}`;
-    if (column) return `line ${line}, column ${column}: ${FAULTS[fault]}`;
-    return isLine(fault) ? `line ${line}: ${FAULTS[fault]}` : FAULTS[fault];
+    const name = faultName({ code, fault });
+    if (code === 1) return `${name}  ERROR`;
+    if (code !== 2) return name;
+    if (isEdge(fault)) return `edge ${edge}: ${name}`;
+    if (column) return `line ${line}, column ${column}: ${name}`;
+    return isLine(fault) ? `line ${line}: ${name}` : name;
   }
 
   // The number of a word among those that an argument can be.
@@ -338,6 +352,7 @@ export const loadPrint1525 = (() => {
 
     return {
       words,
+      faultName,
       // Which printers are present: 0 none, 1 printer 4, 2 printer 5, 3 both; whether the status is kept from statement to
       // statement (1) or not (0); the numbers of the delays of the computer, of printer 4 and of printer 5.
       // `device` (4 or 5) and `sheet` (from 1) show a part of the pages, where the format can. `characters` is a file of the
@@ -387,6 +402,11 @@ export const loadPrint1525 = (() => {
       // The edges of a recording, up to its fault.
       edges: asked => {
         const words = recordingWords(asked), told = made('print1525_edges', words, EDGES, roomOf(words[0], 2));
+        return { ...answerOf(told), ...told.made };
+      },
+      // The delay of the profile that each edge ends: its kind, by its place among those of `bounds`, and since when it counts.
+      edgeDelays: asked => {
+        const words = recordingWords(asked), told = made('print1525_edge_delays', words, DELAYS_OF_EDGES, roomOf(words[0], 2));
         return { ...answerOf(told), ...told.made };
       },
       // What a recording says, as numbers: those readings whose lines `decode` gives.

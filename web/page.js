@@ -89,6 +89,15 @@ export function notice(name, words, actions = []) {
 /** A notice that goes when it is closed. */
 export const tellOnce = (name, words) => notice(name, words, [button('Close', () => notice(name, ''))]);
 
+let passing = 0;
+
+/** A notice on what was just asked for: it goes when it is closed, after ten seconds, and with the next listing or file. */
+export function tellBriefly(words) {
+  clearTimeout(passing);
+  tellOnce('passing', words);
+  passing = setTimeout(() => notice('passing', ''), 10000);
+}
+
 /** Says that a call of the module failed. */
 export const tellFailed = error => tellOnce('failed', `The module failed: ${error.message}`);
 
@@ -268,9 +277,11 @@ function showScript(answer) {
 /** How many characters the first bytes of a text are. */
 const charactersOf = (text, bytes) => decode(encode(text).subarray(0, bytes)).length;
 
+const capital = words => words && words[0].toUpperCase() + words.slice(1);
+
 /** A listing that cannot be read: its first fault, at its place. `place` is where the module finds it in a script. */
-function tellRefusal({ words: why, line, column, told, place, inPetcat }, words) {
-  const name = why.slice(why.lastIndexOf(': ') + 1).trim(), upper = name[0].toUpperCase() + name.slice(1), signs = [], titles = [];
+function tellRefusal({ name, line, column, explanation, place, inPetcat }, words) {
+  const upper = capital(name), signs = [], titles = [];
   if (!place) {
     words('first', column ? `${upper} in line ${line}, column ${column}` : line ? `Line ${line}: ${name}` : upper);
     if (line) signs[line - 1] = 'refused';
@@ -278,24 +289,22 @@ function tellRefusal({ words: why, line, column, told, place, inPetcat }, words)
     const text = editor.line(line - 1), from = charactersOf(text, column - 1), brace = text[from] === '{' ? text.indexOf('}', from) : -1;
     return editor.tell(signs, titles, { line: line - 1, from, to: Math.max(brace, from) + 1, words: name, kind: 'refused' });
   }
-  // The explanation is the line, a caret, then the place with what was expected and what is there, then hints.
-  const [, , found, ...hints] = told.split('\n'), number = place.line - 1, text = editor.line(number);
+  const { sentence, hints } = explanation, number = place.line - 1, text = editor.line(number);
   const from = inPetcat ? inPetcat.from : charactersOf(text, place.column - 1), isQuoted = (text.slice(0, from).split('"').length - 1) % 2 === 1;
-  const width = isQuoted ? 1 : Math.max(place.width, /^[a-z]*/i.exec(text.slice(from))[0].length, 1), there = found.slice(found.indexOf(': ') + 2);
-  const [expected] = there.split(', found ');
+  const width = isQuoted ? 1 : Math.max(place.width, /^[a-z]*/i.exec(text.slice(from))[0].length, 1);
   const first = words('first', `${upper} in line ${place.line}, column ${inPetcat ? from + 1 : place.column}`);
   first.append(' ', button('go there', () => editor.goTo(number, from)));
-  words('', `${there[0].toUpperCase()}${there.slice(1)}`);
-  hints.filter(hint => hint.trim()).forEach(hint => words('', hint.trim()));
+  words('', capital(sentence));
+  hints.forEach(hint => words('', hint));
   if (paper.picture) words('', 'The paper and the wire still show the run before.');
   signs[number] = 'refused';
-  titles[number] = expected;
-  editor.tell(signs, titles, { line: number, from, to: Math.min(from + width, Math.max(text.length, from + 1)), words: expected, kind: 'refused' });
+  titles[number] = sentence;
+  editor.tell(signs, titles, { line: number, from, to: Math.min(from + width, Math.max(text.length, from + 1)), words: name, kind: 'refused' });
 }
 
 /** A run's statuses and its stop. */
 function tellStatuses(answer, words) {
-  const { statuses, code, statement, told } = answer, lines = Array.from(answer.lines, line => line - 1);
+  const { statuses, code, statement, told, name } = answer, lines = Array.from(answer.lines, line => line - 1);
   const isKnown = lines.length > 0;
   const signs = [], titles = [], rank = ['', 'fine', 'unreached', 'unanswered', 'stopped'];
   const sign = (line, name, title) => {
@@ -310,9 +319,10 @@ function tellStatuses(answer, words) {
   });
   let note = null;
   if (code === 1) {
-    const [first, , hint] = told.split('\n'), name = first.split('  ERROR')[0];
+    // (the second line of an explanation is that of the listing)
+    const [first, , ...hints] = told;
     words('first', first);
-    if (hint) words('', hint.trim());
+    hints.forEach(hint => words('', hint.trim()));
     if (isKnown) {
       const line = lines[statement - 1], text = editor.line(line);
       sign(line, 'stopped', `statement ${statement}: ${name}`);

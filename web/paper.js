@@ -179,7 +179,9 @@ export class Paper {
   /** Draws the part of a long picture around what can be seen: `around` times as much above and below, which comes a little later in a new one. */
   drawPart(around = AROUND) {
     if (!this.part || !this.picture) return;
-    const scale = this.scale(), seen = this.element.clientHeight / scale, top = this.element.scrollTop / scale;
+    const scale = this.scale(), seen = this.element.clientHeight / scale;
+    // (in a window that becomes narrower the sheets are smaller before the scrolled place is)
+    const top = Math.min(this.element.scrollTop / scale, Math.max(this.picture.height - seen, 0));
     if (top >= this.part.from && top + seen <= this.part.to) return;
     const from = Math.max(top - around * seen, 0), to = Math.min(top + (1 + around) * seen, this.picture.height), { left, width } = this.across();
     clearTimeout(this.wider);

@@ -109,6 +109,8 @@ export interface Reading {
   longestLow: number;
   shortestHigh: number;
   longestHigh: number;
+  /** whether printer 4 or 5 listens before this reading */
+  printerListens: boolean;
   /** how many bytes of the text of `decode` are this reading's lines */
   textLength: number;
 }
@@ -143,6 +145,11 @@ export interface Print1525 {
   runBytes(asked: Run & { device?: 4 | 5 }): TextAnswer & { heard?: Heard };
   /** the edges of a recording, up to its fault: moments in microseconds, and levels (4 for ATN, 2 for CLOCK, 1 for DATA, where released) */
   edges(asked: Recording): Answer & { times: Float64Array; levels: Uint8Array };
+  /**
+   * the delay of the profile that each edge ends, by the table of lawful traces: its kind as its place among those of `bounds`
+   * (14 a rest, 15 none that is known), and the moment from which it counts
+   */
+  edgeDelays(asked: Recording): Answer & { kinds: Uint8Array; since: Float64Array };
   /** what a recording says, as numbers: the readings whose lines `decode` gives */
   readings(asked: Recording & Detail): Answer & { readings: Reading[] };
   /** what the lengths of each interval come to; an input that has a fault has those before it */
@@ -166,6 +173,8 @@ export interface Print1525 {
   explainReading(asked: Recording): TextAnswer;
   /** the stop or the fault of an answer in the program's words */
   words(answer: Answer): string;
+  /** its name alone, without its place */
+  faultName(answer: Pick<Answer, 'code' | 'fault'>): string;
 }
 
 /** Loads the module from its bytes: in a page, in a worker or in Node. */

@@ -13,14 +13,14 @@ import { loadPrint1525 } from './module.mjs';
 
 export { loadPrint1525 };
 
-/** The module beside this file, ready for calls. In a browser, pass its bytes to loadPrint1525. */
+/** The module beside this file, ready for calls; throws where it is not there. In a browser, pass its bytes to loadPrint1525. */
 export async function openPrint1525() {
-  const { readFileSync, existsSync } = await import('node:fs');
-  const beside = new URL('print1525.wasm', import.meta.url);
-  if (existsSync(beside)) return loadPrint1525(readFileSync(beside));
-  const { inflateRawSync } = await import('node:zlib');
-  const page = readFileSync(new URL('print1525.html', import.meta.url), 'latin1');
-  const [, packed] = /<script type="text\/plain" id="module">([^<]*)</.exec(page);
+  const { readFileSync, existsSync } = await import('node:fs'), { inflateRawSync } = await import('node:zlib');
+  const [module, page] = ['print1525.wasm', 'print1525.html'].map(name => new URL(name, import.meta.url));
+  if (existsSync(module)) return loadPrint1525(readFileSync(module));
+  if (!existsSync(page)) throw new Error('print1525.mjs needs print1525.wasm or print1525.html beside it');
+  const [, packed] = /<script type="text\/plain" id="module">([^<]*)</.exec(readFileSync(page, 'latin1')) || [];
+  if (!packed) throw new Error('the print1525.html beside print1525.mjs holds no module');
   return loadPrint1525(inflateRawSync(Buffer.from(packed, 'base64')));
 }
 
@@ -283,7 +283,8 @@ function trying(call, tellOf) {
 /** Does the job that words ask for, and gives the exit status. */
 async function run(words, files) {
   const tell = text => { try { files.writeAll(2, Buffer.from(text)); } catch { /* there is nowhere to tell it */ } };
-  const module = await openPrint1525(), job = readJob(module, words), characters = charactersOf(module, job, files);
+  const module = await openPrint1525().catch(error => { throw failed(error.message); });
+  const job = readJob(module, words), characters = charactersOf(module, job, files);
   const inputFailed = error => (job.file === null ? failed('read failed') : failedFile(job.file, error));
   const outputFailed = error => (job.output === null || STANDARD_OUTPUT.includes(job.output) ? failed('write failed') : failedFile(job.output, error));
   if (job.file === null && process.stdin.isTTY) tell(`print1525: reading ${WAITS_FOR[job.command]} from the terminal; Ctrl-D on a new line ends it\n`);

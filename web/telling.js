@@ -1,6 +1,6 @@
 // What a recording or a run's trace says, beside the wave: the facts, the intervals, and what is chosen.
 
-import { intervalsIn } from './wire.js';
+import { intervalsOf } from './wire.js';
 import { hexadecimal, spaced } from './wave.js';
 import { $, all, button, encode } from './basics.js';
 import { ask, AUTOMATIC, counted, editor, fillReader, LINES_LIMIT, nextText, paper, readers, state, tellFailed, tellOnce, wanted, wave } from './page.js';
@@ -58,19 +58,21 @@ function offerWire(isThere) {
 
 export let onWire = null;  // what the wire shows and what is said of it, or null (the tests look at it)
 
+const NOTHING = { times: new Float64Array(0), levels: new Uint8Array(0), kinds: new Uint8Array(0), since: new Float64Array(0), frames: [], verdict: '', isLawful: null };
+
 /** Shows a trace with what is said of it, or none. */
 export function showWire(answer) {
   onWire = answer;
   offerWire(Boolean(answer));
-  const { times, levels, frames, verdict } = answer || { times: new Float64Array(0), levels: new Uint8Array(0), frames: [], verdict: '' };
-  wave.show({ times, levels }, frames);
+  const { times, levels, kinds, since, frames, verdict, isLawful } = answer || NOTHING;
+  wave.show({ times, levels }, { kinds, since }, frames);
   $('wire-facts').textContent = !answer ? '' : [
     state.source?.name, counted(frames.filter(frame => frame.kind !== 'glitch').length, 'byte'), counted(times.length, 'edge'),
     times.length ? `${spaced(Math.round(times[times.length - 1] / 100) / 10)} ms` : '',
   ].filter(Boolean).join(' · ');
-  $('verdict').textContent = verdict.split(':')[0];
+  $('verdict').textContent = isLawful === null ? '' : isLawful ? 'lawful' : 'not lawful';
   $('verdict').title = verdict;
-  $('verdict').classList.toggle('unlawful', verdict !== 'lawful');
+  $('verdict').classList.toggle('unlawful', isLawful === false);
   tellUnder(null);
   tellChosen(-1);
   showIntervals(answer);
@@ -86,16 +88,19 @@ function showIntervals(answer) {
   const panel = $('intervals');
   panel.replaceChildren();
   if (!answer || !answer.intervals.length) return;
+  // (on a phone a row is no row for the layout, so each part says what it is)
   const table = document.createElement('table'), row = (kind, cells, name = '') => {
     const line = table.insertRow();
     line.className = name;
+    line.setAttribute('role', 'row');
     cells.forEach((cell, index) => {
       const made = document.createElement(index && kind === 'td' ? 'td' : 'th');
-      made.scope = kind === 'th' ? 'col' : 'row';
+      made.setAttribute('role', kind === 'th' ? 'columnheader' : index ? 'cell' : 'rowheader');
       made.textContent = cell;
       line.append(made);
     });
   };
+  table.setAttribute('role', 'table');
   row('th', ['Interval, in µs', 'bytes', 'least', 'middle', 'greatest', 'allowed', 'outside']);
   for (const { name, count, least, middle, greatest, from, to, outside } of answer.intervals) {
     if (!count) { row('td', [name, '–', '', '', '', '', '']); continue; }
@@ -106,12 +111,12 @@ function showIntervals(answer) {
   counts.textContent = answer.counts.filter(({ count }) => count).map(({ name, count }) => `${name}: ${spaced(count)}`).join(' · ');
   const verdict = document.createElement('p');
   verdict.textContent = answer.verdict;
-  verdict.className = answer.verdict === 'lawful' ? 'lawful' : 'unlawful';
+  verdict.className = answer.isLawful ? 'lawful' : 'unlawful';
   panel.append(table, counts, verdict);
 }
 
-const boundsWords = bounds => bounds ? ` (${bounds[0]} to ${bounds[1]})` : '';
-const named = ({ name, bit }) => bit ? `${name} of bit ${bit - 1}` : name;
+const boundsWords = bounds => bounds ? ` (${bounds.join('–')})` : '';
+const named = ({ name }, bit) => bit === null ? name : `${name} of bit ${bit}`;
 
 const HINTS = ['Point at the wave for its intervals; click a frame for its marks.', 'Tap a frame for its marks.'];
 
@@ -120,10 +125,10 @@ export function tellUnder(under) {
   const line = $('under');
   line.className = '';
   if (!under) { line.textContent = wave.frames.length ? HINTS[Number(matchMedia('(pointer: coarse)').matches)] : ''; return; }
-  const moment = `${spaced(Math.round(under.moment))} µs`, { part, level, wire } = under;
+  const moment = `${spaced(Math.round(under.moment))} µs`, { part, bit, level, wire } = under;
   if (part) {
     const long = part.to - part.from, bad = part.bounds && (long < part.bounds[0] || long > part.bounds[1]);
-    line.textContent = `${moment}: ${named(part)}, ${spaced(long)} µs${boundsWords(part.bounds)}${bad ? ', outside' : ''}`;
+    line.textContent = `${moment}: ${named(part, bit)}, ${spaced(long)} µs${boundsWords(part.bounds)}${bad ? ', outside' : ''}`;
     line.className = bad ? 'bad' : '';
   } else if (level) {
     const long = Number.isFinite(level.to) ? ` for ${spaced(level.to - level.from)} µs` : '';
@@ -136,21 +141,17 @@ function tellChosen(index, more = '') {
   const frame = wave.frames[index], line = $('chosen');
   line.textContent = '';
   if (!frame) return;
-  const ranges = new Map();
-  for (const { name, from, to, bounds } of intervalsIn(frame, wave.edges)) {
-    const long = to - from, range = ranges.get(name) || { least: long, greatest: long, bounds };
-    ranges.set(name, { least: Math.min(range.least, long), greatest: Math.max(range.greatest, long), bounds });
-  }
   const says = frame.byte === null ? frame.name : `$${hexadecimal(frame.byte)} ${frame.name}${frame.eoi ? ', end-or-identify' : ''}`;
   const strong = document.createElement('strong');
   strong.textContent = says;
   const end = Number.isFinite(frame.end) ? ` to ${spaced(frame.end)}` : '', fault = frame.fault ? `, ${frame.fault}` : '';
   line.append(strong, `  ${spaced(frame.look)}${end} µs${fault}${more}`);
   const list = document.createElement('span');
-  for (const [name, { least, greatest, bounds }] of ranges) {
+  list.className = 'items';
+  for (const { name, least, greatest, bounds } of intervalsOf(frame)) {
     const item = document.createElement('span');
     item.className = least < bounds[0] || greatest > bounds[1] ? 'item bad' : 'item';
-    item.textContent = `${name} ${least === greatest ? spaced(least) : `${spaced(least)}–${spaced(greatest)}`} (${bounds[0]} to ${bounds[1]})`;
+    item.textContent = `${name} ${[...new Set([least, greatest])].map(spaced).join('–')}${boundsWords(bounds)}`;
     list.append(item);
   }
   line.append(list);

@@ -2,7 +2,7 @@
 // strip below. What is drawn takes as long for a million edges as for a hundred: a column of pixels in which a line
 // turns more than once is one stroke.
 
-import { ATN, CLOCK, DATA, edgeAt, frameAt, intervalsBetween, intervalsIn } from './wire.js';
+import { ATN, CLOCK, DATA, delaysAt, edgeAt, frameAt, halfOf, momentsOf } from './wire.js';
 
 const WIRES = [{ name: 'ATN', bit: ATN }, { name: 'CLOCK', bit: CLOCK }, { name: 'DATA', bit: DATA }];
 const NAMES_WIDTH = 58, RIGHT = 10;
@@ -22,7 +22,7 @@ export class Wave {
 
   /** `onUnder` gets what is under the pointer, `onChoose` the index of the frame that is chosen, or -1. */
   constructor(canvas, onUnder, onChoose) {
-    Object.assign(this, { canvas, onUnder, onChoose, frames: [], edges: null, turns: [] });
+    Object.assign(this, { canvas, onUnder, onChoose, frames: [], edges: null, delays: null, turns: [] });
     Object.assign(this, { begin: 0, end: 0, from: 0, to: 1, moved: false, chosen: -1, pointer: null });
     // What is seen at first fits the width, so that frames have room for their names.
     new ResizeObserver(() => { if (this.edges && !this.moved) this.front(); else this.draw(); }).observe(canvas);
@@ -32,13 +32,13 @@ export class Wave {
     this.listen();
   }
 
-  /** Shows edges and frames. What was chosen is no longer; the place stays where somebody has moved it. */
-  show(edges, frames) {
+  /** Shows edges, the delays that they end, and frames. What was chosen is no longer; the place stays where somebody has moved it. */
+  show(edges, delays, frames) {
     this.edges = edges;
+    this.delays = delays;
     this.frames = frames;
     this.chosen = -1;
     this.span = null;
-    this.intervals = null;
     this.turns = WIRES.map(({ bit }) => {
       const times = [];
       let level = edges.levels.length ? edges.levels[0] & bit : bit;
@@ -119,14 +119,26 @@ export class Wave {
     return frame && (moment <= frame.end) ? index : -1;
   }
 
-  /** The named intervals around a moment. */
+  /** The level of a line at a moment, and from when to when it keeps it. */
+  levelAt(wire, moment) {
+    const { first, times } = this.turns[WIRES.indexOf(wire)], next = edgeAt(times, moment) + 1;
+    return { released: first === (next % 2 === 0), from: times[next - 1] ?? this.begin, to: times[next] ?? Infinity };
+  }
+
+  /** The half of a bit of a frame at a moment: a level of CLOCK between its first pull and its last. */
+  halvesAt(frame, moment) {
+    const { released, from, to } = this.levelAt(WIRES[1], moment);
+    return frame.bits && from >= frame.pull && to <= frame.last ? [halfOf(released, from, to)] : [];
+  }
+
+  /** Which bit of a frame begins or goes on at a moment, from 0. */
+  bitAt(frame, moment) { return (edgeAt(this.turns[1].times, moment) - edgeAt(this.turns[1].times, frame.pull)) >> 1; }
+
+  /** The named intervals around a moment: the delays that the module knows there, or else the moments of the reading. */
   intervalsAt(moment) {
-    const index = frameAt(this.frames, moment), inside = this.frameUnder(moment) >= 0, key = `${index} ${inside}`;
-    if (this.intervals?.key !== key) {
-      const parts = inside ? intervalsIn(this.frames[index], this.edges) : intervalsBetween(this.frames[index], this.frames[index + 1], this.edges);
-      this.intervals = { key, parts };
-    }
-    return this.intervals.parts;
+    const parts = delaysAt(this.edges, this.delays, moment), frame = this.frames[this.frameUnder(moment)];
+    if (parts.length || !frame) return parts;
+    return [...momentsOf(frame), ...this.halvesAt(frame, moment)].filter(part => part.from <= moment && moment <= part.to);
   }
 
   /** What is under the pointer: the moment, the frame, the named interval, or else how long the line under it keeps its level. */
@@ -135,15 +147,11 @@ export class Wave {
     const { x, y } = this.pointer, { top, bottom, each } = this.rows();
     if (x < NAMES_WIDTH || x > this.canvas.clientWidth - RIGHT || y > bottom + 20) return null;
     const moment = this.momentAt(x), wire = y >= top && y < bottom ? WIRES[Math.floor((y - top) / each)] : null;
-    const around = this.intervalsAt(moment).filter(part => part.from <= moment && moment <= part.to);
+    const around = this.intervalsAt(moment);
     around.sort((a, b) => (a.to - a.from) - (b.to - b.from));
-    const part = around.find(part => wire && part.line === wire.bit) || around[0] || null;
-    const under = { moment, frame: this.frameUnder(moment), part, wire };
-    if (!part && wire) {
-      const { first, times } = this.turns[WIRES.indexOf(wire)], next = edgeAt(times, moment) + 1;
-      under.level = { released: first === (next % 2 === 0), from: times[next - 1] ?? this.begin, to: times[next] ?? Infinity };
-    }
-    return under;
+    const part = around.find(part => wire && part.line === wire.bit) || around[0] || null, frame = this.frameUnder(moment);
+    const bit = part && frame >= 0 && 'SV'.includes(part.kind) ? this.bitAt(this.frames[frame], part.from) : null;
+    return { moment, frame, part, bit, wire, level: !part && wire ? this.levelAt(wire, moment) : null };
   }
 
   // keys, wheel and pointers

@@ -5,16 +5,26 @@
 export const ATN = 4, CLOCK = 2, DATA = 1;
 
 /** The bounds of the profile's delays, in microseconds, by their kinds; `answers` is the length of an answer of two listeners. */
-let bounds = {};
+export let bounds = {};
+
+/** The kinds of delay in the module's order, with a rest behind them. */
+let kinds = [];
+
+/** What is said of a delay of each kind, and the line on which it is shown. A delay before a byte or ATN is shown on the line that ends it. */
+const DELAYS = {
+  Bb: ['before the next byte or ATN', CLOCK], Aw: ['before a command', CLOCK], Ne: ['first pull', CLOCK], Ry: ['pull after answer', CLOCK],
+  S: ['low half', CLOCK], V: ['high half', CLOCK], R: ['before ATN is released', ATN], Cr: ['from ATN to CLOCK, after UNLISTEN', CLOCK],
+  At: ['a printer answers ATN', DATA], H: ['ready', DATA], Ye: ['answer', DATA], Ei: ['answer length', DATA], F: ['acknowledgement', DATA],
+  Dr: ['printers that do not listen let DATA go', DATA], rest: ['rest', ATN],
+};
+const boundsOf = kind => bounds[kind === 'Ei' ? 'answers' : kind] || null;
+const nameOf = kind => DELAYS[kind][0];
 
 /** Takes the bounds that the module gives. */
-export function useBounds(given) { bounds = given; }
-
-/** The delay that bounds each interval of a byte, in the order of the table. */
-const DELAY_OF = {
-  'ready': 'H', 'first pull': 'Ne', 'answer': 'Ye', 'answer length': 'answers', 'pull after answer': 'Ry', 'low half': 'S', 'high half': 'V',
-  'acknowledgement': 'F',
-};
+export function useBounds(given) {
+  bounds = given;
+  kinds = [...Object.keys(given).slice(0, 14), 'rest'];
+}
 
 /** Where each line of a text begins, and where the last one ends. */
 export function lineStarts(bytes) {
@@ -33,35 +43,50 @@ export function textOfEdges({ times, levels }, end) {
   return new TextEncoder().encode(lines.join(''));
 }
 
-/** What a reading's lines say of its byte, after its moments and its number, without end-or-identify: `'A'` or `LISTEN 4`. */
-function nameIn(lines, { hasEoi }) {
-  const line = lines.find(line => line.includes('  $')), words = line.slice(line.indexOf('$') + 5);
-  return hasEoi ? words.slice(0, -', end-or-identify'.length) : words;
+const CONTROLS = {
+  8: 'graphic mode', 10: 'line feed', 13: 'return', 14: 'double width', 15: 'standard width', 16: 'column', 17: 'lower case', 18: 'reverse on',
+  26: 'repeat', 27: 'escape', 145: 'upper case', 146: 'reverse off',
+};
+
+/** The name of a command, by its number. */
+function commandName(byte) {
+  if (byte === 63) return 'UNLISTEN';
+  if (byte === 95) return 'UNTALK';
+  const channel = { 6: 'SECOND', 14: 'CLOSE', 15: 'OPEN' }[byte >> 4], device = { 1: 'LISTEN', 2: 'TALK' }[byte >> 5];
+  return device ? `${device} ${byte & 31}` : channel ? `${channel} ${byte & 15}` : `command ${byte}`;
 }
 
-/** The name of a byte that nobody has acknowledged, or of one that has not come whole. */
-const nameOfLost = ({ bits, byte, isCommand }) => bits === 8 ? `${isCommand ? 'command' : 'byte'} ${byte}` : bits === 1 ? '1 bit' : `${bits} bits`;
+/** The name of a data byte: a character, or what a printer does with it while one listens. */
+function dataName(byte, printerListens) {
+  if (byte === 39) return '"\'"';
+  if (byte > 31 && byte < 127) return `'${String.fromCharCode(byte)}'`;
+  return (printerListens && CONTROLS[byte]) || `byte ${byte}`;
+}
+
+/** What is written at a reading's frame. */
+function frameName({ end, bits, byte, isCommand, printerListens }) {
+  if (end === 'acknowledged') return isCommand ? commandName(byte) : dataName(byte, printerListens);
+  return bits === 8 ? `${isCommand ? 'command' : 'byte'} ${byte}` : bits === 1 ? '1 bit' : `${bits} bits`;
+}
 
 /**
- * The readings of a recording as frames, with the text of their lines: `{ look, end, kind, byte, name, eoi, fault, line }` and
- * the moments of their intervals. `end` is Infinity where the recording ends before, `kind` is `command`, `data` or `glitch`,
- * and `line` is the index of a frame's line.
+ * The readings of a recording as frames: `{ look, end, kind, byte, name, eoi, fault, line }`, and the moments and lengths of
+ * their intervals. `end` is Infinity where the recording ends before, `kind` is `command`, `data` or `glitch`, and `line` is the
+ * index of a frame's own line in `text`, the bytes of all readings' lines, which is the last of its lines.
  */
 export function framesOf(readings, text) {
-  let from = 0, line = 0;
+  let from = 0, line = -1;
   return readings.map(reading => {
-    const lines = text.slice(from, from + reading.textLength - 1).split('\n'), heading = /^(attention|data( from \d+)?)$/.test(lines[0]) ? 1 : 0;
-    const isHeard = reading.end === 'acknowledged', isWhole = reading.bits === 8;
-    const frame = {
+    const isHeard = reading.end === 'acknowledged', isWhole = reading.bits === 8, to = from + reading.textLength;
+    for (let at = text.indexOf(10, from); at >= 0 && at < to; at = text.indexOf(10, at + 1)) line++;
+    from = to;
+    return {
       look: reading.readyToSend, end: reading.end === 'cut' ? Infinity : reading.endMoment, kind: !isWhole ? 'glitch' : reading.isCommand ? 'command' : 'data',
-      byte: isWhole ? reading.byte : null, name: isHeard ? nameIn(lines, reading) : nameOfLost(reading), eoi: isHeard && reading.hasEoi,
-      fault: isHeard ? '' : reading.end === 'cut' ? 'cut by the end' : reading.end, line: line + heading,
+      byte: isWhole ? reading.byte : null, name: frameName(reading), eoi: isHeard && reading.hasEoi,
+      fault: isHeard ? '' : reading.end === 'cut' ? 'cut by the end' : reading.end, line,
       ready: reading.readyForData, pulled: reading.hasEoi ? reading.pulled : null, released: reading.released, pull: reading.firstPull, last: reading.lastPull,
-      bits: reading.bits,
+      bits: reading.bits, low: [reading.shortestLow, reading.longestLow], high: [reading.shortestHigh, reading.longestHigh],
     };
-    from += reading.textLength;
-    line += lines.length;
-    return frame;
   });
 }
 
@@ -95,66 +120,34 @@ export function frameAt(frames, moment) {
   return low - 1;
 }
 
-/** The intervals of a frame in order, as far as it comes: `{ name, from, to, line, bounds, bit }`, moments in microseconds. */
-export function intervalsIn({ look, ready, pulled, released, pull, bits, end, fault }, { times, levels }) {
-  const parts = [];
-  const part = (name, from, to, line, bit = 0) => parts.push({ name, from, to, line, bounds: bounds[DELAY_OF[name]], bit });
-  part('ready', look, ready, DATA);
-  if (pulled === null) part('first pull', ready, pull, CLOCK);
-  else {
-    part('answer', ready, pulled, DATA);
-    part('answer length', pulled, released, DATA);
-    part('pull after answer', released, pull, CLOCK);
+/** A part of the wave that is a delay of some kind: `{ kind, name, from, to, line, bounds }`, moments in microseconds. */
+const partOf = (kind, from, to, line = DELAYS[kind][1]) => ({ kind, name: nameOf(kind), from, to, line, bounds: boundsOf(kind) });
+
+/** The delays around a moment, of those that edges end: `delays` has the kind of each and since when it counts. */
+export function delaysAt({ times, levels }, delays, moment) {
+  const parts = [], first = Math.max(edgeAt(times, moment), 1);
+  // A delay goes past one edge at most.
+  for (let i = first; i < Math.min(first + 3, times.length); i++) {
+    const kind = kinds[delays.kinds[i]], isOfAtn = ((levels[i] ^ levels[i - 1]) & ATN) > 0;
+    if (!kind || delays.since[i] > moment || times[i] < moment) continue;
+    parts.push(partOf(kind, delays.since[i], times[i], kind === 'Bb' && isOfAtn ? ATN : undefined));
   }
-  let last = pull, release = null;
-  for (let i = edgeAt(times, pull) + 1, bit = 0; i < times.length && bit < bits; i++) {
-    const clock = levels[i] & CLOCK;
-    if (release === null && clock) release = times[i];
-    else if (release !== null && !clock) {
-      part('low half', last, release, CLOCK, ++bit);
-      part('high half', release, last = times[i], CLOCK, bit);
-      release = null;
-    }
-  }
-  if (!fault) part('acknowledgement', last, end, DATA);
   return parts;
 }
 
-/** The named intervals between a frame's end and the next one's look, where a lawful trace has them. */
-export function intervalsBetween(before, after, { times, levels }) {
-  const parts = [];
-  const part = (name, from, to, line, kind) => { if (to > from) parts.push({ name, from, to, line, bounds: bounds[kind] || null, bit: 0 }); };
-  const from = before ? before.end : 0, to = after ? after.look : Infinity;
-  let since = from, called = null, freed = null, i = Math.max(edgeAt(times, from), 0);
-  let level = levels[i];
-  if (before && after && before.kind === 'command' && after.kind === 'command') {
-    let released = false;
-    for (let j = i; j < times.length && times[j] <= to; j++) released ||= (levels[j] & ATN) > 0;
-    if (!released) { part('from the first command to the second', from, to, CLOCK, 'Aw'); return parts; }
-  }
-  for (i++; i < times.length && times[i] <= to; i++) {
-    const time = times[i], turned = level ^ levels[i], rests = level === 7;
-    level = levels[i];
-    if (turned & ATN && level & ATN) {
-      if (called === null && before) part('from the acknowledgement to ATN\'s release', from, time, ATN, 'R');
-      freed = since = time;
-      called = null;
-    } else if (turned & ATN) {
-      const name = before && freed === null && called === null ? 'from the acknowledgement to ATN' : 'before ATN is pulled';
-      part(rests ? 'rest' : name, since, time, ATN, rests ? '' : 'Bb');
-      called = time;
-    }
-    if (turned & DATA && !(level & DATA) && called !== null) part('the printers answer ATN', called, time, DATA, 'At');
-    if (turned & DATA && level & DATA && freed !== null && freed < time && called === null) {
-      part('printers that do not listen let DATA go', freed, time, DATA, 'Dr');
-    }
-    if (turned & CLOCK && level & CLOCK && called === null && freed !== null && time < to) {
-      const unlisten = before && before.name === 'UNLISTEN';
-      part(unlisten ? 'from ATN to CLOCK, after UNLISTEN' : 'a byte that nobody hears', freed, time, CLOCK, unlisten ? 'Cr' : 'Bb');
-      since = time;
-    }
-  }
-  if (after && called !== null) part('from ATN to the look', called, to, CLOCK, 'Aw');
-  else if (after && after.kind === 'data' && before) part('before the byte', freed ?? from, to, CLOCK, 'Bb');
-  return parts;
+/** The intervals of a frame whose moments its reading has. */
+export function momentsOf({ look, ready, pulled, released, pull, last, end, fault }) {
+  const opening = pulled === null ? [partOf('Ne', ready, pull)] : [partOf('Ye', ready, pulled), partOf('Ei', pulled, released), partOf('Ry', released, pull)];
+  return [partOf('H', look, ready), ...opening, ...(fault ? [] : [partOf('F', last, end)])];
+}
+
+/** The half of a bit that a level of CLOCK is, from one moment to another. */
+export const halfOf = (isReleased, from, to) => partOf(isReleased ? 'V' : 'S', from, to);
+
+/** The lengths of a frame's intervals in order: `{ name, least, greatest, bounds }`. */
+export function intervalsOf(frame) {
+  const lengths = momentsOf(frame).map(({ name, from, to, bounds }) => ({ name, least: to - from, greatest: to - from, bounds }));
+  const half = (kind, [least, greatest]) => ({ name: nameOf(kind), least, greatest, bounds: boundsOf(kind) });
+  const halves = frame.bits ? [half('S', frame.low), half('V', frame.high)] : [];
+  return frame.fault ? [...lengths, ...halves] : [...lengths.slice(0, -1), ...halves, ...lengths.slice(-1)];
 }

@@ -6,7 +6,7 @@ import { marksMore, marksOf } from './sheets.js';
 import { countsOf, edgeAt, framesOf, lineStarts, textOfEdges, useBounds } from './wire.js';
 
 let print1525 = null;
-const shown = { run: 0, kind: '', ask: null, lines: null };   // what is on paper; `run` is the number of its print
+const shown = { run: 0, kind: '', ask: null, list: null };   // what is on paper; `run` is the number of its print
 const wire = { run: 0, ask: null, bytes: null, input: 'text', starts: null, edges: null, frames: [], readings: null };
 let running = 0;                                                       // the run of the job under way
 
@@ -14,17 +14,17 @@ const text = bytes => new TextDecoder().decode(bytes);
 const latin = bytes => new TextDecoder('latin1').decode(bytes);        // a character for each byte
 const lasting = () => [new Uint16Array(0), new Uint16Array(0), new Uint16Array(0)];
 
-/** What an answer says but for its text, with the stop or the fault in the program's words. */
+/** What an answer says but for its text, with the stop or the fault in the program's words, and by its name alone. */
 const answerOf = answer => {
   const { code, fault, line, statement } = answer;
-  return { code, fault, line, statement, words: print1525.words(answer) };
+  return { code, fault, line, statement, words: print1525.words(answer), name: print1525.faultName(answer) };
 };
 
 /** The script that a listing says: itself, or what the module makes of petcat's text; or the answer that refuses it. */
 async function scriptOf({ script, form = 'text' }) {
   if (form === 'text') return { script };
   const answer = await print1525.listing({ bytes: script, form });
-  return answer.code ? { refused: { ...answerOf(answer), column: answer.column, told: '' } } : { script: answer.text };
+  return answer.code ? { refused: { ...answerOf(answer), column: answer.column } } : { script: answer.text };
 }
 
 /** The place of a script's fault in petcat's text: its line, and how many characters of the line come before it. */
@@ -39,18 +39,32 @@ async function placeInPetcat({ line, column }, listing) {
   return { line, from: row[last] === '}' ? row.lastIndexOf('{', last) : last };
 }
 
-/** What comes after the papers in the lines of a run: each statement's status (1 where no device answered) and the screen's bytes. */
-function endOf(lines) {
-  const numbers = name => {
-    const from = `\n${lines}`.lastIndexOf(`\n${name}: `);        // (a printed line begins with a sign)
-    return from < 0 ? [] : lines.slice(from + name.length + 2, lines.indexOf('.', from)).split(/\s+/);
-  };
-  return { statuses: Uint8Array.from(numbers('Statuses').map(status => status === '0' ? 0 : 1)), screen: Uint8Array.from(numbers('Screen').map(Number)) };
+/**
+ * The last lines of a page text, which are for programs: `status` with a number for each statement, and `screen` with its bytes. A
+ * status is given as 1 where no device answered, and else as 0.
+ */
+function endOf(pages) {
+  const lines = [];
+  for (let end = pages.length, from; end > 0 && lines[0]?.[0] !== 'status'; end = from) {
+    from = pages.lastIndexOf(10, end - 2) + 1;
+    lines.unshift(latin(pages.subarray(from, end - 1)).split(' '));
+  }
+  const [[, ...statuses], [, ...screen]] = lines;
+  return { statuses: Uint8Array.from(statuses, status => Number(status) ? 1 : 0), screen: Uint8Array.from(screen, Number) };
+}
+
+/**
+ * The lines of an explanation behind the listing's line and the caret below it: what was expected and what is there, without the
+ * place, which the numbers of the fault say, and hints.
+ */
+function explanationOf(told, { line, column, basicLine }) {
+  const [, , sentence = '', ...hints] = text(told).split('\n'), where = `  line ${line}, column ${column}${basicLine === null ? '' : `, BASIC line ${basicLine}`}: `;
+  return { sentence: sentence.startsWith(where) ? sentence.slice(where.length) : sentence.trim(), hints: hints.map(hint => hint.trim()).filter(Boolean) };
 }
 
 /** Prints on paper by one of the module's calls, as a picture, and keeps by which. */
 function picture(kind, ask, answer) {
-  Object.assign(shown, { run: running, kind, ask, lines: null });
+  Object.assign(shown, { run: running, kind, ask, list: null });
   return answer.text;
 }
 
@@ -78,19 +92,22 @@ async function least(count, isSo) {
   return low;
 }
 
-/** Whether a recording is lawful, in words; nothing where it cannot be read to its end. */
+const LAWFUL = { isLawful: true, verdict: 'lawful' }, UNKNOWN = { isLawful: null, verdict: '' };
+
+/** Whether a recording is lawful, and that in words; neither where it cannot be read to its end. */
 async function verdictOf(ask) {
   const answer = await print1525.report(ask);
-  return answer.code === 0 ? 'lawful' : answer.code === 2 && answer.edge >= 0 ? `not lawful: ${print1525.words(answer)}` : '';
+  if (answer.code === 0) return LAWFUL;
+  return answer.code === 2 && answer.edge >= 0 ? { isLawful: false, verdict: `not lawful: ${print1525.words(answer)}` } : UNKNOWN;
 }
 
 /** Keeps a recording, and gives its edges and what is said of it; `ask` has its bytes and their format. */
 async function keepWire(ask, said, verdict) {
   const { times, levels } = await print1525.edges(ask), { readings } = await print1525.readings(ask), { intervals } = await print1525.intervals(ask);
-  const { bytes, input = 'text' } = ask;
-  const frames = said.code === 3 ? [] : framesOf(readings, latin(said.text)), edges = { times, levels };
+  const { kinds, since } = await print1525.edgeDelays(ask), { bytes, input = 'text' } = ask;
+  const frames = said.code === 3 ? [] : framesOf(readings, said.text), edges = { times, levels };
   Object.assign(wire, { run: running, bytes, input, starts: input === 'text' ? lineStarts(bytes) : null, edges, frames, readings: said.text });
-  return { times: times.slice(), levels: levels.slice(), frames, counts: countsOf(frames), intervals, verdict };
+  return { times: times.slice(), levels: levels.slice(), kinds, since, frames, counts: countsOf(frames), intervals, ...verdict };
 }
 
 /** The first lines of the script that the wire shows, or how many lines it has. */
@@ -135,10 +152,10 @@ const jobs = {
     const answer = answerOf(pages);
     if (pages.code <= 1) answer.svg = picture('script', run, pages);
     answer.milliseconds = performance.now() - began;
-    if (pages.code === 1) answer.told = text((await print1525.explainStop({ ...run, stop: pages.fault, statement: pages.statement })).text);
+    if (pages.code === 1) answer.told = text((await print1525.explainStop({ ...run, stop: pages.fault, statement: pages.statement })).text).split('\n').slice(0, -1);
     if (pages.code === 2) {
-      answer.told = text((await print1525.explainScript({ script })).text);
       answer.place = await print1525.scriptFault({ script });
+      if (answer.place) answer.explanation = explanationOf((await print1525.explainScript({ script })).text, answer.place);
       if (ask.form === 'petcat' && answer.place) answer.inPetcat = await placeInPetcat(answer.place, ask.script);
     }
     return answer;
@@ -157,8 +174,8 @@ const jobs = {
 
   /** What comes after the sheets of the script that is shown: each statement's line and status, and the screen's bytes. */
   async end() {
-    shown.lines = (await print1525.pages({ ...shown.ask, format: 'text' })).text;
-    return { ...endOf(text(shown.lines)), lines: (await print1525.statementLines(shown.ask)).lines };
+    shown.list = (await print1525.pages({ ...shown.ask, format: 'list' })).text;
+    return { ...endOf(shown.list), lines: (await print1525.statementLines(shown.ask)).lines };
   },
 
   /** The trace of a script's run at some delays, and what it says. */
@@ -175,7 +192,7 @@ const jobs = {
     if (bus.code > 1) return answerOf(bus);
     const said = await print1525.decode({ bytes: bus.text, input: 'text', output: 'readings' });
     // (that the trace of a run is lawful is proved)
-    const kept = await keepWire({ bytes: bus.text, input: 'text' }, said, 'lawful');
+    const kept = await keepWire({ bytes: bus.text, input: 'text' }, said, LAWFUL);
     wire.ask = run;
     return { ...answerOf(bus), ...kept, delays: run.delays };
   },
@@ -203,11 +220,11 @@ const jobs = {
   async recording(ask) {
     const said = await print1525.decode({ ...ask, output: 'readings' });
     /** @type {any} */
-    const answer = { ...answerOf(said), ...await keepWire(ask, said, said.code === 0 ? await verdictOf(ask) : '') };
+    const answer = { ...answerOf(said), ...await keepWire(ask, said, said.code === 0 ? await verdictOf(ask) : UNKNOWN) };
     const pages = await print1525.decode({ ...ask, output: 'svg' });
     if (pages.text.length) answer.svg = picture('recording', ask, pages);
     if (said.code === 2) answer.told = text((await print1525.explainReading(ask)).text);
-    else if (answer.verdict !== 'lawful') answer.told = text((await print1525.explainTrace(ask)).text);
+    else if (!answer.isLawful) answer.told = text((await print1525.explainTrace(ask)).text);
     return answer;
   },
 
@@ -222,7 +239,7 @@ const jobs = {
     if (what === 'readings') return wire.readings.slice();
     if (what === 'trace') return wire.input === 'text' ? wire.bytes.slice() : textOfEdges(wire.edges, wire.edges.times.length);
     if (what === 'vcd') return (await print1525.bus({ ...shown.ask, delays, format: 'vcd' })).text;
-    return what === 'text' && shown.lines ? shown.lines.slice() : madeAgain(what);
+    return what === 'list' && shown.list ? shown.list.slice() : madeAgain(what);
   },
 
   /** The marks that a frame's byte makes: those that the pages have with its last edge and not without it. */
@@ -258,8 +275,9 @@ onmessage = async ({ data: { number, job, ask, run } }) => {
     if (isLate(job, ask, run)) { postMessage({ number, answer: null }); return; }
     running = run;
     const answer = await jobs[job](ask);
-    // (a picture can have millions of bytes: the page gets these themselves, not a copy)
-    postMessage({ number, answer }, { transfer: answer?.svg ? [answer.svg.buffer] : [] });
+    // (these can have millions of bytes: the page gets them themselves, not copies)
+    const large = [answer?.svg, answer?.kinds, answer?.since];
+    postMessage({ number, answer }, { transfer: large.filter(Boolean).map(({ buffer }) => buffer) });
   } catch (error) {
     postMessage({ number, error: error instanceof Error ? error.message : String(error) });
   }

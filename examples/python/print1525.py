@@ -66,7 +66,7 @@ class Settings(Structure):
     _fields_ += [(name, c_uint64) for name in NUMBERS]
     _fields_ += [(f"{party}_delays", Delays) for party in ("computer", "printer4", "printer5")]
     _fields_ += [(name, Name) for name in SIGNALS]
-    _fields_ += [("characters", c_char_p), ("characters_length", c_size_t)]
+    _fields_ += [("characters", c_char_p), ("characters_length", c_size_t), ("stopped", Details)]
 
 
 class Edge(Structure):
@@ -119,9 +119,8 @@ _LIBRARY.print1525_version.restype = c_char_p
 _LIBRARY.print1525_message.restype = c_size_t
 _LIBRARY.print1525_message.argtypes = [POINTER(Details), c_char_p, c_size_t]
 _CALLS = ("pages", "bus", "listing", "raw", "check", "readings", "reprint", "explain_script", "explain_trace", "explain_reading")
-for _name in (*_CALLS, "print", "edges"):
+for _name in (*_CALLS, "explain_stop", "print", "edges"):
     getattr(_LIBRARY, f"print1525_{_name}").argtypes = [c_void_p, c_size_t, POINTER(Settings), c_void_p, c_size_t, POINTER(Details)]
-_LIBRARY.print1525_explain_stop.argtypes = [c_void_p, c_size_t, POINTER(Settings), POINTER(Details), c_void_p, c_size_t, POINTER(Details)]
 for _name in ("decoder", "receiver"):
     getattr(_LIBRARY, f"print1525_{_name}_edge").argtypes = [c_void_p, POINTER(Edge), c_void_p, POINTER(Details)]
 _LIBRARY.print1525_receiver_begin.argtypes = [POINTER(Receiver), c_uint8]
@@ -152,6 +151,8 @@ def _settings(words):
             setattr(made, name, Name(value, len(value)))
         elif name == "characters":
             made.characters, made.characters_length = value, len(value)
+        elif name == "stopped":
+            made.stopped = Details(status=STOPPED, fault=value.fault, place=value.place)
         elif name in ("computer_delays", "printer4_delays", "printer5_delays"):
             setattr(made, name, Delays((c_uint16 * len(value))(*value), len(value)))
         else:
@@ -191,12 +192,8 @@ pages, bus, listing, raw, check, readings, reprint, explain_script, explain_trac
 
 def explain_stop(script, stopped, **settings):
     """print1525_explain_stop: why the run stopped that gave this Result."""
-    script, stop = _bytes(script), Details(status=STOPPED, fault=stopped.fault, place=stopped.place)
-
-    def make(given, length, chosen, *rest):
-        return _LIBRARY.print1525_explain_stop(given, length, chosen, byref(stop), *rest)
-
-    return _text(make, script, len(script), settings)
+    script = _bytes(script)
+    return _text(_LIBRARY.print1525_explain_stop, script, len(script), {**settings, "stopped": stopped})
 
 
 def print_inputs(inputs, **settings):

@@ -53,6 +53,7 @@ struct RawSettings {
     names: [RawName; 3],
     characters: *const c_void,
     characters_length: usize,
+    stopped: Details,
 }
 
 /// An edge of the bus: from this microsecond on the lines have these levels, 0 for pulled.
@@ -130,7 +131,7 @@ pub struct Receiver {
     called: u8,
 }
 
-const _: () = assert!(size_of::<Details>() == 32 && size_of::<RawSettings>() == 160);
+const _: () = assert!(size_of::<Details>() == 32 && size_of::<RawSettings>() == 192);
 const _: () = assert!(size_of::<Received>() == 3 && size_of::<Receiver>() == 200);
 const _: () = assert!(size_of::<Edge>() == 16 && size_of::<Reading>() == 104 && size_of::<Decoder>() == 192);
 
@@ -230,7 +231,6 @@ unsafe extern "C" {
         script: *const u8,
         length: usize,
         s: *const RawSettings,
-        stopped: *const Details,
         to: *mut c_void,
         room: usize,
         d: *mut Details,
@@ -396,6 +396,7 @@ impl Settings<'_> {
             names: self.names.map(|it| RawName { bytes: it.as_ptr(), length: it.len() }),
             characters: self.characters.as_ptr().cast(),
             characters_length: self.characters.len(),
+            stopped: Details::default(),
         }
     }
 }
@@ -444,10 +445,13 @@ fn filled<Item: Clone + Default>(mut make: impl FnMut(*mut Item, usize, &mut Det
 }
 
 fn made_by<Item>(call: Call<Item>, given: &[Item], settings: &Settings) -> (Vec<u8>, Details) {
-    let raw = settings.raw();
+    made_with(call, given, &settings.raw())
+}
+
+fn made_with<Item>(call: Call<Item>, given: &[Item], raw: &RawSettings) -> (Vec<u8>, Details) {
     filled(|to: *mut u8, room, details| {
         // SAFETY: slices and settings live as long as the call, which keeps no pointer and writes no more than there is room for.
-        unsafe { call(given.as_ptr(), given.len(), &raw, to.cast(), room, details) };
+        unsafe { call(given.as_ptr(), given.len(), raw, to.cast(), room, details) };
     })
 }
 
@@ -527,7 +531,7 @@ pub fn reprint(recording: &[u8], settings: &Settings) -> Result<Said<u8>, Error>
 pub fn edges(recording: &[u8], settings: &Settings) -> Result<Said<Edge>, Error> {
     let raw = settings.raw();
     said(filled(|to, room, details| {
-        // SAFETY: as in `made_by`.
+        // SAFETY: as in `made_with`.
         unsafe { print1525_edges(recording.as_ptr(), recording.len(), &raw, to, room, details) };
     }))
 }
@@ -539,11 +543,8 @@ pub fn explain_script(script: &[u8], settings: &Settings) -> Result<Explained, E
 
 /// Why the run of a script stopped.
 pub fn explain_stop(script: &[u8], settings: &Settings, stop: &Error) -> Result<Explained, Error> {
-    let raw = settings.raw();
-    explained(filled(|to: *mut u8, room, details| {
-        // SAFETY: as in `made_by`.
-        unsafe { print1525_explain_stop(script.as_ptr(), script.len(), &raw, &stop.0, to.cast(), room, details) };
-    }))
+    let raw = RawSettings { stopped: stop.0, ..settings.raw() };
+    explained(made_with(print1525_explain_stop, script, &raw))
 }
 
 /// Why `check` refuses a trace.

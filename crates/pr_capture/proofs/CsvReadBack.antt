@@ -1,7 +1,7 @@
 -- A table that holds samples is read back as these samples.
 use Rattle.std.proofs.Common.{◌≡◌, ℕ, zero, suc, ◌+◌, ◌-◌, ◌*◌, ◌/◌, ◌%◌, ◌<◌, ◌≤◌, ◌==◌, Bool, true, false, List, [], ◌∷◌, ◌++◌, length, take, refl, ap, sym, subst, ◌∙◌, arith, append_assoc, append-nil, length-append, nat_lt, Option, Some, None, inl, inr, lit<}
 use Rattle.std.proofs.Math.Seq.{take-append_seam}
-use Rattle.std.specs.Prelude.{◌⊎◌, codes, nat_le, Ok}
+use Rattle.std.specs.Prelude.{◌⊎◌, codes, if◌then◌else◌, is_some, nat_le, Ok}
 use Rattle.std.specs.List.{list_all}
 use Rattle.std.proofs.lemmas.Grind.{common_steps}
 use Rattle.std.proofs.lemmas.List.{take_all}
@@ -14,15 +14,16 @@ use Rattle.pr_capture.specs.declared.csv.Columns.{Columns}
 use Rattle.pr_capture.specs.declared.csv.Layout.{Layout}
 use Rattle.pr_capture.specs.declared.csv.Moment.{Moment}
 use Rattle.pr_capture.specs.declared.csv.Scale.TheVariants.{Timed}
+use Rattle.pr_capture.specs.declared.fault.Wire.TheVariants.{Atn, Clock, Data}
 use Rattle.pr_capture.specs.declared.signals.Signals.{Signals}
-use Rattle.pr_capture.specs.Csv.{clock_column, column_of, csv_contents, fields_of, first_contents, first_moment, is_in_front, is_silent, layout_by, layout_in, layout_of, moment_at, opened, row_contents, row_of, sample_of, separator_of}
+use Rattle.pr_capture.specs.Csv.{clock_name, column_in, column_of, csv_contents, fields_of, first_contents, first_moment, is_in_front, is_silent, layout_by, layout_in, layout_of, moment_at, opened, row_contents, row_of, sample_of, separator_of}
 use Rattle.pr_capture.specs.Numbers.{number_from, number_of_first, onward, with_zeros}
 use Rattle.pr_capture.specs.TableTimes.{instant_in, micros_of, no_remarks, start_of, time_unit}
 use Rattle.pr_capture.specs.CsvLaws.{InOrder, csv_names, csv_of, csv_row, csv_rows, digits_of, level_byte, separator_byte, time_field, time_name, Separator, TimeUnit}
 use Rattle.pr_capture.specs.CsvLaws.Separator.{Comma, Semicolon, Tab}
 use Rattle.pr_capture.specs.CsvLaws.TimeUnit.{Seconds, Milliseconds, Microseconds, Nanoseconds, Picoseconds}
 use Rattle.pr_capture.specs.CsvSteps.{is_inner}
-use Rattle.pr_capture.specs.Recording.{◌>>=◌, first_some, second_name, with_samples, without_front}
+use Rattle.pr_capture.specs.Recording.{◌>>=◌, second_name, with_samples, without_front}
 use Rattle.pr_capture.specs.Samples.{changes_after, edges_of, last_at_each}
 use Rattle.pr_capture.specs.VcdReadingLaws.{IsAsWritten, RunsOn}
 use Rattle.pr_capture.proofs.CsvReading.{inner-line}
@@ -394,9 +395,10 @@ names-read p u s rate h =
     let sep : ℕ = separator_byte p in
     let n = names-are p u in
     let fs : List (List ℕ) = codes "ATN" ∷ codes "CLOCK" ∷ codes "DATA" ∷ [] in
-    let atn : column_of s.atn.now 1 fs ≡ Some 1 = ap (λ v. column_of v 1 fs) h.atn in
-    let clock : clock_column s 1 fs ≡ Some 2 = ap (λ v. first_some (column_of v 1 fs) (column_of (second_name s) 1 fs)) h.clock in
-    let line : column_of s.line.now 1 fs ≡ Some 3 = ap (λ v. column_of v 1 fs) h.line in
+    let atn : column_in 1 Atn s.atn.now 1 fs ≡ Ok 1 = ap (λ v. column_in 1 Atn v 1 fs) h.atn in
+    let clock : column_in 1 Clock (clock_name s fs) 1 fs ≡ Ok 2 =
+    ap (λ v. column_in 1 Clock (if is_some (column_of v 0 fs) then v else second_name s) 1 fs) h.clock in
+    let line : column_in 1 Data s.line.now 1 fs ≡ Ok 3 = ap (λ v. column_in 1 Data v 1 fs) h.line in
     ap (λ b. layout_in s (no_remarks rate) 1 b (fields_of b false (csv_names sep u))) n.separator
     ∙ (ap (layout_in s (no_remarks rate) 1 sep) n.fields
     ∙ (ap (λ o. layout_by s (no_remarks rate) 1 sep o (time_name u ∷ fs)) (unit-read u)

@@ -21,7 +21,7 @@ use Rattle.pr_capture.specs.declared.csv.Row.{Row}
 use Rattle.pr_capture.specs.declared.csv.RowPlace.{RowPlace}
 use Rattle.pr_capture.specs.declared.csv.RowPlace.TheVariants.{Rows}
 use Rattle.pr_capture.specs.declared.csv.Scale.{Scale}
-use Rattle.pr_capture.specs.declared.csv.Scale.TheVariants.{Counted, Timed}
+use Rattle.pr_capture.specs.declared.csv.Scale.TheVariants.{Counted, Numbered, Timed}
 use Rattle.pr_capture.specs.declared.last_row.LastRow.{LastRow}
 use Rattle.pr_capture.specs.declared.fault.CaptureFault.{CaptureFault}
 use Rattle.pr_capture.specs.declared.signals.Signals.{Signals}
@@ -340,6 +340,7 @@ tail-levels inverted y line from e at inner loud reads = by y.scale refl at
           first = rw is tt;
           reads = λ number time front f. (let none : front ≡ [] = rw is at f in rw none (reads number time));
         }
+    by (Numbered step rate) is k = absurd (cc)
     by (Timed unit) is k =
         timed unit is (are_behind y.columns) (is_plain y.separator) (nat_lt (field_len y.separator false line) (length line)) refl refl refl k
 

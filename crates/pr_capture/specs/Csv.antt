@@ -1,6 +1,6 @@
 -- Trusted: what a table of separated values says of the bus: samples of its lines, up to the first fault if there is one.
 -- Blank lines and remarks say nothing, but for a rate. Of the others the first has the columns' names, and each later one is a sample.
-use Rattle.std.specs.Prelude.{ℕ, zero, suc, ◌+◌, ◌==◌, ◌&&◌, ◌||◌, Bool, true, false, not, List, [], ◌∷◌, codes, take, drop, if◌then◌else◌, Option, Some, None, Result, Ok, Err}
+use Rattle.std.specs.Prelude.{ℕ, zero, suc, ◌+◌, ◌==◌, ◌&&◌, ◌||◌, Bool, true, false, not, List, [], ◌∷◌, codes, take, drop, is_some, if◌then◌else◌, Option, Some, None, Result, Ok, Err}
 use Rattle.std.specs.List.{list_all}
 use Rattle.std.specs.Str.{bytes_eq}
 use Rattle.pr_wire.specs.declared.Edge.{Edge}
@@ -8,7 +8,7 @@ use Rattle.pr_wire.specs.Levels.{edge_at}
 use Rattle.pr_base.specs.Lines.{lines_of, onto_first}
 use Rattle.pr_capture.specs.declared.csv.Columns.{Columns}
 use Rattle.pr_capture.specs.declared.csv.Scale.{Scale}
-use Rattle.pr_capture.specs.declared.csv.Scale.TheVariants.{Counted, Timed}
+use Rattle.pr_capture.specs.declared.csv.Scale.TheVariants.{Counted, Numbered, Timed}
 use Rattle.pr_capture.specs.declared.csv.Layout.{Layout}
 use Rattle.pr_capture.specs.declared.csv.Moment.{Moment}
 use Rattle.pr_capture.specs.declared.csv.Row.{Row}
@@ -17,12 +17,12 @@ use Rattle.pr_capture.specs.declared.times.Instant.{Instant}
 use Rattle.pr_capture.specs.declared.fault.Wire.{Wire}
 use Rattle.pr_capture.specs.declared.fault.Wire.TheVariants.{Atn, Clock, Data}
 use Rattle.pr_capture.specs.declared.fault.CaptureFault.{CaptureFault}
-use Rattle.pr_capture.specs.declared.fault.CaptureFault.TheVariants.{Archive, BadLevel, BadTime, NoLevel, NoSignal, NoTime, WideText}
+use Rattle.pr_capture.specs.declared.fault.CaptureFault.TheVariants.{Archive, BadLevel, BadTime, NoLevel, NoSignal, NoTime, TwoSignals, WideText}
 use Rattle.pr_capture.specs.declared.signals.Signals.{Signals}
-use Rattle.pr_capture.specs.Recording.{◌>>=◌, ended, first_some, is_framing, is_named, level_in, refused, second_name, with_samples, without_front, CaptureContents}
+use Rattle.pr_capture.specs.Recording.{◌>>=◌, ended, is_framing, is_named, level_in, refused, second_name, with_samples, without_front, CaptureContents}
 use Rattle.pr_capture.specs.Words.{is_space}
 use Rattle.pr_capture.specs.Numbers.{behind_word}
-use Rattle.pr_capture.specs.TableTimes.{from_start, instant_in, is_time_alone, no_remarks, rate_known, remarked, start_of, time_at_rate, time_or, time_unit}
+use Rattle.pr_capture.specs.TableTimes.{from_start, has_numbers, instant_in, is_sample_word, is_time_alone, no_remarks, rate_known, remarked, sample_in, scale_of, start_of, time_at_rate, time_or, time_unit}
 
 -- Lines and fields.
 
@@ -41,12 +41,8 @@ abbrev pub is_silent : (line : List ℕ) → Bool
 is_silent line = is_remark (without_space line)
 
 -- or it is the line that sigrok-cli puts in front
-abbrev pub is_there : Option (List ℕ) → Bool
-is_there None = false
-is_there (Some rest) = true
-
 abbrev pub is_in_front : (line : List ℕ) → Bool
-is_in_front line = is_silent line || is_there (behind_word (codes "METAsamplerate") line)
+is_in_front line = is_silent line || is_some (behind_word (codes "METAsamplerate") line)
 
 -- what separates fields: the first comma, semicolon or tab of the line of the names tells it
 abbrev pub is_separator : ℕ → Bool
@@ -76,21 +72,31 @@ abbrev pub column_of : (name : List ℕ) → (place : ℕ) → (fields : List (L
 column_of name place [] = None
 column_of name place (f ∷ fs) = if is_named name f then Some place else column_of name (place + 1) fs
 
--- that of CLOCK, by its first name or else by its second
-abbrev pub clock_column : Signals → (place : ℕ) → (fields : List (List ℕ)) → Option ℕ
-clock_column s place fs = first_some (column_of s.clock.now place fs) (column_of (second_name s) place fs)
-
 -- a column that a wire needs
 abbrev pub column_or : (number : ℕ) → Wire → Option ℕ → Result ℕ CaptureFault
 column_or number wire None = Err (NoSignal number wire)
 column_or number wire (Some place) = Ok place
 
+-- two of these fields are this name
+abbrev pub is_twice : (name : List ℕ) → (fields : List (List ℕ)) → Bool
+is_twice name [] = false
+is_twice name (f ∷ fs) = if is_named name f then is_some (column_of name 0 fs) else is_twice name fs
+
+-- the column that a wire needs, and that no other has the name of
+abbrev pub column_in : (number : ℕ) → Wire → (name : List ℕ) → (place : ℕ) → (fields : List (List ℕ)) → Result ℕ CaptureFault
+column_in number wire name place fs =
+    if is_twice name fs then Err (TwoSignals number wire) else column_or number wire (column_of name place fs)
+
+-- CLOCK's name: its first, or else its second
+abbrev pub clock_name : Signals → (fields : List (List ℕ)) → List ℕ
+clock_name s fs = if is_some (column_of s.clock.now 0 fs) then s.clock.now else second_name s
+
 -- the columns of the three lines
 abbrev pub columns_in : Signals → (number place : ℕ) → (fields : List (List ℕ)) → Result Columns CaptureFault
 columns_in s number place fs =
-    column_or number Atn (column_of s.atn.now place fs) >>= λ atn.
-    column_or number Clock (clock_column s place fs) >>= λ clock.
-    column_or number Data (column_of s.line.now place fs) >>= λ line.
+    column_in number Atn s.atn.now place fs >>= λ atn.
+    column_in number Clock (clock_name s fs) place fs >>= λ clock.
+    column_in number Data s.line.now place fs >>= λ line.
     Ok (record { atn = atn; clock = clock; line = line })
 
 -- the rate has to be known where no column is of times
@@ -98,19 +104,26 @@ abbrev pub rate_or : (number : ℕ) → (rate : Option ℕ) → Result ℕ Captu
 rate_or number None = Err (NoTime number)
 rate_or number (Some rate) = Ok rate
 
--- the rate counts where the first column is another than one of times. Beside a column that is called by a word for time
--- alone, but has no times, only a rate that the caller gives counts
+-- the rate counts where the first column is another than one of times or of numbers. Beside a column that is called by a word
+-- for these alone, but has none, only a rate that the caller gives counts
 abbrev pub rate_beside : Remarks → (first : Option (List ℕ)) → Option ℕ
 rate_beside r None = rate_known r
-rate_beside r (Some name) = if is_time_alone name then r.given else rate_known r
+rate_beside r (Some name) = if is_time_alone name || is_sample_word name then r.given else rate_known r
 
--- a table with times in its first column, by their unit, or a row a sample
-abbrev pub layout_by : Signals → Remarks → (number separator : ℕ) → (unit : Option ℕ) → (fields : List (List ℕ)) → Result Layout CaptureFault
-layout_by s r number sep (Some unit) fs =
-    columns_in s number 1 (drop 1 fs) >>= λ c. Ok (record { columns = c; separator = sep; scale = Timed unit })
-layout_by s r number sep None fs =
+-- a table without times: its first column has the numbers of samples, or it has a row a sample
+abbrev pub layout_beside : Signals → Remarks → (number separator : ℕ) → (numbers : Bool) → (fields : List (List ℕ)) → Result Layout CaptureFault
+layout_beside s r number sep true fs =
+    columns_in s number 1 (drop 1 fs) >>= λ c.
+    rate_or number (rate_known r) >>= λ rate. Ok (record { columns = c; separator = sep; scale = Numbered 1 rate })
+layout_beside s r number sep false fs =
     columns_in s number 0 fs >>= λ c.
     rate_or number (rate_beside r (field_at 0 fs)) >>= λ rate. Ok (record { columns = c; separator = sep; scale = Counted rate })
+
+-- or with times in its first column, by their unit
+abbrev pub layout_by : Signals → Remarks → (number separator : ℕ) → (unit : Option ℕ) → (fields : List (List ℕ)) → Result Layout CaptureFault
+layout_by s r number sep (Some unit) fs =
+    columns_in s number 1 (drop 1 fs) >>= λ c. Ok (record { columns = c; separator = sep; scale = scale_of r unit })
+layout_by s r number sep None fs = layout_beside s r number sep (has_numbers r.bare (field_at 0 fs)) fs
 
 -- the unit of the first column, if it is one of times
 abbrev pub unit_in : (bare : Option ℕ) → (first : Option (List ℕ)) → Option ℕ
@@ -174,8 +187,14 @@ abbrev pub instant_of_row : (unit : ℕ) → (first : Option (List ℕ)) → Opt
 instant_of_row unit None = None
 instant_of_row unit (Some f) = instant_in unit (without_front f)
 
+-- that of the sample whose number it has, so many times
+abbrev pub instant_of_number : (step rate : ℕ) → (first : Option (List ℕ)) → Option Instant
+instant_of_number step rate None = None
+instant_of_number step rate (Some f) = sample_in step rate (without_front f)
+
 abbrev pub moment_of : Scale → (number : ℕ) → Moment → (fields : List (List ℕ)) → Result Moment CaptureFault
 moment_of (Timed unit) number m fields = moment_at number m (instant_of_row unit (field_at 0 fields))
+moment_of (Numbered step rate) number m fields = moment_at number m (instant_of_number step rate (field_at 0 fields))
 moment_of (Counted rate) number m fields = moment_next number m (time_at_rate rate m.count)
 
 -- what a row tells: its sample, and the moment from which the next row goes on

@@ -11,7 +11,7 @@ use Rattle.pr_capture.specs.declared.csv.Layout.{Layout}
 use Rattle.pr_capture.specs.declared.csv.Moment.{Moment}
 use Rattle.pr_capture.specs.declared.csv.Row.{Row}
 use Rattle.pr_capture.specs.declared.csv.Scale.{Scale}
-use Rattle.pr_capture.specs.declared.csv.Scale.TheVariants.{Counted, Timed}
+use Rattle.pr_capture.specs.declared.csv.Scale.TheVariants.{Counted, Numbered, Timed}
 use Rattle.pr_capture.specs.declared.last_row.LastRow.{LastRow}
 use Rattle.pr_capture.specs.declared.csv.RowPlace.{RowPlace}
 use Rattle.pr_capture.specs.declared.csv.RowPlace.TheVariants.{First, Names, Rows}
@@ -90,12 +90,14 @@ pub record IsPlainTime (field whole decimals : List ℕ) : Type 0 where
 -- what a row has in front of the bytes that are compared: a plain time, or nothing in a table without times
 abbrev pub IsFront : Scale → (front : List ℕ) → Type 0
 IsFront (Timed unit) front = (list_all is_plain front ≡ true) × (0 < length front)
+IsFront (Numbered step rate) front = ⊥
 IsFront (Counted rate) front = front ≡ []
 
 -- the first field of rows that go on so is their time
 abbrev pub TimeComesFirst : Scale → (separator : ℕ) → (tail : List ℕ) → Type 0
 TimeComesFirst (Timed unit) sep tail =
     (front : List ℕ) → list_all is_plain front ≡ true → field_at 0 (fields_of sep false (front ++ tail)) ≡ Some front
+TimeComesFirst (Numbered step rate) sep tail = Unit {0}
 TimeComesFirst (Counted rate) sep tail = Unit {0}
 
 -- a row has these levels whose bytes after its time are these, whatever its time is
@@ -133,6 +135,7 @@ abbrev pub tail_by : Scale → Columns → (separator : ℕ) → (line : List �
 tail_by (Timed unit) c sep line =
     if are_behind c && not (is_plain sep) && nat_lt (field_len sep false line) (length line)
     then Some (field_len sep false line) else None
+tail_by (Numbered step rate) c sep line = None
 tail_by (Counted rate) c sep line = Some 0
 
 abbrev pub tail_at : Layout → (line : List ℕ) → Option ℕ

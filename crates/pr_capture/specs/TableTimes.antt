@@ -1,15 +1,17 @@
 -- Trusted: times in a table: their unit, by the name of their column; the rate of samples, by a remark; and what a field spells.
-use Rattle.std.specs.Prelude.{ℕ, ◌+◌, ◌-◌, ◌*◌, ◌/◌, ◌==◌, ◌&&◌, ◌||◌, Bool, true, false, not, List, [], ◌∷◌, codes, drop, length, nat_le, nat_lt, take, if◌then◌else◌, Option, Some, None, Result, Ok, Err}
+use Rattle.std.specs.Prelude.{ℕ, ◌+◌, ◌-◌, ◌*◌, ◌/◌, ◌%◌, ◌==◌, ◌&&◌, ◌||◌, Bool, true, false, not, List, [], ◌∷◌, codes, drop, length, nat_le, nat_lt, take, if◌then◌else◌, Option, Some, None, Result, Ok, Err}
 use Rattle.std.specs.List.{list_all}
 use Rattle.std.specs.Str.{bytes_eq}
 use Rattle.pr_base.specs.Digits.{is_digit}
+use Rattle.pr_capture.specs.declared.csv.Scale.{Scale}
+use Rattle.pr_capture.specs.declared.csv.Scale.TheVariants.{Numbered, Timed}
 use Rattle.pr_capture.specs.declared.fault.CaptureFault.{CaptureFault}
 use Rattle.pr_capture.specs.declared.fault.CaptureFault.TheVariants.{BadTime, GoesBack}
 use Rattle.pr_capture.specs.declared.remarks.Remarks.{Remarks}
 use Rattle.pr_capture.specs.declared.times.Exponent.{Exponent}
 use Rattle.pr_capture.specs.declared.times.Instant.{Instant}
 use Rattle.pr_capture.specs.Recording.{first_some, is_framing}
-use Rattle.pr_capture.specs.Numbers.{behind_decimals, behind_digits, are_some, behind_word, decimals_in, digits_in, is_letter, is_sign, number_from, number_in, number_of_first, onward, spells, without_signs}
+use Rattle.pr_capture.specs.Numbers.{behind_decimals, behind_digits, are_some, behind_word, decimals_in, digits_in, is_letter, is_sign, number_from, number_in, number_of_first, onward, spells, with_zeros, without_signs}
 
 -- The unit of times: how many decimals it is of a second, 0 for seconds and 12 for picoseconds.
 
@@ -47,6 +49,11 @@ time_unit bare l =
 abbrev pub is_time_alone : (name : List ℕ) → Bool
 is_time_alone l = spells (codes "timestamp") l || spells (codes "time") l || spells (codes "t") l
 
+-- or by one for the number of a sample
+abbrev pub is_sample_word : (name : List ℕ) → Bool
+is_sample_word l =
+    spells (codes "sample") l || spells (codes "samples") l || spells (codes "sampleindex") l || spells (codes "samplenumber") l || spells (codes "index") l
+
 -- Remarks: the rate of samples, in samples a second, and the unit of a bare word for time.
 
 -- the power of ten after a number
@@ -72,9 +79,20 @@ rate_by whole ds (Some k) =
 abbrev pub rate_in : (text : List ℕ) → Option ℕ
 rate_in l = rate_by (digits_in l) (decimals_in (behind_digits l)) (rate_unit (behind_decimals (behind_digits l)))
 
--- the same of the value of an option, which has digits and letters alone: 4M, 500k, 24MHz, 4000000
+-- these decimals before this power of ten are whole samples a second
+abbrev pub is_whole : (decimals : List ℕ) → (power : Option ℕ) → Bool
+is_whole ds None = false
+is_whole ds (Some k) = not (are_some (drop k ds))
+
+-- what follows a point and decimals
+abbrev pub behind_fraction : List ℕ → List ℕ
+behind_fraction l = if length (decimals_in l) == 0 then l else behind_decimals l
+
+-- the same of the value of an option, which has digits, letters and perhaps a point alone: 4M, 12.5M, 500k, 24MHz, 4000000
 abbrev pub rate_given : (text : List ℕ) → Option ℕ
-rate_given l = if list_all is_letter (behind_digits l) then rate_in l else None
+rate_given l =
+    if list_all is_letter (behind_fraction (behind_digits l)) && is_whole (decimals_in (behind_digits l)) (rate_unit (behind_fraction (behind_digits l)))
+    then rate_in l else None
 
 -- the unit that sigrok takes for times, by the rate of samples: the largest that is no longer than a sample
 abbrev pub unit_by : (rate : Option ℕ) → Option ℕ
@@ -110,6 +128,37 @@ with_meta r line (Some text) = record { given = r.given; rate = rate_in (without
 -- after a remark
 abbrev pub remarked : Remarks → (line : List ℕ) → Remarks
 remarked r line = with_meta r line (behind_word (codes "METAsamplerate") line)
+
+-- Columns of times: sigrok-cli adds up the time of one sample, in whole units, rounded down. Where that lacks a part, its times are taken
+-- for what they are: numbers of samples, so many times.
+
+abbrev pub is_this : (unit : ℕ) → Option ℕ → Bool
+is_this unit None = false
+is_this unit (Some u) = u == unit
+
+-- the rate of sigrok's remark, if this is the unit that it has for it
+abbrev pub own_rate : Remarks → (unit : ℕ) → (rate : Option ℕ) → Option ℕ
+own_rate r unit None = None
+own_rate r unit (Some n) = if is_this unit r.bare && is_this unit (unit_by (Some n)) then Some n else None
+
+-- a second has this many units
+abbrev pub scale_by : (unit rate : ℕ) → (second : Option ℕ) → Scale
+scale_by unit rate None = Timed unit
+scale_by unit rate (Some n) = if rate == 0 || n % rate == 0 then Timed unit else Numbered (n / rate) rate
+
+abbrev pub scale_at : (unit : ℕ) → (own : Option ℕ) → Scale
+scale_at unit None = Timed unit
+scale_at unit (Some rate) = scale_by unit rate (with_zeros unit 1)
+
+-- what the first column has, whose name is of times in this unit
+abbrev pub scale_of : Remarks → (unit : ℕ) → Scale
+scale_of r unit = scale_at unit (own_rate r unit r.rate)
+
+-- it has numbers of samples; but none after the line that sigrok-cli puts in front, since all are 0 then
+abbrev pub has_numbers : (bare : Option ℕ) → (first : Option (List ℕ)) → Bool
+has_numbers None first = false
+has_numbers (Some unit) None = false
+has_numbers (Some unit) (Some name) = is_sample_word name
 
 -- Times: whole microseconds before or after the moment 0, rounded to the earlier one.
 
@@ -239,3 +288,16 @@ time_or number before (Some t) = if nat_lt t before then Err (GoesBack number) e
 abbrev pub time_at_rate : (rate count : ℕ) → Option ℕ
 time_at_rate rate count =
     if not (rate == 0) && nat_lt (count + 1) 18446744073709551616 && nat_lt (count * 1000000 / rate) 18446744073709551616 then Some (count * 1000000 / rate) else None
+
+-- A number of a sample, so many times: digits alone.
+
+abbrev pub count_in : (text : List ℕ) → Option ℕ
+count_in l = if list_all is_framing (behind_digits l) then number_in l else None
+
+-- how often a number has this one, if it has it so often exactly
+abbrev pub times_in : (step : ℕ) → ℕ → Option ℕ
+times_in step n = if not (step == 0) && n % step == 0 then Some (n / step) else None
+
+-- the time of the sample with this number
+abbrev pub sample_in : (step rate : ℕ) → (text : List ℕ) → Option Instant
+sample_in step rate l = instant_of false (onward (onward (count_in l) (times_in step)) (time_at_rate rate))

@@ -6,7 +6,7 @@
 
 ghost use Rattle.std.specs.Prelude.{◌≡◌, ◌+◌, ◌^◌, ◌<◌, ◌≤◌, ◌∷◌, [], false, true, None, Err, IfErr, IfOk, Ok, drop, length, option_copied, take, IfSome, Some};
 ghost use Rattle.std.specs.List.{list_all, prefix_len};
-ghost use Rattle.pr_capture.specs.Csv.{behind_point, clock_column, column_of, columns_in, field_at, fields_of, first_moment, is_archive, is_in_front, is_separator, is_silent, is_wide, layout_by, layout_of, level_of, level_or, moment_at, moment_next, moment_of, opened, rate_beside, row_of, sample_of, separator_of, without_space, without_zeros};
+ghost use Rattle.pr_capture.specs.Csv.{behind_point, clock_name, column_in, column_of, columns_in, field_at, fields_of, first_moment, is_archive, is_in_front, is_separator, is_silent, is_twice, is_wide, layout_beside, layout_by, layout_of, level_of, level_or, moment_at, moment_next, moment_of, opened, rate_beside, row_of, sample_of, separator_of, without_space, without_zeros};
 ghost use Rattle.pr_capture.specs.CsvReads.{EndsText, FaultsIn, ReadsMore, RefusesTable, SkipsRows, TakesRepeats};
 ghost use Rattle.pr_capture.specs.CsvSteps.{field_len, fields_left, is_inner, line_number, moment_after, with_len, AreTimed, AnswersEnd, HasNoRows, HasReadTable, HoldsMore, IsRowOf, NamesAreRefused, NamesLeadTo, ReadsLine};
 ghost use Rattle.pr_capture.specs.TableTimes.{time_at_rate};
@@ -16,9 +16,9 @@ use crate::entries::is_word;
 use crate::fault::{CaptureFault, Wire};
 use crate::last_row::LastRow;
 use crate::numbers::{behind_first, behind_word, first_of};
-use crate::remarks::{Remarks, is_time_alone, time_unit};
+use crate::remarks::{Remarks, has_numbers, is_sample_word, is_time_alone, scale_of, time_unit};
 use crate::signals::{Signals, are_framing, is_named, is_space, level_in, without_front};
-use crate::times::{Instant, from_start, instant_in, start_of, time_at_rate, time_or};
+use crate::times::{Instant, from_start, instant_in, sample_in, start_of, time_at_rate, time_or};
 use pr_wire::{Edge, Levels};
 use std::alloc::Global;
 
@@ -35,6 +35,8 @@ pub struct Columns {
 pub enum Scale {
     /// Each row begins with its time, in this unit: how many decimals it is of a second.
     Timed(u8),
+    /// Each row begins with the number of its sample, `step` times, and a second has `rate` samples.
+    Numbered { step: u64, rate: u64 },
     /// A row is a sample, and a second has this many.
     Counted(u64),
 }
@@ -170,19 +172,51 @@ fn column_of(name: &[u8], place: usize, separator: u8, fields: Option<&[u8]>) ->
     None
 }
 
-/// The place of CLOCK's column, by its first name or else by its second.
-fn clock_column(
-    signals: &Signals<'_>,
+/// Whether two fields are this name.
+fn is_twice(name: &[u8], separator: u8, fields: Option<&[u8]>) -> bool
+    requires { length (fields_left separator (option_copied fields)) < 2 ^ 64 }
+    ensures { result ≡ is_twice name.now (fields_left separator (option_copied fields.entry)) }
+{
+    let mut left = fields;
+    while let Some(line) = left {
+        let (field, more) = split_field(separator, line);
+        if is_named(name, field) {
+            return column_of(name, 0, separator, more).is_some();
+        }
+        left = more;
+    }
+    false
+}
+
+/// The place of the column that a wire needs, which no other has the name of.
+fn column_in(
+    number: usize,
+    wire: Wire,
+    name: &[u8],
     place: usize,
     separator: u8,
     fields: Option<&[u8]>,
-) -> Option<usize>
+) -> Result<usize, CaptureFault>
     requires { place + length (fields_left separator (option_copied fields)) < 2 ^ 64 }
-    ensures { result ≡ clock_column signals.now place (fields_left separator (option_copied fields.entry)) }
+    ensures { result ≡ column_in number wire name.now place (fields_left separator (option_copied fields.entry)) }
 {
-    match column_of(signals.clock, place, separator, fields) {
-        Some(place) => Some(place),
-        None => column_of(signals.second_name(), place, separator, fields),
+    if is_twice(name, separator, fields) {
+        return Err(CaptureFault::TwoSignals(number, wire));
+    }
+    match column_of(name, place, separator, fields) {
+        None => Err(CaptureFault::NoSignal(number, wire)),
+        Some(place) => Ok(place),
+    }
+}
+
+/// CLOCK's name: its first, or else its second.
+fn clock_name<'s>(signals: &'s Signals<'_>, separator: u8, fields: Option<&[u8]>) -> &'s [u8]
+    requires { length (fields_left separator (option_copied fields)) < 2 ^ 64 }
+    ensures { result.now ≡ clock_name signals.now (fields_left separator (option_copied fields.entry)) }
+{
+    match column_of(signals.clock, 0, separator, fields) {
+        Some(_) => signals.clock,
+        None => signals.second_name(),
     }
 }
 
@@ -197,33 +231,69 @@ fn columns_in(
     requires { place + length (fields_left separator (option_copied fields)) < 2 ^ 64 }
     ensures { result ≡ columns_in signals.now number place (fields_left separator (option_copied fields.entry)) }
 {
-    let Some(atn) = column_of(signals.atn, place, separator, fields) else {
-        return Err(CaptureFault::NoSignal(number, Wire::Atn));
-    };
-    let Some(clock) = clock_column(signals, place, separator, fields) else {
-        return Err(CaptureFault::NoSignal(number, Wire::Clock));
-    };
-    let Some(line) = column_of(signals.line, place, separator, fields) else {
-        return Err(CaptureFault::NoSignal(number, Wire::Data));
-    };
+    let clock = clock_name(signals, separator, fields);
+    let atn = column_in(number, Wire::Atn, signals.atn, place, separator, fields)?;
+    let clock = column_in(number, Wire::Clock, clock, place, separator, fields)?;
+    let line = column_in(number, Wire::Data, signals.line, place, separator, fields)?;
     Ok(Columns { atn, clock, line })
 }
 
-/// The rate of samples, where the first column is another than one of times, or has the name of one but no
-/// times.
+/// The rate of samples, where the first column is another than one of times or of numbers of samples, or has
+/// the name of one but none of them.
 fn rate_beside(remarks: Remarks, first: Option<&[u8]>) -> Option<u64>
     ensures { result ≡ rate_beside remarks (option_copied first.entry) }
 {
     match first {
         None => remarks.rate_known(),
         Some(name) => {
-            if is_time_alone(name) {
+            if is_time_alone(name) || is_sample_word(name) {
                 remarks.given
             } else {
                 remarks.rate_known()
             }
         }
     }
+}
+
+/// How a table without times is read, whose first column has the numbers of samples, or which has a row a
+/// sample.
+fn layout_beside(
+    signals: &Signals<'_>,
+    remarks: Remarks,
+    number: usize,
+    separator: u8,
+    has_numbers: bool,
+    line: &[u8],
+    more: Option<&[u8]>,
+) -> Result<Layout, CaptureFault>
+    requires first { 1 + length (fields_left separator (option_copied more)) < 2 ^ 64 }
+    requires all { length (fields_of separator false line.now) < 2 ^ 64 }
+    requires more { drop 1 (fields_of separator false line.now) ≡ fields_left separator (option_copied more) }
+    ensures { result ≡ layout_beside signals.now remarks number separator has_numbers (fields_of separator false line.now) }
+{
+    let columns = if has_numbers {
+        columns_in(signals, number, 1, separator, more)?
+    } else {
+        columns_in(signals, number, 0, separator, Some(line))?
+    };
+    let rate = if has_numbers {
+        remarks.rate_known()
+    } else {
+        rate_beside(remarks, field_at(separator, line, 0))
+    };
+    let Some(rate) = rate else {
+        return Err(CaptureFault::NoTime(number));
+    };
+    let scale = if has_numbers {
+        Scale::Numbered { step: 1, rate }
+    } else {
+        Scale::Counted(rate)
+    };
+    Ok(Layout {
+        columns,
+        separator,
+        scale,
+    })
 }
 
 /// How a table is read whose first column has times of this unit, or no times, by the line of its names
@@ -248,19 +318,12 @@ fn layout_by(
             Ok(Layout {
                 columns,
                 separator,
-                scale: Scale::Timed(unit),
+                scale: scale_of(remarks, unit),
             })
         }
         None => {
-            let columns = columns_in(signals, number, 0, separator, Some(line))?;
-            match rate_beside(remarks, field_at(separator, line, 0)) {
-                None => Err(CaptureFault::NoTime(number)),
-                Some(rate) => Ok(Layout {
-                    columns,
-                    separator,
-                    scale: Scale::Counted(rate),
-                }),
-            }
+            let numbers = has_numbers(remarks.bare, field_at(separator, line, 0));
+            layout_beside(signals, remarks, number, separator, numbers, line, more)
         }
     }
 }
@@ -454,6 +517,10 @@ impl Moment {
             Scale::Timed(unit) => {
                 let (time, _) = split_field(layout.separator, line);
                 self.at(number, instant_in(unit, without_front(time)))
+            }
+            Scale::Numbered { step, rate } => {
+                let (sample, _) = split_field(layout.separator, line);
+                self.at(number, sample_in(step, rate, without_front(sample)))
             }
             Scale::Counted(rate) => self.next(number, rate),
         }

@@ -69,6 +69,7 @@ fn tail_at(layout: Layout, line: &[u8]) -> Option<usize>
 {
     match layout.scale {
         Scale::Counted(_) => Some(0),
+        Scale::Numbered { .. } => None,
         Scale::Timed(_) => {
             let len = field_len(layout.separator, line);
             if are_behind(layout.columns) && !is_plain(layout.separator) && len < line.len() {
@@ -180,6 +181,7 @@ impl LastRow {
                 let row = row_if(moment.next(number, rate), levels)?;
                 Some((tail.len() + 1, row))
             }
+            Scale::Numbered { .. } => None,
             Scale::Timed(unit) => {
                 let time = plain_in(block)?;
                 if !leads(tail, &block[time.len..]) {

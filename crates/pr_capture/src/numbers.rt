@@ -20,7 +20,7 @@ pub fn number_from(front: u64, digits: &[u8]) -> Option<u64>
 }
 
 /// The number of another and this many zeros after it.
-fn with_zeros(count: usize, front: u64) -> Option<u64>
+pub fn with_zeros(count: usize, front: u64) -> Option<u64>
     ensures { result ≡ with_zeros count front }
 {
     let mut number = front;

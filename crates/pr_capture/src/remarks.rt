@@ -1,12 +1,14 @@
 //! What the name of a table's first column and its remarks say of time.
 
 ghost use Rattle.std.specs.Prelude.{◌≡◌, ◌∷◌, [], option_copied};
-ghost use Rattle.pr_capture.specs.TableTimes.{is_micro, is_time_alone, is_unit, no_remarks, rate_by, rate_given, rate_in, rate_known, rate_unit, remarked, time_unit, unit_behind, unit_by, unit_of, with_rate};
+ghost use Rattle.pr_capture.specs.TableTimes.{behind_fraction, has_numbers, is_micro, is_sample_word, is_this, is_time_alone, is_unit, is_whole, no_remarks, own_rate, scale_by, scale_of, rate_by, rate_given, rate_in, rate_known, rate_unit, remarked, time_unit, unit_behind, unit_by, unit_of, with_rate};
 
+use crate::csv::Scale;
 use crate::entries::is_word;
 use crate::numbers::{
-    are_letters, are_signs, behind_decimals, behind_digits, behind_first, behind_word, decimals_in,
-    digits_in, first_of, number_from, number_of_first, spells, without_signs,
+    are_letters, are_signs, are_some, behind_decimals, behind_digits, behind_first, behind_word,
+    decimals_in, digits_in, first_of, number_from, number_of_first, spells, with_zeros,
+    without_signs,
 };
 
 /// What remarks say of time.
@@ -87,6 +89,17 @@ pub fn is_time_alone(name: &[u8]) -> bool
     spells(b"timestamp", name) || spells(b"time", name) || spells(b"t", name)
 }
 
+/// Whether a column is called by a word for the number of a sample.
+pub fn is_sample_word(name: &[u8]) -> bool
+    ensures { result ≡ is_sample_word name.now }
+{
+    spells(b"sample", name)
+        || spells(b"samples", name)
+        || spells(b"sampleindex", name)
+        || spells(b"samplenumber", name)
+        || spells(b"index", name)
+}
+
 /// The power of ten after the number of a rate.
 fn rate_unit(name: &[u8]) -> Option<u8>
     ensures { result ≡ rate_unit name.now }
@@ -129,14 +142,38 @@ fn rate_in(text: &[u8]) -> Option<u64>
     )
 }
 
-/// Returns the rate that the value of an option spells, in samples a second: digits, then nothing or `k`, `M`
-/// or `G`, then nothing or `Hz`, in either case, as `4M`, `500kHz` or `4000000` (profile). None for any other
-/// text, for 0, and for 2^64 samples a second and more.
+/// Whether decimals before a power of ten are whole samples a second.
+fn is_whole(decimals: &[u8], power: Option<u8>) -> bool
+    ensures { result ≡ is_whole decimals.now power }
+{
+    match power {
+        None => false,
+        Some(power) => !are_some(behind_first(decimals, usize::from(power))),
+    }
+}
+
+/// What follows a point and decimals.
+fn behind_fraction(text: &[u8]) -> &[u8]
+    ensures { result.now ≡ behind_fraction text.now }
+{
+    if decimals_in(text).is_empty() {
+        text
+    } else {
+        behind_decimals(text)
+    }
+}
+
+/// Returns the rate that the value of an option spells, in samples a second: digits, perhaps a point and
+/// decimals, then nothing or `k`, `M` or `G`, then nothing or `Hz`, in either case, as `4M`, `12.5M`, `500kHz` or
+/// `4000000` (profile). None for any other text, for 0, for 2^64 samples a second and more, and for a part of a
+/// sample.
 pub fn read_rate(text: &str) -> Option<u64>
     ensures { result ≡ rate_given text.now }
 {
     let bytes = text.as_bytes();
-    if are_letters(behind_digits(bytes)) {
+    let behind = behind_digits(bytes);
+    let unit = behind_fraction(behind);
+    if are_letters(unit) && is_whole(decimals_in(behind), rate_unit(unit)) {
         rate_in(bytes)
     } else {
         None
@@ -162,6 +199,52 @@ fn unit_by(rate: Option<u64>) -> Option<u8>
     }
 }
 
+/// Whether there is a unit, and it is this one.
+fn is_this(unit: u8, other: Option<u8>) -> bool
+    ensures { result ≡ is_this unit other }
+{
+    match other {
+        None => false,
+        Some(other) => other == unit,
+    }
+}
+
+/// What sigrok-cli's times in a unit of which a second has this many are, at a rate: where a sample is no whole
+/// number of units, it adds up the time of one, rounded down, so that they are numbers of samples.
+fn scale_by(unit: u8, rate: u64, second: Option<u64>) -> Scale
+    ensures { result ≡ scale_by unit rate second }
+{
+    let Some(second) = second else {
+        return Scale::Timed(unit);
+    };
+    if rate == 0 || second % rate == 0 {
+        return Scale::Timed(unit);
+    }
+    let step = second / rate;
+    Scale::Numbered { step, rate }
+}
+
+/// What a first column has whose name is of times in this unit.
+pub fn scale_of(remarks: Remarks, unit: u8) -> Scale
+    ensures { result ≡ scale_of remarks unit }
+{
+    match remarks.own_rate(unit) {
+        None => Scale::Timed(unit),
+        Some(rate) => scale_by(unit, rate, with_zeros(usize::from(unit), 1)),
+    }
+}
+
+/// Whether the first column has numbers of samples. After the line that sigrok-cli puts in front of what it
+/// writes before it knows the rate, all of them are 0 and none counts.
+pub fn has_numbers(bare: Option<u8>, first: Option<&[u8]>) -> bool
+    ensures { result ≡ has_numbers bare (option_copied first.entry) }
+{
+    match (bare, first) {
+        (Some(_), Some(name)) => is_sample_word(name),
+        _ => false,
+    }
+}
+
 impl Remarks {
     /// No remark: a column that is called Time alone is of seconds. The rate is that of the caller.
     pub fn new(given: Option<u64>) -> Remarks
@@ -181,6 +264,18 @@ impl Remarks {
         match self.given {
             Some(rate) => Some(rate),
             None => self.rate,
+        }
+    }
+
+    /// The rate of sigrok's remark, if this is the unit that it has for it.
+    fn own_rate(self, unit: u8) -> Option<u64>
+        ensures { result ≡ own_rate self unit self.rate }
+    {
+        let rate = self.rate?;
+        if is_this(unit, self.bare) && is_this(unit, unit_by(Some(rate))) {
+            Some(rate)
+        } else {
+            None
         }
     }
 

@@ -2,7 +2,7 @@
 
 ghost use Rattle.std.specs.Prelude.{◌≡◌, ◌+◌, ◌^◌, ◌<◌, ◌≤◌, false, length, option_copied, take, IfSome, Some};
 ghost use Rattle.std.specs.List.{list_all};
-ghost use Rattle.pr_capture.specs.TableTimes.{behind_part, behind_plus_minus, dated_in, earlier, exponent_in, few_places, from_start, has_rest, instant_at, instant_by, instant_in, is_minus, is_zone_sign, left_at, micros_left, micros_of, places_in, start_of, time_at_rate, time_or, unsigned_in, instant_of};
+ghost use Rattle.pr_capture.specs.TableTimes.{behind_part, behind_plus_minus, count_in, dated_in, earlier, exponent_in, few_places, from_start, has_rest, instant_at, instant_by, instant_in, is_minus, is_zone_sign, left_at, micros_left, micros_of, places_in, sample_in, start_of, time_at_rate, time_or, times_in, unsigned_in, instant_of};
 ghost use Rattle.pr_capture.specs.CsvSteps.{IsPlainTime, decimals_len, is_plain};
 
 use crate::fault::CaptureFault;
@@ -382,4 +382,37 @@ pub fn time_at_rate(rate: u64, count: u64) -> Option<u64>
         return Some(micros / rate);
     }
     u64::try_from(u128::from(count) * 1_000_000 / u128::from(rate)).ok()
+}
+
+/// The number that a field spells by digits alone.
+fn count_in(text: &[u8]) -> Option<u64>
+    ensures { result ≡ count_in text.now }
+{
+    if are_framing(behind_digits(text)) {
+        number_in(text)
+    } else {
+        None
+    }
+}
+
+/// How often a number has a step, if it has it so often exactly.
+fn times_in(step: u64, number: u64) -> Option<u64>
+    ensures { result ≡ times_in step number }
+{
+    if step != 0 && number % step == 0 {
+        Some(number / step)
+    } else {
+        None
+    }
+}
+
+/// The time of the sample whose number a field spells, a step times, where a second has this many samples.
+pub fn sample_in(step: u64, rate: u64, field: &[u8]) -> Option<Instant>
+    ensures { result ≡ sample_in step rate field.now }
+{
+    let count = times_in(step, count_in(field)?)?;
+    Some(Instant {
+        is_negative: false,
+        micros: time_at_rate(rate, count)?,
+    })
 }

@@ -23,7 +23,10 @@ const BLOCK_MARKS: usize = 32;
 /// Room for the lines of these marks, each of at most two short texts.
 const BLOCK: usize = 1024;
 
-/// The short texts of a page text.
+/// The most marks and numbers that are written without tables: to make the tables takes longer than to write so many.
+const FEW: usize = 1000;
+
+/// The short texts of a page text. What is in no table is made anew; the tables of short pages are empty.
 #[derive(Drop)]
 struct Texts {
     /// A space and a dot column, or any smaller number.
@@ -34,14 +37,10 @@ struct Texts {
     lower_cells: Vec<ShortText>,
     /// The rest of the line of a column of dots.
     dots: Vec<ShortText>,
-    ghost numbers_count: { vec_len numbers ≡ 480 },
-    ghost numbers_right: { HasNumbers numbers.items 480 (codes " ") [] },
-    ghost cells_count: { vec_len cells ≡ 256 },
-    ghost cells_right: { HasNumbers cells.items 256 (codes " cell ") (codes "\n") },
-    ghost lower_count: { vec_len lower_cells ≡ 256 },
-    ghost lower_right: { HasNumbers lower_cells.items 256 (codes " cell ") (codes " lower\n") },
-    ghost dots_count: { vec_len dots ≡ 256 },
-    ghost dots_right: { HasNumbers dots.items 256 (codes " dots ") (codes "\n") },
+    ghost numbers_right: { HasNumbers numbers.items (vec_len numbers) (codes " ") [] },
+    ghost cells_right: { HasNumbers cells.items (vec_len cells) (codes " cell ") (codes "\n") },
+    ghost lower_right: { HasNumbers lower_cells.items (vec_len lower_cells) (codes " cell ") (codes " lower\n") },
+    ghost dots_right: { HasNumbers dots.items (vec_len dots) (codes " dots ") (codes "\n") },
 }
 
 /// Adds a word where it holds.
@@ -90,8 +89,44 @@ fn push_mark(text: &mut Text, placed: Placed) -> Result<(), AllocError>
     text.add(b"\n")
 }
 
+/// How many marks a paper has.
+fn count_marks(paper: &Paper) -> usize {
+    let mut count = paper.held.len();
+    for row in paper.rows.as_slice() {
+        count = count.saturating_add(row.marks.len());
+    }
+    count
+}
+
+/// How many marks and numbers the page text of an outcome has.
+fn count_written(outcome: &Outcome) -> usize {
+    let marks = count_marks(&outcome.paper4).saturating_add(count_marks(&outcome.paper5));
+    let numbers = outcome.statuses.len().saturating_add(outcome.screen.len());
+    marks.saturating_add(numbers)
+}
+
 impl Texts {
-    fn new(alloc: Global) -> Result<Texts, AllocError> {
+    /// The texts with which an outcome is written soonest.
+    fn for_outcome(alloc: Global, outcome: &Outcome) -> Result<Texts, AllocError> {
+        if count_written(outcome) <= FEW {
+            Ok(Texts::none(alloc))
+        } else {
+            Texts::all(alloc)
+        }
+    }
+
+    /// No text is in a table. It takes no memory.
+    fn none(alloc: Global) -> Texts {
+        Texts {
+            numbers: Vec::new(alloc),
+            cells: Vec::new(alloc),
+            lower_cells: Vec::new(alloc),
+            dots: Vec::new(alloc),
+        }
+    }
+
+    /// All texts are in tables.
+    fn all(alloc: Global) -> Result<Texts, AllocError> {
         Ok(Texts {
             numbers: numbers_between(alloc, b" ", usize::from(LINE_DOTS), b"")?,
             cells: numbers_between(alloc, b" cell ", BYTES, b"\n")?,
@@ -111,15 +146,15 @@ impl Texts {
                 lower: false,
                 reverse: false,
                 wide: false,
-            } => Some(&self.cells[usize::from(code)]),
+            } => self.cells.get(usize::from(code)),
             Mark::Cell {
                 code,
                 lower: true,
                 reverse: false,
                 wide: false,
-            } => Some(&self.lower_cells[usize::from(code)]),
+            } => self.lower_cells.get(usize::from(code)),
             Mark::Cell { .. } => None,
-            Mark::Dots(value) => Some(&self.dots[usize::from(value)]),
+            Mark::Dots(value) => self.dots.get(usize::from(value)),
         }
     }
 
@@ -243,6 +278,17 @@ impl Texts {
         self.push_held(text, held.as_slice())
     }
 
+    /// Adds a space and a number.
+    fn push_spaced(&self, text: &mut Text, n: u8) -> Result<(), AllocError>
+        ensures { OnOk result (text.new ≡ text.old ++ codes " " ++ decimal n) }
+    {
+        if let Some(ready) = self.numbers.get(usize::from(n)) {
+            return ready.add_to(text);
+        }
+        text.add(b" ")?;
+        text.add_number(u64::from(n))
+    }
+
     /// Adds a name and numbers after it.
     #[tactic(auto, unfolding(crate::specs::PageText::numbers_text))]
     fn push_numbers(&self, text: &mut Text, name: &[u8], numbers: &[u8]) -> Result<(), AllocError>
@@ -250,7 +296,7 @@ impl Texts {
     {
         text.add(name)?;
         for n in numbers {
-            self.numbers[usize::from(*n)].add_to(text)?;
+            self.push_spaced(text, *n)?;
         }
         text.add(b"\n")
     }
@@ -307,7 +353,7 @@ fn push_stop(text: &mut Text, stop: Option<(usize, Stop)>) -> Result<(), AllocEr
 pub fn pages_text(alloc: Global, outcome: &Outcome) -> Result<Vec<u8>, NoMemory>
     ensures { IfOk result (λ text. text.items ≡ page_text outcome.now) }
 {
-    let texts = Texts::new(alloc)?;
+    let texts = Texts::for_outcome(alloc, outcome)?;
     let mut text = Text::new(alloc);
     texts.push_paper(&mut text, 4, &outcome.paper4)?;
     texts.push_paper(&mut text, 5, &outcome.paper5)?;
@@ -323,6 +369,7 @@ pub fn pages_text(alloc: Global, outcome: &Outcome) -> Result<Vec<u8>, NoMemory>
 pub(crate) fn text_from(alloc: Global, outcome: Outcome) -> Result<Text, NoMemory>
     ensures { IfOk result (λ text. text ≡ page_text outcome) }
 {
+    let texts = Texts::for_outcome(alloc, &outcome)?;
     let Outcome {
         paper4,
         paper5,
@@ -331,7 +378,6 @@ pub(crate) fn text_from(alloc: Global, outcome: Outcome) -> Result<Text, NoMemor
         screen,
         trace: _,
     } = outcome;
-    let texts = Texts::new(alloc)?;
     let mut text = Text::new(alloc);
     texts.move_paper(&mut text, 4, paper4)?;
     texts.move_paper(&mut text, 5, paper5)?;

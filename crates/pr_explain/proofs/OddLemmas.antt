@@ -94,26 +94,26 @@ looked_end l cut has_byte odd reads byte odds es h =
     (byte_more l.has_byte has_byte h.given (option_to_list cut) h.byte byte ∙ ap (list_any is_acknowledged) (sym (reads es h.given h.read)))
 
 -- the lines of a recording that can be read to its end, and of any other
-pub lines_told : (edges : List Edge) (own : Option CliFault) (v : Option ReadingPlace) (odd : Oddities) (there text : List ℕ) → v ≡ None → IsPlaceRead edges own v → odd ≡ oddities_of edges (readings_of edges)
-    → there ≡ [] → text ≡ there ++ oddities_text odd → AreOddLines edges own text
-lines_told edges own v odd there text is read odds none lines = record {
-  readable = λ h. lines ∙ (ap (λ t. t ++ oddities_text odd) none ∙ ap oddities_text odds);
+pub lines_told : (input : TraceInput) (edges : List Edge) (own : Option CliFault) (v : Option ReadingPlace) (odd : Oddities) (there text : List ℕ) → v ≡ None → IsPlaceRead edges own v → odd ≡ oddities_of edges (readings_of edges)
+    → there ≡ [] → text ≡ there ++ oddities_text input odd → AreOddLines input edges own text
+lines_told input edges own v odd there text is read odds none lines = record {
+  readable = λ h. lines ∙ (ap (λ t. t ++ oddities_text input odd) none ∙ ap (λ o. oddities_text input o) odds);
   refused = λ n. absurd (n (subst (λ p. IsPlaceRead edges own p) is read));
 }
 
-pub lines_none : (edges : List Edge) (own : Option CliFault) (v : Option ReadingPlace) (p : ReadingPlace) (text : List ℕ) → v ≡ Some p → IsPlaceRead edges own v → text ≡ [] → AreOddLines edges own text
-lines_none edges own v p text is read none = record {
+pub lines_none : (input : TraceInput) (edges : List Edge) (own : Option CliFault) (v : Option ReadingPlace) (p : ReadingPlace) (text : List ℕ) → v ≡ Some p → IsPlaceRead edges own v → text ≡ [] → AreOddLines input edges own text
+lines_none input edges own v p text is read none = record {
   readable = λ h. absurd (not_read edges own p (subst (λ x. IsPlaceRead edges own x) is read) h);
   refused = λ n. none;
 }
 
 -- the remarks on what an input says
 pub remarks : (input : TraceInput) (bytes : List ℕ) (all edges : List Edge) (own : Option CliFault) (r : Remarks) → Says input bytes all own → edges ≡ all → r.later ≡ first_moment edges
-    → AreOddLines edges own r.oddities.items → AreRemarks input bytes r
+    → AreOddLines input edges own r.oddities.items → AreRemarks input bytes r
 remarks input bytes all edges own r says same later lines = record {
   edges = all;
   own = own;
   says = says;
   later = later ∙ ap first_moment same;
-  are_lines = subst (λ es. AreOddLines es own r.oddities.items) same lines;
+  are_lines = subst (λ es. AreOddLines input es own r.oddities.items) same lines;
 }

@@ -18,8 +18,8 @@ use Rattle.pr_explain.specs.declared.oddities.Remarks.{Remarks}
 
 -- the text for edges of an input with this fault, if it has one: the last lines of `decode`'s report on them, where the
 -- recording can be read to its end; or else none
-pub record AreOddLines (edges : List Edge) (own : Option CliFault) (text : List ℕ) : Type 0 where
-  pub readable : IsPlaceRead edges own None → text ≡ oddities_text (oddities_of edges (readings_of edges))
+pub record AreOddLines (input : TraceInput) (edges : List Edge) (own : Option CliFault) (text : List ℕ) : Type 0 where
+  pub readable : IsPlaceRead edges own None → text ≡ oddities_text input (oddities_of edges (readings_of edges))
   pub refused : (IsPlaceRead edges own None → ⊥) → text ≡ []
 
 -- the moment of the first edge: 0, or how much later than at the start asked for the three levels are first known
@@ -32,7 +32,7 @@ pub record AreRemarks (input : TraceInput) (bytes : List ℕ) (r : Remarks) : Ty
   pub own : Option CliFault
   pub says : Says input bytes edges own
   pub later : r.later ≡ first_moment edges
-  pub are_lines : AreOddLines edges own r.oddities.items
+  pub are_lines : AreOddLines input edges own r.oddities.items
 
 -- Linking words.
 

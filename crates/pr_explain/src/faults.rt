@@ -216,7 +216,11 @@ fn rule_of_tables(fault: CaptureFault) -> &'static str {
     match fault {
         CaptureFault::BadTime(_) => {
             "expected a time first, such as 0.000125, -2 or 5e-05, in the unit of its column and below \
-             2^64 microseconds"
+             2^64 microseconds; sample numbers are digits, and times after sigrok-cli's remark of a rate are \
+             multiples of one sample's"
+        }
+        CaptureFault::TwoSignals(_, _) => {
+            "two columns have this name, in capitals or not: rename one, or choose others with --names"
         }
         _ => rule_of_levels(fault),
     }

@@ -99,15 +99,20 @@ fn oddities_of(edges: &[Edge]) -> Oddities
 }
 
 /// What is odd about edges of an input that has this fault after them, if it has one.
-fn odd_lines(alloc: Global, edges: &[Edge], own: Option<CliFault>) -> Result<Vec<u8>, NoMemory>
+fn odd_lines(
+    alloc: Global,
+    input: TraceInput<'_>,
+    edges: &[Edge],
+    own: Option<CliFault>,
+) -> Result<Vec<u8>, NoMemory>
     requires own { IfSome own IsOwnFault }
-    ensures { IfOk result (λ text. AreOddLines edges.now own text.items) }
+    ensures { IfOk result (λ text. AreOddLines input.entry edges.now own text.items) }
 {
     let mut text = Vec::new(alloc);
     match place_read(edges, own) {
         Some(_) => Ok(text),
         None => {
-            push_oddities(&mut text, oddities_of(edges))?;
+            push_oddities(&mut text, input, oddities_of(edges))?;
             Ok(text)
         }
     }
@@ -139,6 +144,6 @@ pub fn remark_on(
     let said = read_input(alloc, recording, input)?;
     let edges = said.edges.as_slice();
     let later = first_moment(edges);
-    let oddities = odd_lines(alloc, edges, said.fault)?;
+    let oddities = odd_lines(alloc, input, edges, said.fault)?;
     Ok(Remarks { later, oddities })
 }

@@ -477,7 +477,7 @@ pub const FROM_TIME: ValueOption = ValueOption {
 
 /// What the values of [`RATE`] are.
 const RATE_HELP: &str = "The samples in a second of a table that has no\n\
-     times: a whole number, also with k, M or G, or\n\
+     times: a number, also with k, M, G (12.5M), or\n\
      none (its remarks say it)";
 
 /// The values of [`RATE`] in a few words.

@@ -4,6 +4,7 @@ use Rattle.std.proofs.lemmas.List.Folds.{list_any-append}
 use Rattle.std.specs.List.{list_any}
 use Rattle.pr_wire.specs.declared.Edge.{Edge}
 use Rattle.pr_wire.specs.declared.WaveFault.{WaveFault}
+use Rattle.pr_capture.specs.declared.format.TraceInput.{TraceInput}
 use Rattle.pr_decode.specs.declared.reading.Reading.{Reading}
 use Rattle.pr_report.specs.declared.detail.Bounds.{Bounds}
 use Rattle.pr_report.specs.declared.detail.Detail.{Detail}
@@ -109,11 +110,11 @@ accounts_end w a given written text more h is =
     ap (λ t. written ++ t) is ∙ (sym (append_assoc written a.lines.items more) ∙ ap (λ t. t ++ more) h.lines)
 
 -- what follows them at the end
-pub last_in_lines : (w : Wording) (d : Detail) (fault : Option WaveFault) (edges : List Edge) (given : List Reading) (odd : Oddities) → w ≡ Lines d → odd ≡ oddities_of edges given
-    → summary (bounds_in w) given ++ (conclusion (bounds_in w) fault given ++ oddities_text odd) ≡ last_lines w fault edges given
-last_in_lines (Lines x) d fault edges given odd is o = ap (λ z. summary x.bounds given ++ (conclusion x.bounds fault given ++ oddities_text z)) o
-last_in_lines Json d fault edges given odd is o = absurd (cc)
+pub last_in_lines : (w : Wording) (d : Detail) (input : TraceInput) (fault : Option WaveFault) (edges : List Edge) (given : List Reading) (odd : Oddities) → w ≡ Lines d → odd ≡ oddities_of edges given
+    → summary (bounds_in w) given ++ (conclusion (bounds_in w) fault given ++ oddities_text input odd) ≡ last_lines w input fault edges given
+last_in_lines (Lines x) d input fault edges given odd is o = ap (λ z. summary x.bounds given ++ (conclusion x.bounds fault given ++ oddities_text input z)) o
+last_in_lines Json d input fault edges given odd is o = absurd (cc)
 
-pub last_in_json : (w : Wording) (fault : Option WaveFault) (edges : List Edge) (given : List Reading) → w ≡ Json → json_verdict fault ≡ last_lines w fault edges given
-last_in_json (Lines d) fault edges given is = absurd (cc)
-last_in_json Json fault edges given is = refl
+pub last_in_json : (w : Wording) (input : TraceInput) (fault : Option WaveFault) (edges : List Edge) (given : List Reading) → w ≡ Json → json_verdict fault ≡ last_lines w input fault edges given
+last_in_json (Lines d) input fault edges given is = absurd (cc)
+last_in_json Json input fault edges given is = refl

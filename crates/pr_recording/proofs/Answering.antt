@@ -1,6 +1,6 @@
 -- What is answered for an input, by what was told of it.
 use Rattle.std.proofs.Common.{◌≡◌, ◌≤◌, ℕ, ◌<◌, Bool, true, false, List, [], ◌++◌, length, refl, ap, sym, subst, ◌∙◌, append-nil, Option, Some, None, Result, Ok, Err}
-use Rattle.std.specs.Prelude.{◌↔◌, IfErr, IfSome, IsErrAnd, IsErrOf, option_map}
+use Rattle.std.specs.Prelude.{◌↔◌, IfErr, IfOk, OnOk, IfSome, IsErrAnd, IsErrOf, option_map}
 use Rattle.std.specs.Io.KnownBytes.{Appends, IsAtEnd}
 use Rattle.std.proofs.KnownBytes.{Appends-nil, Appends-trans}
 use Rattle.pr_wire.specs.declared.Edge.{Edge}
@@ -18,6 +18,9 @@ use Rattle.pr_cli.specs.EdgesTaken.{HasTakenAll, HasTakenBefore}
 use Rattle.pr_cli.specs.Report.{IsNoReading, IsOwnFault, IsReportFault, SaysWhole, edges_checked}
 use Rattle.pr_cli.specs.Report as report
 use Rattle.pr_cli.specs.Check.{trace_limit}
+use Rattle.pr_decode.specs.Readings.{readings_of}
+use Rattle.pr_report.specs.Oddities.{oddities_of}
+use Rattle.pr_report.specs.declared.oddities.Oddities.{Oddities}
 use Rattle.pr_report.specs.declared.report.Report.TheVariants.{Story}
 use Rattle.pr_cli.specs.InputReads.{IsTooLong, ReadsEdges}
 use Rattle.pr_basic.specs.declared.fault.ScriptFault.{ScriptFault}
@@ -30,7 +33,7 @@ use Rattle.pr_recording.specs.declared.decode_report.DecodeReport.{DecodeReport}
 use Rattle.pr_recording.specs.declared.decode_report.Ended.{Ended}
 use Rattle.pr_recording.specs.declared.wording.Wording.TheVariants.{Json}
 use Rattle.pr_recording.specs.Checked.{AnswersJson}
-use Rattle.pr_recording.specs.Decoded.{AnswersDecode, IsDecodeFault, Leaves, back_in, stop_at, told_of}
+use Rattle.pr_recording.specs.Decoded.{AnswersDecode, AnswersDecodeJson, IsDecodeFault, Leaves, back_in, stop_at, told_of, without_odd}
 use Rattle.pr_recording.specs.Narrated.{AnswersTold, EndsEdges, EndsNarrated, GivesUp, HasNarrated, HasReadTo, IsRefusal, IsStop, NarratesMore, Refuses, WritesEnd, lines_in, refused_for}
 use Rattle.pr_recording.proofs.Coming.{Laws, coming}
 use Rattle.pr_recording.proofs.Judging.{no_memory}
@@ -75,18 +78,19 @@ told_written w limit start a old now new input r n m h k up = record {
 }
 
 -- a beginning was written of what is told of edges that come first
-begins : Laws → (w : Wording) (limit : ℕ) (checked : Bool) (input : TraceInput) (text : List ℕ) (edges : List Edge) (n : DecodeReport) (old now new : Option (List ℕ)) (v : Result (Unit {0}) CliFault) → SaysFirst input text edges
-    → HasWritten input.source w old now n edges → AppendsFront now new (lines_in n) → ((stop : Option CliFault) (told : List ℕ) → AppendsFront old new told → Leaves limit (length text) stop told old new v)
-    → AnswersTold limit w checked input text old new v
+begins : Laws → (w : Wording) (limit : ℕ) (checked : Bool) (input : TraceInput) (text : List ℕ) (edges : List Edge) (n : DecodeReport) (old now new : Option (List ℕ)) (v : CliFault) → SaysFirst input text edges
+    → HasWritten input.source w old now n edges → AppendsFront now new (lines_in n) → ((stop : Option CliFault) (told : List ℕ) → AppendsFront old new told → Leaves limit (length text) stop told old new (Err v))
+    → AnswersTold limit w checked input text old new (Err v)
 begins laws w limit checked input text edges n old now new v f h short leaves =
-    let P : List Edge → Type 0 = λ l. (rest : List ℕ) × (told_of w input.source (stop_at (back_in l) f.fault) l ≡ (h.written ++ lines_in n) ++ rest) in
-    let k = subst P (sym f.first) (coming laws input.source w edges f.later h.written n f.fault h.narrated) in
-    let told = told_of w input.source (stop_at (back_in f.edges) f.fault) f.edges in
+    let P : List Edge → Type 0 = λ l. (rest : List ℕ) × (told_of w input (stop_at (back_in l) f.fault) l ≡ (h.written ++ lines_in n) ++ rest) in
+    let k = subst P (sym f.first) (coming laws input w edges f.later h.written n f.fault h.narrated) in
+    let told = told_of w input (stop_at (back_in f.edges) f.fault) f.edges in
     record {
       edges = f.edges;
       own = f.fault;
       says = f.says;
       leaves = leaves (refused_for checked input.source f.edges f.fault) told (front_behind old now new h.written (lines_in n) told k.0 k.1 h.wrote short);
+      odd = λ none. tt;
     }
 
 -- what holds of known bytes
@@ -95,16 +99,16 @@ if_known None P Q h f = tt
 if_known (Some text) P Q h f = f text h
 
 -- the answer where no more is read, or written
-pub partly : Laws → ReadEdgesComeFirst → (w : Wording) (limit : ℕ) (checked : Bool) (start now old mid new : Option (List ℕ)) (input : TraceInput) (r : InputReader) (n : DecodeReport) (v : Result (Unit {0}) CliFault) (f : CliFault)
+pub partly : Laws → ReadEdgesComeFirst → (w : Wording) (limit : ℕ) (checked : Bool) (start now old mid new : Option (List ℕ)) (input : TraceInput) (r : InputReader) (n : DecodeReport) (v : Result Oddities CliFault) (f : CliFault)
     → HasTakenAll limit start now input r (HasWritten input.source w old mid n) → IsErrAnd v (λ x. x ≡ f) → f ≡ WriteFailed → AppendsFront mid new (lines_in n)
     → IfSome start (λ text. AnswersTold limit w checked input text old new v)
 partly laws first w limit checked start now old mid new input r n (Ok u) f h e failed k = absurd e
 partly laws first w limit checked start now old mid new input r n (Err x) f h e failed k =
     rw (e, failed) (if_known start (λ text. SaysFirst input text (h.given ++ edges_read r)) (λ text. AnswersTold limit w checked input text old new (Err WriteFailed)) (first limit start now input h.given r h.read)
-    (λ text says. begins laws w limit checked input text (h.given ++ edges_read r) n old mid new (Err WriteFailed) says h.taken k (λ stop told front. front)))
+    (λ text says. begins laws w limit checked input text (h.given ++ edges_read r) n old mid new WriteFailed says h.taken k (λ stop told front. front)))
 
 -- the answer where nothing more is written
-pub unwritten : Laws → ReadEdgesComeFirst → (w : Wording) (limit : ℕ) (checked : Bool) (start now old mid : Option (List ℕ)) (input : TraceInput) (r : InputReader) (n : DecodeReport) (v : Result (Unit {0}) CliFault) (f : CliFault)
+pub unwritten : Laws → ReadEdgesComeFirst → (w : Wording) (limit : ℕ) (checked : Bool) (start now old mid : Option (List ℕ)) (input : TraceInput) (r : InputReader) (n : DecodeReport) (v : Result Oddities CliFault) (f : CliFault)
     → HasTakenAll limit start now input r (HasWritten input.source w old mid n) → IsErrAnd v (λ x. x ≡ f) → IsNoReading f → (f ≡ TooLarge → IsTooLong now r)
     → IfSome start (λ text. AnswersTold limit w checked input text old mid v)
 unwritten laws first w limit checked start now old mid input r n (Ok u) f h e none long = absurd e
@@ -114,10 +118,10 @@ unwritten laws first w limit checked start now old mid input r n (Err x) f h e n
     says : IfSome start (λ text. SaysFirst input text (h.given ++ edges_read r))
     says = first limit start now input h.given r h.read
 
-    all : (v : Result (Unit {0}) CliFault) → ((text : List ℕ) (stop : Option CliFault) (told : List ℕ) → AppendsFront old mid told → Leaves limit (length text) stop told old mid v)
-        → IfSome start (λ text. AnswersTold limit w checked input text old mid v)
+    all : (v : CliFault) → ((text : List ℕ) (stop : Option CliFault) (told : List ℕ) → AppendsFront old mid told → Leaves limit (length text) stop told old mid (Err v))
+        → IfSome start (λ text. AnswersTold limit w checked input text old mid (Err v))
     all v leaves =
-        if_known start (λ text. SaysFirst input text (h.given ++ edges_read r)) (λ text. AnswersTold limit w checked input text old mid v) says
+        if_known start (λ text. SaysFirst input text (h.given ++ edges_read r)) (λ text. AnswersTold limit w checked input text old mid (Err v)) says
         (λ text s. begins laws w limit checked input text (h.given ++ edges_read r) n old mid mid v s h.taken (front_none mid (lines_in n)) (leaves text))
 
     both : (start : Option (List ℕ)) (P Q R : List ℕ → Type 0) → IfSome start P → IfSome start Q → ((text : List ℕ) → P text → Q text → R text) → IfSome start R
@@ -125,11 +129,11 @@ unwritten laws first w limit checked start now old mid input r n (Err x) f h e n
     both (Some text) P Q R p q f = f text p q
 
     by : (f : CliFault) → IsNoReading f → (f ≡ TooLarge → IfSome start (λ text. limit < length text)) → IfSome start (λ text. AnswersTold limit w checked input text old mid (Err f))
-    by NoMemory none long = all (Err NoMemory) (λ text stop told front. front)
-    by ReadFailed none long = all (Err ReadFailed) (λ text stop told front. front)
+    by NoMemory none long = all NoMemory (λ text stop told front. front)
+    by ReadFailed none long = all ReadFailed (λ text stop told front. front)
     by TooLarge none long =
         both start (λ text. SaysFirst input text (h.given ++ edges_read r)) (λ text. limit < length text) (λ text. AnswersTold limit w checked input text old mid (Err TooLarge)) says (long refl)
-        (λ text s more. begins laws w limit checked input text (h.given ++ edges_read r) n old mid mid (Err TooLarge) s h.taken (front_none mid (lines_in n)) (λ stop told front. (more, front)))
+        (λ text s more. begins laws w limit checked input text (h.given ++ edges_read r) n old mid mid TooLarge s h.taken (front_none mid (lines_in n)) (λ stop told front. (more, front)))
     by (Script fault) none long = absurd none
     by (Trace fault) none long = absurd none
     by (Wave fault) none long = absurd none
@@ -138,7 +142,7 @@ unwritten laws first w limit checked start now old mid input r n (Err x) f h e n
     by WriteFailed none long = absurd none
 
 -- the answer where memory was refused
-pub refused : Laws → ReadEdgesComeFirst → (w : Wording) (limit : ℕ) (checked : Bool) (start now old mid : Option (List ℕ)) (input : TraceInput) (r : InputReader) (n : DecodeReport) (v : Result (Unit {0}) CliFault)
+pub refused : Laws → ReadEdgesComeFirst → (w : Wording) (limit : ℕ) (checked : Bool) (start now old mid : Option (List ℕ)) (input : TraceInput) (r : InputReader) (n : DecodeReport) (v : Result Oddities CliFault)
     → HasTakenAll limit start now input r (HasWritten input.source w old mid n) → IsErrAnd v (λ x. x ≡ NoMemory) → IfSome start (λ text. AnswersTold limit w checked input text old mid v)
 refused laws first w limit checked start now old mid input r n v h e = unwritten laws first w limit checked start now old mid input r n v NoMemory h e tt (λ is. absurd (cc))
 
@@ -147,9 +151,9 @@ first_refused : EachTextSaysEdges → (w : Wording) (limit : ℕ) (checked : Boo
 first_refused some w limit checked None old input = tt
 first_refused some w limit checked (Some text) old input =
     let s = some input text in
-    record { edges = s.edges; own = s.fault; says = s.says; leaves = front_none old (told_of w input.source (stop_at (back_in s.edges) s.fault) s.edges) }
+    record { edges = s.edges; own = s.fault; says = s.says; leaves = front_none old (told_of w input (stop_at (back_in s.edges) s.fault) s.edges); odd = λ none. tt }
 
-pub at_first : EachTextSaysEdges → (w : Wording) (limit : ℕ) (checked : Bool) (a old : Option (List ℕ)) (input : TraceInput) (v : Result (Unit {0}) CliFault) → IsErrAnd v (λ f. f ≡ NoMemory)
+pub at_first : EachTextSaysEdges → (w : Wording) (limit : ℕ) (checked : Bool) (a old : Option (List ℕ)) (input : TraceInput) (v : Result Oddities CliFault) → IsErrAnd v (λ f. f ≡ NoMemory)
     → IfSome a (λ text. AnswersTold limit w checked input text old old v)
 at_first some w limit checked a old input (Ok u) e = absurd e
 at_first some w limit checked a old input (Err f) e = rw e (first_refused some w limit checked a old input)
@@ -277,18 +281,19 @@ no_fault_beside s edges (Some x) f h is = absurd (by x (cc) h)
     by x e h = let P : CliFault → Type 0 = λ y. IsOwnFault y in subst P e h
 
 -- what is left where the end was written
-leaves_end : (s : Source) (w : Wording) (limit len : ℕ) (checked : Bool) (edges : List Edge) (written : List ℕ) (own : Option CliFault) (e : Ended) (old now new : Option (List ℕ)) (v : Result (Unit {0}) CliFault) → (own ≡ None → len ≤ limit)
-    → EndsEdges s w checked edges written own e → IfSome own IsOwnFault → Appends old now written → WritesEnd e now new v → Leaves limit len (refused_for checked s edges own) (told_of w s (stop_at (back_in edges) own) edges) old new v
-leaves_end s w limit len checked edges written own e old now new v short ends is_own wrote writes = by v writes
+leaves_end : (input : TraceInput) (w : Wording) (limit len : ℕ) (checked : Bool) (edges : List Edge) (written : List ℕ) (own : Option CliFault) (e : Ended) (old now new : Option (List ℕ)) (v : Result Oddities CliFault) → (own ≡ None → len ≤ limit)
+    → EndsEdges input w checked edges written own e → IfSome own IsOwnFault → Appends old now written → WritesEnd e now new v
+    → Leaves limit len (refused_for checked input.source edges own) (told_of w input (stop_at (back_in edges) own) edges) old new (without_odd v)
+leaves_end input w limit len checked edges written own e old now new v short ends is_own wrote writes = by v writes
   where
-    all : Appends now new e.lines.items → Appends old new (told_of w s (stop_at (back_in edges) own) edges)
-    all k = whole_behind old now new written e.lines.items (told_of w s (stop_at (back_in edges) own) edges) ends.lines wrote k
+    all : Appends now new e.lines.items → Appends old new (told_of w input (stop_at (back_in edges) own) edges)
+    all k = whole_behind old now new written e.lines.items (told_of w input (stop_at (back_in edges) own) edges) ends.lines wrote k
 
     known : (f : CliFault) → e.refused ≡ Some f → Refuses checked f
-    known f is = known_refusal checked (refused_for checked s edges own) f (sym ends.refused ∙ is) (refuses checked s edges own is_own)
+    known f is = known_refusal checked (refused_for checked input.source edges own) f (sym ends.refused ∙ is) (refuses checked input.source edges own is_own)
 
-    by : (v : Result (Unit {0}) CliFault) → WritesEnd e now new v → Leaves limit len (refused_for checked s edges own) (told_of w s (stop_at (back_in edges) own) edges) old new v
-    by (Ok u) w = (short (no_own_fault checked s edges own (sym ends.refused ∙ w.0)), sym ends.refused ∙ w.0, all w.1)
+    by : (v : Result Oddities CliFault) → WritesEnd e now new v → Leaves limit len (refused_for checked input.source edges own) (told_of w input (stop_at (back_in edges) own) edges) old new (without_odd v)
+    by (Ok u) w = (short (no_own_fault checked input.source edges own (sym ends.refused ∙ w.0)), sym ends.refused ∙ w.0, all w.2)
     by (Err (Script x)) w = absurd (no_script checked x (known (Script x) w.0))
     by (Err (Trace x)) w = (sym ends.refused ∙ w.0, all w.1)
     by (Err (Wave x)) w = (sym ends.refused ∙ w.0, all w.1)
@@ -298,16 +303,22 @@ leaves_end s w limit len checked edges written own e old now new v short ends is
     by (Err NoMemory) w = absurd ((no_other checked).1 (known NoMemory w.0))
     by (Err ReadFailed) w = absurd ((no_other checked).2 (known ReadFailed w.0))
     by (Err WriteFailed) k =
-        front_behind old now new written e.lines.items (told_of w s (stop_at (back_in edges) own) edges) [] (sym ends.lines ∙ sym (append-nil (written ++ e.lines.items))) wrote k
+        front_behind old now new written e.lines.items (told_of w input (stop_at (back_in edges) own) edges) [] (sym ends.lines ∙ sym (append-nil (written ++ e.lines.items))) wrote k
+
+-- what is odd where the end was written
+odd_end : (input : TraceInput) (w : Wording) (checked : Bool) (edges : List Edge) (written : List ℕ) (own : Option CliFault) (e : Ended) (now new : Option (List ℕ)) (v : Result Oddities CliFault) → EndsEdges input w checked edges written own e
+    → WritesEnd e now new v → stop_at (back_in edges) own ≡ None → IfOk v (λ odd. odd ≡ oddities_of edges (readings_of edges))
+odd_end input w checked edges written own e now new (Ok odd) ends k none = k.1 ∙ ends.odd none
+odd_end input w checked edges written own e now new (Err f) ends k none = tt
 
 -- a refusal is no failed write
 pub no_write : (checked : Bool) (v : Option CliFault) → IfSome v (Refuses checked) → v ≡ Some WriteFailed → ⊥
 no_write checked v h e = (no_other checked).3 (known_refusal checked v WriteFailed e h)
 
 -- nor a failed read
-no_read : (checked : Bool) (e : Ended) (now new : Option (List ℕ)) (v : Result (Unit {0}) CliFault) → IfSome e.refused (Refuses checked) → WritesEnd e now new v → v ≡ Err ReadFailed → ⊥
+no_read : (checked : Bool) (e : Ended) (now new : Option (List ℕ)) (v : Result Oddities CliFault) → IfSome e.refused (Refuses checked) → WritesEnd e now new v → v ≡ Err ReadFailed → ⊥
 no_read checked e now new v h w k =
-    let P : Result (Unit {0}) CliFault → Type 0 = λ x. WritesEnd e now new x in
+    let P : Result Oddities CliFault → Type 0 = λ x. WritesEnd e now new x in
     let u : WritesEnd e now new (Err ReadFailed) = subst P k w in
     (no_other checked).2 (known_refusal checked e.refused ReadFailed u.0 h)
 
@@ -317,7 +328,7 @@ any_fault true = (tt, tt, tt, tt)
 any_fault false = (tt, tt, tt, tt)
 
 -- what is answered where the end is written is a fault of a recording
-own_fault : (checked : Bool) (e : Ended) (now new : Option (List ℕ)) (v : Result (Unit {0}) CliFault) → IfSome e.refused (Refuses checked) → WritesEnd e now new v → IfErr v (IsRefusal checked)
+own_fault : (checked : Bool) (e : Ended) (now new : Option (List ℕ)) (v : Result Oddities CliFault) → IfSome e.refused (Refuses checked) → WritesEnd e now new v → IfErr v (IsRefusal checked)
 own_fault checked e now new (Ok u) h w = tt
 own_fault checked e now new (Err f) h w = by f w
   where
@@ -336,7 +347,7 @@ own_fault checked e now new (Err f) h w = by f w
     by WriteFailed w = (any_fault checked).3
 
 -- how far the input has been read where the end is written
-read_to : (checked : Bool) (s : Source) (edges : List Edge) (own : Option CliFault) (e : Ended) (now new left : Option (List ℕ)) (v : Result (Unit {0}) CliFault) → e.refused ≡ refused_for checked s edges own → IfSome own IsOwnFault
+read_to : (checked : Bool) (s : Source) (edges : List Edge) (own : Option CliFault) (e : Ended) (now new left : Option (List ℕ)) (v : Result Oddities CliFault) → e.refused ≡ refused_for checked s edges own → IfSome own IsOwnFault
     → (own ≡ None → IsAtEnd left) → WritesEnd e now new v → HasReadTo checked left v
 read_to true s edges own e now new left (Ok u) is h at_end w = at_end (no_own_fault true s edges own (sym is ∙ w.0))
 read_to false s edges own e now new left (Ok u) is h at_end w = at_end (no_own_fault false s edges own (sym is ∙ w.0))
@@ -355,7 +366,7 @@ read_to true s edges own e now new left (Err f) is h at_end w = by f w
     by WriteFailed w = tt
 
 -- what is answered at an input's end, or at its fault
-pub record AnswersLast (w : Wording) (limit : ℕ) (checked : Bool) (start left old new : Option (List ℕ)) (input : TraceInput) (e : Ended) (v : Result (Unit {0}) CliFault) : Type 0 where
+pub record AnswersLast (w : Wording) (limit : ℕ) (checked : Bool) (start left old new : Option (List ℕ)) (input : TraceInput) (e : Ended) (v : Result Oddities CliFault) : Type 0 where
   pub told : IfSome start (λ text. AnswersTold limit w checked input text old new v)
   pub at_end : HasReadTo checked left v
   pub own : IfErr v (IsRefusal checked)
@@ -363,18 +374,18 @@ pub record AnswersLast (w : Wording) (limit : ℕ) (checked : Bool) (start left 
 
 -- why it is refused there
 pub last_refusal : (w : Wording) (limit : ℕ) (checked : Bool) (start left old now : Option (List ℕ)) (input : TraceInput) (r : InputReader) (n : DecodeReport) (e : Ended) → HasTakenBefore limit start left input r (HasWritten input.source w old now n)
-    → EndsNarrated checked r n e → IfSome e.refused (Refuses checked)
+    → EndsNarrated input checked r n e → IfSome e.refused (Refuses checked)
 last_refusal w limit checked start left old now input r n e h ends =
-    let k = ends input.source w h.taken.written limit start left input h.given h.read h.taken.narrated in
-    let follows : EndsEdges input.source w checked k.edges h.taken.written k.fault e = k.follows in
+    let k = ends w h.taken.written limit start left input h.given h.read h.taken.narrated in
+    let follows : EndsEdges input w checked k.edges h.taken.written k.fault e = k.follows in
     let P : Option CliFault → Type 0 = λ v. IfSome v (Refuses checked) in
     subst P (sym follows.refused) (refuses checked input.source k.edges k.fault k.own)
 
-pub at_last : (w : Wording) (limit : ℕ) (checked : Bool) (start left old now new : Option (List ℕ)) (input : TraceInput) (r : InputReader) (n : DecodeReport) (e : Ended) (v : Result (Unit {0}) CliFault)
-    → HasTakenBefore limit start left input r (HasWritten input.source w old now n) → (fault_read r ≡ None → IsAtEnd left) → EndsNarrated checked r n e → WritesEnd e now new v → AnswersLast w limit checked start left old new input e v
+pub at_last : (w : Wording) (limit : ℕ) (checked : Bool) (start left old now new : Option (List ℕ)) (input : TraceInput) (r : InputReader) (n : DecodeReport) (e : Ended) (v : Result Oddities CliFault)
+    → HasTakenBefore limit start left input r (HasWritten input.source w old now n) → (fault_read r ≡ None → IsAtEnd left) → EndsNarrated input checked r n e → WritesEnd e now new v → AnswersLast w limit checked start left old new input e v
 at_last w limit checked start left old now new input r n e v h stops ends writes =
-    let k = ends input.source w h.taken.written limit start left input h.given h.read h.taken.narrated in
-    let follows : EndsEdges input.source w checked k.edges h.taken.written k.fault e = k.follows in
+    let k = ends w h.taken.written limit start left input h.given h.read h.taken.narrated in
+    let follows : EndsEdges input w checked k.edges h.taken.written k.fault e = k.follows in
     let refused = last_refusal w limit checked start left old now input r n e h ends in
     record {
       told = known start k.edges k.fault k.own follows (k.says stops);
@@ -383,18 +394,19 @@ at_last w limit checked start left old now new input r n e v h stops ends writes
       reading = no_read checked e now new v refused writes;
     }
   where
-    known : (start : Option (List ℕ)) (edges : List Edge) (own : Option CliFault) → IfSome own IsOwnFault → EndsEdges input.source w checked edges h.taken.written own e → IfSome start (SaysWhole limit input edges own)
+    known : (start : Option (List ℕ)) (edges : List Edge) (own : Option CliFault) → IfSome own IsOwnFault → EndsEdges input w checked edges h.taken.written own e → IfSome start (SaysWhole limit input edges own)
         → IfSome start (λ text. AnswersTold limit w checked input text old new v)
     known None edges own o k says = tt
     known (Some text) edges own o k says = record {
       edges = edges;
       own = own;
       says = says.says;
-      leaves = leaves_end input.source w limit (length text) checked edges h.taken.written own e old now new v says.short k o h.taken.wrote writes;
+      leaves = leaves_end input w limit (length text) checked edges h.taken.written own e old now new v says.short k o h.taken.wrote writes;
+      odd = odd_end input w checked edges h.taken.written own e now new v k writes;
     }
 
 -- a fault of reading is one of a recording
-pub reading_fault : (checked : Bool) (v : Result (Unit {0}) CliFault) (f : CliFault) → IsErrAnd v (λ x. x ≡ f) → IsNoReading f → IfErr v (IsRefusal checked)
+pub reading_fault : (checked : Bool) (v : Result Oddities CliFault) (f : CliFault) → IsErrAnd v (λ x. x ≡ f) → IsNoReading f → IfErr v (IsRefusal checked)
 reading_fault checked (Ok u) f e none = tt
 reading_fault checked (Err x) f e none = rw e (by f none)
   where
@@ -410,12 +422,12 @@ reading_fault checked (Err x) f e none = rw e (by f none)
     by WriteFailed none = absurd none
 
 -- and so is one of writing
-pub writing_fault : (checked : Bool) (v : Result (Unit {0}) CliFault) (f : CliFault) → IsErrAnd v (λ x. x ≡ f) → f ≡ WriteFailed → IfErr v (IsRefusal checked)
+pub writing_fault : (checked : Bool) (v : Result Oddities CliFault) (f : CliFault) → IsErrAnd v (λ x. x ≡ f) → f ≡ WriteFailed → IfErr v (IsRefusal checked)
 writing_fault checked (Ok u) f e is = tt
 writing_fault checked (Err x) f e is = rw (e, is) ((any_fault checked).3)
 
 -- where no more is read or written, nothing is said of what is left
-pub left_unread : (checked : Bool) (left : Option (List ℕ)) (v : Result (Unit {0}) CliFault) (f : CliFault) → IsErrAnd v (λ x. x ≡ f) → IsNoReading f → HasReadTo checked left v
+pub left_unread : (checked : Bool) (left : Option (List ℕ)) (v : Result Oddities CliFault) (f : CliFault) → IsErrAnd v (λ x. x ≡ f) → IsNoReading f → HasReadTo checked left v
 left_unread checked left (Ok u) f e none = absurd e
 left_unread false left (Err x) f e none = tt
 left_unread true left (Err x) f e none = rw e (by f none)
@@ -431,28 +443,58 @@ left_unread true left (Err x) f e none = rw e (by f none)
     by (Picture fault) none = absurd none
     by WriteFailed none = absurd none
 
-pub left_unwritten : (checked : Bool) (left : Option (List ℕ)) (v : Result (Unit {0}) CliFault) (f : CliFault) → IsErrAnd v (λ x. x ≡ f) → f ≡ WriteFailed → HasReadTo checked left v
+pub left_unwritten : (checked : Bool) (left : Option (List ℕ)) (v : Result Oddities CliFault) (f : CliFault) → IsErrAnd v (λ x. x ≡ f) → f ≡ WriteFailed → HasReadTo checked left v
 left_unwritten checked left (Ok u) f e is = absurd e
 left_unwritten false left (Err x) f e is = tt
 left_unwritten true left (Err x) f e is = rw (e, is) tt
 
 -- a fault that is handed on has the meaning that it had: it is a failed read exactly if the input has failed
-pub failed_read : (v : Result (Unit {0}) CliFault) (r : Result Bool CliFault) (f : CliFault) (b : Type 0) → IsErrAnd v (λ x. x ≡ f) → r ≡ Err f → (IsErrOf r ReadFailed ↔ b) → (IsErrOf v ReadFailed ↔ b)
+pub failed_read : (v : Result Oddities CliFault) (r : Result Bool CliFault) (f : CliFault) (b : Type 0) → IsErrAnd v (λ x. x ≡ f) → r ≡ Err f → (IsErrOf r ReadFailed ↔ b) → (IsErrOf v ReadFailed ↔ b)
 failed_read (Ok u) r f b e is k = absurd e
 failed_read (Err x) r f b e is k = (
   λ h. k.0 (let q : f ≡ ReadFailed = cc (h, e) in is ∙ ap (λ (y : CliFault). Err y) q),
   λ h. let q : f ≡ ReadFailed = cc (k.1 h, is) in ap (λ (y : CliFault). Err y) (e ∙ q),
 )
 
--- what is answered for a recording that is not checked, and for one that is
-pub decoded : (w : Wording) (limit : ℕ) (start old new : Option (List ℕ)) (input : TraceInput) (v : Result (Unit {0}) CliFault)
-    → IfSome start (λ text. AnswersTold limit w false input text old new v) → IfSome start (λ text. AnswersDecode limit w input text old new v)
+-- what is answered for a recording that is not checked, in JSON too, and for one that is
+pub decoded : (w : Wording) (limit : ℕ) (start old new : Option (List ℕ)) (input : TraceInput) (v : Result Oddities CliFault)
+    → IfSome start (λ text. AnswersTold limit w false input text old new v) → IfSome start (λ text. AnswersDecode limit w input text old new (without_odd v))
 decoded w limit start old new input v h =
-    if_known start (λ text. AnswersTold limit w false input text old new v) (λ text. AnswersDecode limit w input text old new v) h
+    if_known start (λ text. AnswersTold limit w false input text old new v) (λ text. AnswersDecode limit w input text old new (without_odd v)) h
     (λ text k. record { edges = k.edges; own = k.own; says = k.says; leaves = k.leaves })
 
-pub checked : (start old new : Option (List ℕ)) (input : TraceInput) (v : Result (Unit {0}) CliFault)
-    → IfSome start (λ text. AnswersTold trace_limit Json true input text old new v) → IfSome start (λ text. AnswersJson input text old new v)
+odd_known : (input : TraceInput) (text : List ℕ) (old new : Option (List ℕ)) (v : Result Oddities CliFault) (k : AnswersTold trace_limit Json false input text old new v) → IfOk v (λ odd. odd ≡ oddities_of k.edges (readings_of k.edges))
+odd_known input text old new (Ok odd) k = k.odd k.leaves.1
+odd_known input text old new (Err f) k = tt
+
+pub decoded_json : (start old new : Option (List ℕ)) (input : TraceInput) (v : Result Oddities CliFault)
+    → IfSome start (λ text. AnswersTold trace_limit Json false input text old new v) → IfSome start (λ text. AnswersDecodeJson input text old new v)
+decoded_json start old new input v h =
+    if_known start (λ text. AnswersTold trace_limit Json false input text old new v) (λ text. AnswersDecodeJson input text old new v) h
+    (λ text k. record { edges = k.edges; own = k.own; says = k.says; leaves = k.leaves; odd = odd_known input text old new v k })
+
+pub checked : (start old new : Option (List ℕ)) (input : TraceInput) (v : Result Oddities CliFault)
+    → IfSome start (λ text. AnswersTold trace_limit Json true input text old new v) → IfSome start (λ text. AnswersJson input text old new (without_odd v))
 checked start old new input v h =
-    if_known start (λ text. AnswersTold trace_limit Json true input text old new v) (λ text. AnswersJson input text old new v) h
+    if_known start (λ text. AnswersTold trace_limit Json true input text old new v) (λ text. AnswersJson input text old new (without_odd v)) h
     (λ text k. record { edges = k.edges; own = k.own; says = k.says; leaves = k.leaves })
+
+-- what holds of an answer holds of it without what is odd
+pub own_decoded : (v : Result Oddities CliFault) → IfErr v (IsRefusal false) → IfErr (without_odd v) IsDecodeFault
+own_decoded (Ok odd) h = tt
+own_decoded (Err f) h = h
+
+pub own_checked : (v : Result Oddities CliFault) → IfErr v (IsRefusal true) → IfErr (without_odd v) IsReportFault
+own_checked (Ok odd) h = tt
+own_checked (Err f) h = h
+
+pub ok_without : (v : Result Oddities CliFault) (P : Type 0) → OnOk v P → OnOk (without_odd v) P
+ok_without (Ok odd) P h = h
+ok_without (Err f) P h = tt
+
+pub err_without : (v : Result Oddities CliFault) (f : CliFault) (b : Type 0) → (IsErrOf v f ↔ b) → (IsErrOf (without_odd v) f ↔ b)
+err_without (Ok odd) f b k = (λ h. absurd (cc (h)), λ h. absurd (cc (k.1 h)))
+err_without (Err x) f b k = (
+  λ h. k.0 (let q : x ≡ f = cc (h) in ap (λ (y : CliFault). Err y) q),
+  λ h. let q : x ≡ f = cc (k.1 h) in ap (λ (y : CliFault). Err y) q,
+)

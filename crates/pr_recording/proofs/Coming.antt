@@ -7,7 +7,7 @@ use Rattle.pr_decode.specs.declared.reading.Reading.{Reading}
 use Rattle.pr_decode.specs.Laws.{MoreEdgesAddReadings, OnlyTheLastIsCut}
 use Rattle.pr_decode.specs.Readings.{readings_of, settled_of}
 use Rattle.pr_decode.specs.Taking.{GivenAreSettled}
-use Rattle.pr_capture.specs.declared.format.Source.{Source}
+use Rattle.pr_capture.specs.declared.format.TraceInput.{TraceInput}
 use Rattle.pr_cli.specs.Report.{edges_checked}
 use Rattle.pr_cli.specs.declared.fault.CliFault.{CliFault}
 use Rattle.pr_recording.specs.declared.wording.Wording.{Wording}
@@ -24,19 +24,19 @@ pub record Laws : Type 0 where
   pub given : GivenAreSettled
 
 -- what is told of edges begins with the lines of what those in front settle
-told_begins : (s : Source) (w : Wording) → OnlyTheLastIsCut → (edges : List Edge) (own : Option CliFault) → (rest : List ℕ) × (told_of w s (stop_at (back_in edges) own) edges ≡ readings_text w (settled_of (in_front (back_in edges) edges)) ++ rest)
-told_begins s w cut edges own = by (back_in edges) refl own
+told_begins : (input : TraceInput) (w : Wording) → OnlyTheLastIsCut → (edges : List Edge) (own : Option CliFault) → (rest : List ℕ) × (told_of w input (stop_at (back_in edges) own) edges ≡ readings_text w (settled_of (in_front (back_in edges) edges)) ++ rest)
+told_begins input w cut edges own = by (back_in edges) refl own
   where
-    by : (v : Option ℕ) → back_in edges ≡ v → (own : Option CliFault) → (rest : List ℕ) × (told_of w s (stop_at v own) edges ≡ readings_text w (settled_of (in_front (back_in edges) edges)) ++ rest)
+    by : (v : Option ℕ) → back_in edges ≡ v → (own : Option CliFault) → (rest : List ℕ) × (told_of w input (stop_at v own) edges ≡ readings_text w (settled_of (in_front (back_in edges) edges)) ++ rest)
     by (Some n) is own = ([], sym (append-nil (readings_text w (settled_of (in_front (back_in edges) edges)))))
     by None is (Some f) = ([], sym (append-nil (readings_text w (settled_of (in_front (back_in edges) edges)))))
     by None is None =
         let c = cut edges in
         let settled = settled_of edges in
-        let end = last_lines w (fault_of (edges_checked s edges)) edges (readings_of edges) in
+        let end = last_lines w input (fault_of (edges_checked input.source edges)) edges (readings_of edges) in
         let last = rest_text w settled (option_to_list c.0) in
         let lines : readings_text w (readings_of edges) ≡ readings_text w settled ++ last = ap (λ rs. readings_text w rs) c.1 ∙ text_add w settled (option_to_list c.0) in
-        let all : told_of w s None edges ≡ readings_text w settled ++ (last ++ end) = ap (λ t. t ++ end) lines ∙ append_assoc (readings_text w settled) last end in
+        let all : told_of w input None edges ≡ readings_text w settled ++ (last ++ end) = ap (λ t. t ++ end) lines ∙ append_assoc (readings_text w settled) last end in
         (last ++ end, all ∙ ap (λ v. readings_text w (settled_of (in_front v edges)) ++ (last ++ end)) (sym is))
 
 -- the readings given are in front of all
@@ -48,13 +48,13 @@ given_begins laws before all given later is has =
     (m.0, ap (λ l. settled_of (in_front (back_in l) l)) is ∙ (ap settled_of f.1 ∙ (m.1 ∙ ap (λ rs. rs ++ m.0) has)))
 
 -- what was told so far of edges comes first in what is told of them and more
-pub coming : Laws → (s : Source) (w : Wording) (edges later : List Edge) (written : List ℕ) (n : DecodeReport) (own : Option CliFault) → HasNarrated s w edges written n
-    → (rest : List ℕ) × (told_of w s (stop_at (back_in (edges ++ later)) own) (edges ++ later) ≡ (written ++ lines_in n) ++ rest)
-coming laws s w edges later written n own h =
+pub coming : Laws → (input : TraceInput) (w : Wording) (edges later : List Edge) (written : List ℕ) (n : DecodeReport) (own : Option CliFault) → HasNarrated input.source w edges written n
+    → (rest : List ℕ) × (told_of w input (stop_at (back_in (edges ++ later)) own) (edges ++ later) ≡ (written ++ lines_in n) ++ rest)
+coming laws input w edges later written n own h =
     let all = edges ++ later in
     let k = h.told.heeded in
     let given = given_begins laws edges all k.given later refl (laws.given (in_front (back_in edges) edges) k.given n.decoder k.read) in
-    let begins = told_begins s w laws.cut all own in
+    let begins = told_begins input w laws.cut all own in
     let behind = rest_text w k.given given.0 in
     let lines : readings_text w (settled_of (in_front (back_in all) all)) ≡ (written ++ lines_in n) ++ behind =
     ap (λ rs. readings_text w rs) given.1 ∙ (text_add w k.given given.0 ∙ ap (λ l. l ++ behind) (sym k.accounted.lines)) in

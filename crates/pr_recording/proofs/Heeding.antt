@@ -7,10 +7,13 @@ use Rattle.pr_wire.specs.declared.Edge.{Edge}
 use Rattle.pr_wire.specs.declared.WaveFault.{WaveFault}
 use Rattle.pr_wire.specs.Table.{fault_of}
 use Rattle.pr_capture.specs.declared.format.Source.{Source}
+use Rattle.pr_capture.specs.declared.format.TraceInput.{TraceInput}
 use Rattle.pr_decode.specs.declared.reading.Reading.{Reading}
 use Rattle.pr_decode.specs.Readings.{readings_of}
 use Rattle.pr_decode.specs.Taking.{AreInOrder, GivenAreSettled, HasReadings, IsBefore, StandsBefore, last_time, time_behind}
 use Rattle.pr_report.specs.Taking as survey
+use Rattle.pr_report.specs.Oddities.{oddities_of}
+use Rattle.pr_report.specs.declared.oddities.Oddities.{Oddities}
 use Rattle.pr_cli.specs.Report.{edges_checked, refusal}
 use Rattle.pr_cli.specs.declared.fault.CliFault.{CliFault}
 use Rattle.pr_recording.specs.declared.wording.Wording.{Wording}
@@ -162,26 +165,34 @@ refuses false n own v judges s w edges written h = ap (λ b. stop_at b own) h.to
 refuses true n own v judges s w edges written h = ap (λ f. refusal own f) (judges s edges h.judged)
 
 -- the end of edges that stop
-stopped_lines : GivenAreSettled → (n : DecodeReport) (own : Option CliFault) (f : CliFault) (e : Ended) → stop_at n.back own ≡ Some f → e.lines ≡ n.log.lines → (s : Source) (w : Wording) (edges : List Edge) (written : List ℕ)
-    → HasTold w edges written n → written ++ e.lines.items ≡ told_of w s (stop_at (back_in edges) own) edges
-stopped_lines settled n own f e is lines s w edges written h =
+stopped_lines : GivenAreSettled → (n : DecodeReport) (own : Option CliFault) (f : CliFault) (e : Ended) → stop_at n.back own ≡ Some f → e.lines ≡ n.log.lines → (input : TraceInput) (w : Wording) (edges : List Edge) (written : List ℕ)
+    → HasTold w edges written n → written ++ e.lines.items ≡ told_of w input (stop_at (back_in edges) own) edges
+stopped_lines settled n own f e is lines input w edges written h =
     let k = h.heeded in
     let stop : stop_at (back_in edges) own ≡ Some f = ap (λ v. stop_at v own) (sym h.back) ∙ is in
     ap (λ v. written ++ v.items) lines
     ∙ (k.accounted.lines
-    ∙ (ap (λ rs. readings_text w rs) (sym (settled (in_front (back_in edges) edges) k.given n.decoder k.read)) ∙ sym (ap (λ t. told_of w s t edges) stop)))
+    ∙ (ap (λ rs. readings_text w rs) (sym (settled (in_front (back_in edges) edges) k.given n.decoder k.read)) ∙ sym (ap (λ t. told_of w input t edges) stop)))
 
 told_lines : GivenAreSettled → (n : DecodeReport) (own : Option CliFault) (v : Option CliFault) (e : Ended) → v ≡ stop_at n.back own → is_some v ≡ true → e.lines ≡ n.log.lines
-    → (s : Source) (w : Wording) (edges : List Edge) (written : List ℕ) → HasTold w edges written n → written ++ e.lines.items ≡ told_of w s (stop_at (back_in edges) own) edges
+    → (input : TraceInput) (w : Wording) (edges : List Edge) (written : List ℕ) → HasTold w edges written n → written ++ e.lines.items ≡ told_of w input (stop_at (back_in edges) own) edges
 told_lines settled n own None e is some lines = absurd (cc)
 told_lines settled n own (Some f) e is some lines = stopped_lines settled n own f e (sym is) lines
 
+-- where nothing stops edges, nothing stops those that were taken
+no_stop : (n : DecodeReport) (own v : Option CliFault) (w : Wording) (edges : List Edge) (written : List ℕ) → v ≡ stop_at n.back own → is_some v ≡ true → HasTold w edges written n → stop_at (back_in edges) own ≡ None → ⊥
+no_stop n own v w edges written is some h none =
+    let e : v ≡ None = is ∙ (ap (λ b. stop_at b own) h.back ∙ none) in
+    let k : is_some v ≡ false = ap (λ (x : Option CliFault). is_some x) e in
+    absurd (cc (some, k))
+
 pub ends_told : GivenAreSettled → (c : Bool) (n : DecodeReport) (own : Option CliFault) (v : Option CliFault) (f : Option WaveFault) (e : Ended) → v ≡ stop_at n.back own → is_some v ≡ true → e.refused ≡ refused_by c n.back own f
     → ((s : Source) (edges : List Edge) → HasJudged s edges n.judge → f ≡ fault_of (edges_checked s edges)) → e.lines ≡ n.log.lines
-    → (s : Source) (w : Wording) (edges : List Edge) (written : List ℕ) → HasNarrated s w edges written n → EndsEdges s w c edges written own e
-ends_told settled c n own v f e is some refused judges lines = λ s w edges written h. record {
-  refused = refused ∙ refuses c n own f judges s w edges written h;
-  lines = told_lines settled n own v e is some lines s w edges written h.told;
+    → (input : TraceInput) (w : Wording) (edges : List Edge) (written : List ℕ) → HasNarrated input.source w edges written n → EndsEdges input w c edges written own e
+ends_told settled c n own v f e is some refused judges lines = λ input w edges written h. record {
+  refused = refused ∙ refuses c n own f judges input.source w edges written h;
+  lines = told_lines settled n own v e is some lines input w edges written h.told;
+  odd = λ none. absurd (no_stop n own v w edges written is some h.told none);
 }
 
 -- nothing stops them
@@ -190,21 +201,25 @@ no_back None own h = refl
 no_back (Some n) own h = absurd (cc)
 
 -- the end of whole edges
-pub ends_whole : (c : Bool) (n : DecodeReport) (own : Option CliFault) (cut : Option Reading) (a : ReadingLog) (v : Option WaveFault) (e : Ended) → stop_at n.back own ≡ None → e.refused ≡ refused_by c n.back own v
+pub ends_whole : (input : TraceInput) (c : Bool) (n : DecodeReport) (own : Option CliFault) (cut : Option Reading) (a : ReadingLog) (v : Option WaveFault) (e : Ended) → stop_at n.back own ≡ None → e.refused ≡ refused_by c n.back own v
     → ((edges : List Edge) (given : List Reading) → HasReadings edges given n.decoder → readings_of edges ≡ given ++ option_to_list cut) → ((s : Source) (edges : List Edge) → HasJudged s edges n.judge → v ≡ fault_of (edges_checked s edges))
     → AccountsMore (option_to_list cut) n.log a
-    → ((w : Wording) (edges : List Edge) (given : List Reading) (written : List ℕ) → survey.HasSeen edges n.seen → HasAccounted w given written a
-    → written ++ e.lines.items ≡ readings_text w given ++ last_lines w v edges given) → (s : Source) (w : Wording) (edges : List Edge) (written : List ℕ)
-    → HasNarrated s w edges written n → EndsEdges s w c edges written own e
-ends_whole c n own cut a v e is refused reads judges accounts ends = λ s w edges written h.
+    → ((w : Wording) (edges : List Edge) (given : List Reading) (written : List ℕ) → survey.HasSeen edges n.seen → HasAccounted w given written a → e.odd ≡ oddities_of edges given)
+    → ((w : Wording) (edges : List Edge) (given : List Reading) (written : List ℕ) → e.odd ≡ oddities_of edges given → HasAccounted w given written a
+    → written ++ e.lines.items ≡ readings_text w given ++ last_lines w input v edges given) → (w : Wording) (edges : List Edge) (written : List ℕ)
+    → HasNarrated input.source w edges written n → EndsEdges input w c edges written own e
+ends_whole input c n own cut a v e is refused reads judges accounts odds ends = λ w edges written h.
     let none : back_in edges ≡ None = sym h.told.back ∙ no_back n.back own is in
     let stop : stop_at (back_in edges) own ≡ None = ap (λ v. stop_at v own) (sym h.told.back) ∙ is in
     let k = of_front w edges written n none h.told.heeded in
     let all = reads edges k.given k.read in
+    let accounted = accounts w k.given written k.accounted in
+    let said : e.odd ≡ oddities_of edges (k.given ++ option_to_list cut) = odds w edges (k.given ++ option_to_list cut) written k.seen accounted in
     record {
-      refused = refused ∙ refuses c n own v judges s w edges written h;
+      refused = refused ∙ refuses c n own v judges input.source w edges written h;
       lines =
-          ends w edges (k.given ++ option_to_list cut) written k.seen (accounts w k.given written k.accounted)
-          ∙ (ap (λ rs. readings_text w rs ++ last_lines w v edges rs) (sym all)
-          ∙ (ap (λ x. readings_text w (readings_of edges) ++ last_lines w x edges (readings_of edges)) (judges s edges h.judged) ∙ sym (ap (λ t. told_of w s t edges) stop)));
+          ends w edges (k.given ++ option_to_list cut) written said accounted
+          ∙ (ap (λ rs. readings_text w rs ++ last_lines w input v edges rs) (sym all)
+          ∙ (ap (λ x. readings_text w (readings_of edges) ++ last_lines w input x edges (readings_of edges)) (judges input.source edges h.judged) ∙ sym (ap (λ t. told_of w input t edges) stop)));
+      odd = λ whole. said ∙ ap (λ rs. oddities_of edges rs) (sym all);
     }

@@ -17,4 +17,4 @@ pub record AnswersJson (input : TraceInput) (text : List ℕ) (old new : Option 
   pub own : Option CliFault
   pub says : Says input text edges own
   pub leaves : Leaves trace_limit (length text) (refusal own (fault_of (edges_checked input.source edges)))
-      (told_of Json input.source (stop_at (back_in edges) own) edges) old new result
+      (told_of Json input (stop_at (back_in edges) own) edges) old new result

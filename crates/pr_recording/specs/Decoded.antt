@@ -1,5 +1,5 @@
 -- Trusted: what `decode` answers for a recording in any format, and what it leaves in the reader and in the writer.
-use Rattle.std.specs.Prelude.{◌≡◌, ℕ, ◌+◌, ◌<◌, ◌≤◌, nat_lt, List, [], ◌∷◌, ◌++◌, length, take, Option, Some, None, Result, Ok, Err, if◌then◌else◌}
+use Rattle.std.specs.Prelude.{◌≡◌, ℕ, ◌+◌, ◌<◌, ◌≤◌, nat_lt, List, [], ◌∷◌, ◌++◌, length, take, Option, Some, None, Result, Ok, Err, IfOk, if◌then◌else◌}
 use Rattle.std.specs.Io.KnownBytes.{Appends, IsAtEnd}
 use Rattle.pr_wire.specs.declared.Edge.{Edge}
 use Rattle.pr_wire.specs.declared.WaveFault.TheVariants as wave
@@ -15,9 +15,10 @@ use Rattle.pr_report.specs.ReadingText.{all_lines}
 use Rattle.pr_report.specs.Summary.{summary}
 use Rattle.pr_report.specs.Outside.{conclusion}
 use Rattle.pr_report.specs.Oddities.{oddities_of, oddities_text}
-use Rattle.pr_capture.specs.declared.format.Source.{Source}
+use Rattle.pr_report.specs.declared.oddities.Oddities.{Oddities}
 use Rattle.pr_capture.specs.declared.format.TraceInput.{TraceInput}
 use Rattle.pr_input.specs.PartlyWritten.{AppendsFront}
+use Rattle.pr_cli.specs.Check.{trace_limit}
 use Rattle.pr_cli.specs.Report.{Says, edges_checked}
 use Rattle.pr_recording.specs.declared.wording.Wording.{Wording}
 use Rattle.pr_recording.specs.declared.wording.Wording.TheVariants.{Json, Lines}
@@ -54,16 +55,17 @@ readings_text Json rs = json_lines rs
 
 -- what follows it at the end of a whole recording, by the fault of its edges: in lines the summary, the verdict, and
 -- what is odd about it
-abbrev pub last_lines : Wording → Option WaveFault → List Edge → List Reading → List ℕ
-last_lines (Lines d) fault edges rs =
-    summary d.bounds rs ++ (conclusion d.bounds fault rs ++ oddities_text (oddities_of edges rs))
-last_lines Json fault edges rs = json_verdict fault
+abbrev pub last_lines : Wording → TraceInput → Option WaveFault → List Edge → List Reading → List ℕ
+last_lines (Lines d) input fault edges rs =
+    summary d.bounds rs ++ (conclusion d.bounds fault rs ++ oddities_text input (oddities_of edges rs))
+last_lines Json input fault edges rs = json_verdict fault
 
 -- for a whole recording both, with the fault that `check` finds; for any other the text of what its edges settle up to where it stops
-abbrev pub told_of : Wording → Source → (stop : Option CliFault) → List Edge → List ℕ
-told_of w s None edges =
-    readings_text w (readings_of edges) ++ last_lines w (fault_of (edges_checked s edges)) edges (readings_of edges)
-told_of w s (Some fault) edges = readings_text w (settled_of (in_front (back_in edges) edges))
+abbrev pub told_of : Wording → TraceInput → (stop : Option CliFault) → List Edge → List ℕ
+told_of w input None edges =
+    readings_text w (readings_of edges)
+    ++ last_lines w input (fault_of (edges_checked input.source edges)) edges (readings_of edges)
+told_of w input (Some fault) edges = readings_text w (settled_of (in_front (back_in edges) edges))
 
 -- what the writer holds with each answer, by the limit and the length of the input, why it stops, and the text for it
 abbrev pub Leaves :
@@ -88,7 +90,22 @@ pub record AnswersDecode (limit : ℕ) (w : Wording) (input : TraceInput) (text 
   pub own : Option CliFault
   pub says : Says input text edges own
   pub leaves : Leaves limit (length text) (stop_at (back_in edges) own)
-      (told_of w input.source (stop_at (back_in edges) own) edges) old new result
+      (told_of w input (stop_at (back_in edges) own) edges) old new result
+
+-- an answer without what is odd
+abbrev pub without_odd : Result Oddities CliFault → Result (Unit {0}) CliFault
+without_odd (Ok odd) = Ok tt
+without_odd (Err fault) = Err fault
+
+-- the answer in JSON, which has no line of what is odd: the answer says it
+pub record AnswersDecodeJson (input : TraceInput) (text : List ℕ) (old new : Option (List ℕ))
+    (result : Result Oddities CliFault) : Type 0 where
+  pub edges : List Edge
+  pub own : Option CliFault
+  pub says : Says input text edges own
+  pub leaves : Leaves trace_limit (length text) (stop_at (back_in edges) own)
+      (told_of Json input (stop_at (back_in edges) own) edges) old new (without_odd result)
+  pub odd : IfOk result (λ odd. odd ≡ oddities_of edges (readings_of edges))
 
 -- the input has been read to its end where all of it is answered
 abbrev pub ReadsAll : Option (List ℕ) → Result (Unit {0}) CliFault → Type 0

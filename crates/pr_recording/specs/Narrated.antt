@@ -1,5 +1,5 @@
 -- Linking words, for proofs: which edges were taken, and which lines were made and written of them. No reader needs to believe them.
-use Rattle.std.specs.Prelude.{◌≡◌, ℕ, ◌+◌, Bool, true, false, List, [], ◌∷◌, ◌++◌, length, Option, Some, None, Result, Ok, Err}
+use Rattle.std.specs.Prelude.{◌≡◌, ℕ, ◌+◌, Bool, true, false, List, [], ◌∷◌, ◌++◌, length, Option, Some, None, Result, Ok, Err, IfOk}
 use Rattle.std.specs.Io.KnownBytes.{Appends}
 use Rattle.std.specs.List.{list_any}
 use Rattle.pr_wire.specs.declared.Edge.{Edge}
@@ -9,6 +9,7 @@ use Rattle.pr_wire.specs.Table.{fault_of}
 use Rattle.pr_capture.specs.declared.format.Source.{Source}
 use Rattle.pr_capture.specs.declared.format.TraceInput.{TraceInput}
 use Rattle.pr_decode.specs.declared.reading.Reading.{Reading}
+use Rattle.pr_decode.specs.Readings.{readings_of}
 use Rattle.pr_decode.specs.Taking.{HasReadings, last_time}
 use Rattle.pr_report.specs.declared.detail.Bounds.{Bounds}
 use Rattle.pr_report.specs.declared.detail.Bounds.TheVariants.{Profile}
@@ -16,7 +17,8 @@ use Rattle.pr_report.specs.declared.context.Context.{Context}
 use Rattle.pr_report.specs.Contexts.{at_start, behind_all}
 use Rattle.pr_report.specs.JsonText.{json_line}
 use Rattle.pr_report.specs.ReadingText.{reading_lines}
-use Rattle.pr_report.specs.Oddities.{is_acknowledged}
+use Rattle.pr_report.specs.Oddities.{is_acknowledged, oddities_of}
+use Rattle.pr_report.specs.declared.oddities.Oddities.{Oddities}
 use Rattle.pr_report.specs.Taking as survey
 use Rattle.pr_report.specs.declared.report.Report.TheVariants.{Story}
 use Rattle.pr_input.specs.PartlyWritten.{AppendsFront}
@@ -32,7 +34,7 @@ use Rattle.pr_recording.specs.declared.reading_log.ReadingLog.{ReadingLog}
 use Rattle.pr_recording.specs.declared.decode_report.Ended.{Ended}
 use Rattle.pr_recording.specs.declared.decode_report.DecodeReport.{DecodeReport}
 use Rattle.pr_recording.specs.Judged.{HasJudged, edges_judged}
-use Rattle.pr_recording.specs.Decoded.{IsDecodeFault, Leaves, ReadsAll, back_in, in_front, readings_text, stop_at, told_of}
+use Rattle.pr_recording.specs.Decoded.{IsDecodeFault, Leaves, ReadsAll, back_in, in_front, readings_text, stop_at, told_of, without_odd}
 
 -- Verdicts.
 
@@ -120,11 +122,13 @@ NarratesMore more old new =
     (s : Source) (w : Wording) (edges : List Edge) (written : List ℕ) → HasNarrated s w edges written old
     → HasNarrated s w (edges ++ more) written new
 
--- the end of edges whose input has this fault, if it has one: why they are refused, and the lines that were not given up before
-pub record EndsEdges (s : Source) (w : Wording) (checked : Bool) (edges : List Edge) (written : List ℕ) (own : Option CliFault)
-    (t : Ended) : Type 0 where
-  pub refused : t.refused ≡ refused_for checked s edges own
-  pub lines : written ++ t.lines.items ≡ told_of w s (stop_at (back_in edges) own) edges
+-- the end of edges whose input has this fault, if it has one: why they are refused, the lines that were not given up
+-- before, and what is odd where nothing stops them
+pub record EndsEdges (input : TraceInput) (w : Wording) (checked : Bool) (edges : List Edge) (written : List ℕ)
+    (own : Option CliFault) (t : Ended) : Type 0 where
+  pub refused : t.refused ≡ refused_for checked input.source edges own
+  pub lines : written ++ t.lines.items ≡ told_of w input (stop_at (back_in edges) own) edges
+  pub odd : stop_at (back_in edges) own ≡ None → t.odd ≡ oddities_of edges (readings_of edges)
 
 -- the lines that were not given up yet
 abbrev pub lines_in : DecodeReport → List ℕ
@@ -137,10 +141,11 @@ GivesUp old new =
     → HasNarrated s w edges (written ++ lines_in old) new
 
 -- the end of an input of which the edges before the last block were told
-abbrev pub EndsNarrated : (checked : Bool) → InputReader → DecodeReport → Ended → Type 0
-EndsNarrated c r n e =
-    (s : Source) (w : Wording) (written : List ℕ)
-    → EndsReading r (λ edges. HasNarrated s w edges written n) (λ edges own. EndsEdges s w c edges written own e)
+abbrev pub EndsNarrated : TraceInput → (checked : Bool) → InputReader → DecodeReport → Ended → Type 0
+EndsNarrated input c r n e =
+    (w : Wording) (written : List ℕ)
+    → EndsReading r (λ edges. HasNarrated input.source w edges written n)
+    (λ edges own. EndsEdges input w c edges written own e)
 
 -- What is answered.
 
@@ -161,21 +166,22 @@ Refuses true fault = IsOwnFault fault
 Refuses false fault = IsStop fault
 
 -- what the end of an input comes to in the writer
-abbrev pub WritesEnd : Ended → Option (List ℕ) → Option (List ℕ) → Result (Unit {0}) CliFault → Type 0
-WritesEnd e old new (Ok _) = (e.refused ≡ None) × Appends old new e.lines.items
+abbrev pub WritesEnd : Ended → Option (List ℕ) → Option (List ℕ) → Result Oddities CliFault → Type 0
+WritesEnd e old new (Ok odd) = (e.refused ≡ None) × (odd ≡ e.odd) × Appends old new e.lines.items
 WritesEnd e old new (Err WriteFailed) = AppendsFront old new e.lines.items
 WritesEnd e old new (Err fault) = (e.refused ≡ Some fault) × Appends old new e.lines.items
 
 -- the answer for a recording that is checked or not, by its text and by what the writer held before and after
 pub record AnswersTold (limit : ℕ) (w : Wording) (checked : Bool) (input : TraceInput) (text : List ℕ) (old new : Option (List ℕ))
-    (result : Result (Unit {0}) CliFault) : Type 0 where
+    (result : Result Oddities CliFault) : Type 0 where
   pub edges : List Edge
   pub own : Option CliFault
   pub says : Says input text edges own
   pub leaves : Leaves limit (length text) (refused_for checked input.source edges own)
-      (told_of w input.source (stop_at (back_in edges) own) edges) old new result
+      (told_of w input (stop_at (back_in edges) own) edges) old new (without_odd result)
+  pub odd : stop_at (back_in edges) own ≡ None → IfOk result (λ odd. odd ≡ oddities_of edges (readings_of edges))
 
 -- how far the input has been read where it is answered
-abbrev pub HasReadTo : (checked : Bool) → Option (List ℕ) → Result (Unit {0}) CliFault → Type 0
-HasReadTo true left result = report.ReadsAll Story left result
-HasReadTo false left result = ReadsAll left result
+abbrev pub HasReadTo : (checked : Bool) → Option (List ℕ) → Result Oddities CliFault → Type 0
+HasReadTo true left result = report.ReadsAll Story left (without_odd result)
+HasReadTo false left result = ReadsAll left (without_odd result)

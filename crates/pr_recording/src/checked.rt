@@ -6,7 +6,7 @@ ghost use Rattle.pr_report.specs.declared.report.Report.TheVariants.{Story};
 ghost use Rattle.pr_cli.specs.Report.{IsReportFault, ReadsAll};
 ghost use Rattle.pr_recording.specs.Checked.{AnswersJson};
 
-use crate::decode::tell_input;
+use crate::decode::{tell_input, without_odd};
 use crate::wording::Wording;
 use pr_capture::TraceInput;
 use pr_cli::{CHECK_LIMIT, CliFault, Watched};
@@ -48,7 +48,7 @@ pub fn check_json_over<R: Read, W: Write>(
     ensures read_failed { IsErrOf result CliFault.ReadFailed ↔ (has_failed input.new ≡ true) }
     ensures write_failed { IsErrOf result CliFault.WriteFailed ↔ (has_failed output.new ≡ true) }
 {
-    tell_input(
+    without_odd(tell_input(
         alloc,
         input,
         output,
@@ -56,5 +56,5 @@ pub fn check_json_over<R: Read, W: Write>(
         Wording::Json,
         true,
         CHECK_LIMIT,
-    )
+    ))
 }

@@ -6,7 +6,7 @@ ghost use Rattle.pr_cli.specs.Check.{trace_limit};
 ghost use Rattle.pr_input.specs.PartlyWritten.{AppendsFront};
 ghost use Rattle.pr_cli.specs.Inputs.{edges_read, lines_ahead};
 ghost use Rattle.pr_input.specs.Watched.{has_failed, is_flushed, wrapped};
-ghost use Rattle.pr_recording.specs.Decoded.{AnswersDecode, IsDecodeFault, ReadsAll};
+ghost use Rattle.pr_recording.specs.Decoded.{AnswersDecode, AnswersDecodeJson, IsDecodeFault, ReadsAll, without_odd};
 ghost use Rattle.pr_recording.specs.Narrated.{AnswersTold, EndsNarrated, GivesUp, HasReadTo, IsRefusal, WritesEnd, lines_in, load};
 
 use crate::decode_report::{DecodeReport, Ended};
@@ -17,6 +17,7 @@ use pr_cli::{
     write_piece, write_whole,
 };
 use pr_decode::readings_add_up;
+use pr_report::Oddities;
 use std::alloc::{AllocError, Global};
 use std::io::{Read, Write};
 
@@ -96,11 +97,56 @@ pub fn decode_input<R: Read, W: Write>(
     ensures read_failed { IsErrOf result CliFault.ReadFailed ↔ (has_failed input.new ≡ true) }
     ensures write_failed { IsErrOf result CliFault.WriteFailed ↔ (has_failed output.new ≡ true) }
 {
-    tell_input(alloc, input, output, trace, wording, false, limit)
+    without_odd(tell_input(alloc, input, output, trace, wording, false, limit))
+}
+
+/// Does what [`decode_over`] does in JSON, and answers what is odd about the recording, which JSON does not say.
+///
+/// # Errors
+///
+/// Those of [`decode_over`], and what they leave is the same.
+pub fn decode_json_over<R: Read, W: Write>(
+    alloc: Global,
+    input: &mut Watched<R>,
+    output: &mut Watched<W>,
+    trace: TraceInput<'_>,
+) -> Result<Oddities, CliFault>
+    // the caller's part
+    requires input { has_failed input.old ≡ false }
+    requires output { has_failed output.old ≡ false }
+    // what it gives
+    ensures decode { IfSome (R.remaining (wrapped input.old)) (λ text.
+        AnswersDecodeJson trace.entry text (W.contents (wrapped output.old)) (W.contents (wrapped output.new)) result) }
+    ensures at_end { ReadsAll (R.remaining (wrapped input.new)) (without_odd result) }
+    ensures flushed { OnOk result (is_flushed output.new ≡ true) }
+    // when it refuses, and what that leaves
+    ensures own { IfErr result IsDecodeFault }
+    ensures read_failed { IsErrOf result CliFault.ReadFailed ↔ (has_failed input.new ≡ true) }
+    ensures write_failed { IsErrOf result CliFault.WriteFailed ↔ (has_failed output.new ≡ true) }
+{
+    tell_input(
+        alloc,
+        input,
+        output,
+        trace,
+        Wording::Json,
+        false,
+        CHECK_LIMIT,
+    )
+}
+
+/// An answer without what is odd.
+pub(crate) fn without_odd(answer: Result<Oddities, CliFault>) -> Result<(), CliFault>
+    ensures { result ≡ without_odd answer }
+{
+    match answer {
+        Ok(_) => Ok(()),
+        Err(fault) => Err(fault),
+    }
 }
 
 /// Reads a recording of at most `limit` bytes and writes what it says, block by block. What is checked is refused
-/// unless it is lawful, anything else only where it cannot be read to its end.
+/// unless it is lawful, anything else only where it cannot be read to its end. Answers what is odd about it.
 pub(crate) fn tell_input<R: Read, W: Write>(
     alloc: Global,
     input: &mut Watched<R>,
@@ -109,7 +155,7 @@ pub(crate) fn tell_input<R: Read, W: Write>(
     wording: Wording,
     is_checked: bool,
     limit: usize,
-) -> Result<(), CliFault>
+) -> Result<Oddities, CliFault>
     // the caller's part
     requires input { has_failed input.old ≡ false }
     requires output { has_failed output.old ≡ false }
@@ -131,7 +177,7 @@ pub(crate) fn tell_input<R: Read, W: Write>(
     let mut block = [0u8; BLOCK];
     'pieces: loop {
         if !reader.read_block(input, &mut block)? {
-            return write_end(output, end_input(reader, report, is_checked)?);
+            return write_end(output, end_input(reader, report, trace, is_checked)?);
         }
         report.take_all(reader.edges())?;
         write_lines(output, &mut report)?;
@@ -142,15 +188,16 @@ pub(crate) fn tell_input<R: Read, W: Write>(
 fn end_input(
     reader: InputReader<'_>,
     mut report: DecodeReport,
+    trace: TraceInput<'_>,
     is_checked: bool,
 ) -> Result<Ended, AllocError>
     requires lines { lines_ahead reader + 1 < 2 ^ 64 }
     requires edges { load report + 3 * length (edges_read reader) + 9 < 2 ^ 64 }
-    ensures { IfOk result (λ ended. EndsNarrated is_checked reader.entry report ended) }
+    ensures { IfOk result (λ ended. EndsNarrated trace.entry is_checked reader.entry report ended) }
 {
     let last = reader.finish()?;
     report.take_all(last.edges.as_slice())?;
-    report.finish(last.fault, is_checked)
+    report.finish(trace, last.fault, is_checked)
 }
 
 /// Writes the lines that are not written yet.
@@ -175,8 +222,8 @@ fn write_lines<W: Write>(output: &mut Watched<W>, report: &mut DecodeReport) -> 
     }
 }
 
-/// Writes the last of what is told, and answers why the recording is refused, if it is.
-fn write_end<W: Write>(output: &mut Watched<W>, ended: Ended) -> Result<(), CliFault>
+/// Writes the last of what is told, and answers what is odd, or why the recording is refused, if it is.
+fn write_end<W: Write>(output: &mut Watched<W>, ended: Ended) -> Result<Oddities, CliFault>
     requires fresh { has_failed output.old ≡ false }
     requires refused { ended.refused ≢ Some CliFault.WriteFailed }
     ensures written { WritesEnd ended (W.contents (wrapped output.old)) (W.contents (wrapped output.new)) result }
@@ -188,7 +235,7 @@ fn write_end<W: Write>(output: &mut Watched<W>, ended: Ended) -> Result<(), CliF
         Err(WriteFault) => return Err(CliFault::WriteFailed),
     }
     match ended.refused {
-        None => Ok(()),
+        None => Ok(ended.odd),
         Some(fault) => Err(fault),
     }
 }

@@ -12,10 +12,10 @@ ghost use Rattle.pr_recording.specs.EdgesRead.{BeginsBack, ReadsMore};
 use crate::judge::Judge;
 use crate::reading_log::ReadingLog;
 use crate::wording::Wording;
-use pr_capture::Source;
+use pr_capture::{Source, TraceInput};
 use pr_cli::CliFault;
 use pr_decode::{Decoder, GoesBack, readings_add_up};
-use pr_report::LinesSeen;
+use pr_report::{LinesSeen, Oddities};
 use pr_wire::{Edge, WaveFault};
 use std::alloc::{AllocError, Global};
 
@@ -23,6 +23,8 @@ use std::alloc::{AllocError, Global};
 #[derive(Drop)]
 pub struct Ended {
     pub lines: Vec<u8>,
+    /// What is odd about it, where nothing stops it.
+    pub odd: Oddities,
     pub refused: Option<CliFault>,
 }
 
@@ -95,22 +97,38 @@ impl DecodeReport {
     /// Ends the edges of an input with this fault, if it has one. Where nothing stops them, what the end
     /// cuts, the summary, the verdict and what is odd are told. What is checked is refused unless it is lawful,
     /// anything else only where it stops.
-    pub fn finish(mut self, own: Option<CliFault>, is_checked: bool) -> Result<Ended, AllocError>
+    pub fn finish(
+        mut self,
+        trace: TraceInput<'_>,
+        own: Option<CliFault>,
+        is_checked: bool,
+    ) -> Result<Ended, AllocError>
         requires room { load self + 3 < 2 ^ 64 }
-        ensures { IfOk result (λ ended. (source : Source) (wording : Wording) (edges : List Edge) (written : List ℕ) →
-            HasNarrated source wording edges written self → EndsEdges source wording is_checked edges written own ended) }
+        ensures { IfOk result (λ ended. (wording : Wording) (edges : List Edge) (written : List ℕ) →
+            HasNarrated trace.entry.source wording edges written self →
+            EndsEdges trace.entry wording is_checked edges written own ended) }
     {
         readings_add_up();
         let fault = self.judge.finish();
         let refused = refused_by(is_checked, self.back, own, fault);
         if stop_at(self.back, own).is_some() {
+            let odd = self.log.oddities(self.seen);
             let lines = self.log.into_lines();
-            return Ok(Ended { lines, refused });
+            return Ok(Ended {
+                lines,
+                odd,
+                refused,
+            });
         }
         let cut = self.decoder.finish();
         self.log.push_if(cut)?;
-        let lines = self.log.finish(fault, self.seen)?;
-        Ok(Ended { lines, refused })
+        let odd = self.log.oddities(self.seen);
+        let lines = self.log.finish(trace, fault, odd)?;
+        Ok(Ended {
+            lines,
+            odd,
+            refused,
+        })
     }
 }
 

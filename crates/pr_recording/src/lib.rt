@@ -48,7 +48,7 @@ pub use byte_log::Heard;
 pub use bytes::bytes_over;
 pub use capture_printer::Printed;
 pub use checked::check_json_over;
-pub use decode::{decode_input, decode_over};
+pub use decode::{decode_input, decode_json_over, decode_over};
 pub use laws::{readings_are_heard_in_turn, traces_are_heard_as_spelled};
 pub use pages::{PRINT_LIMIT, print_input, reprint_over};
 pub use printer_pair::{PrintedPages, PrinterPair};

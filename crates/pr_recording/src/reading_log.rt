@@ -15,6 +15,7 @@ ghost use Rattle.pr_recording.specs.Decoded.{last_lines, readings_text};
 ghost use Rattle.pr_recording.specs.Narrated.{AccountsMore, HasAccounted, bounds_in, reading_text, readings_told};
 
 use crate::wording::Wording;
+use pr_capture::TraceInput;
 use pr_decode::Reading;
 use pr_report::{
     Bounds, Context, LinesSeen, Oddities, Survey, is_acknowledged, push_json_reading,
@@ -72,15 +73,16 @@ fn push_worded(
 fn push_summing_up(
     text: &mut Vec<u8>,
     survey: &Survey,
+    trace: TraceInput<'_>,
     fault: Option<WaveFault>,
     odd: Oddities,
 ) -> Result<(), AllocError>
     ensures { OnOk result ((bounds : Bounds) (given : List Reading) → HasSurveyed bounds given survey.now → text.new.items
-        ≡ text.old.items ++ (summary bounds given ++ (conclusion bounds fault given ++ oddities_text odd))) }
+        ≡ text.old.items ++ (summary bounds given ++ (conclusion bounds fault given ++ oddities_text trace.entry odd))) }
 {
     survey.push_summary(text)?;
     survey.push_conclusion(text, fault)?;
-    push_oddities(text, odd)?;
+    push_oddities(text, trace, odd)?;
     Ok(())
 }
 
@@ -148,18 +150,30 @@ impl ReadingLog {
         self.lines
     }
 
-    /// Ends the readings: gives the lines that are not written yet, and what follows them at the end, by the fault
-    /// of the edges that were seen.
-    pub fn finish(self, fault: Option<WaveFault>, seen: LinesSeen) -> Result<Vec<u8>, AllocError>
+    /// What is odd about the edges that were seen, of which these are the readings.
+    pub fn oddities(&self, seen: LinesSeen) -> Oddities
+        ensures { (wording : Wording) (edges : List Edge) (given : List Reading) (written : List ℕ) →
+            HasSeen edges seen → HasAccounted wording given written self.now → result ≡ oddities_of edges given }
+    {
+        seen.oddities(self.has_byte)
+    }
+
+    /// Ends the readings of an input: gives the lines that are not written yet, and what follows them at the end, by
+    /// the fault of the edges that were seen, and by what is odd about them.
+    pub fn finish(
+        self,
+        trace: TraceInput<'_>,
+        fault: Option<WaveFault>,
+        odd: Oddities,
+    ) -> Result<Vec<u8>, AllocError>
         ensures { IfOk result (λ text. (wording : Wording) (edges : List Edge) (given : List Reading) (written : List ℕ) →
-            HasSeen edges seen → HasAccounted wording given written self →
-            written ++ text.items ≡ readings_text wording given ++ last_lines wording fault edges given) }
+            odd ≡ oddities_of edges given → HasAccounted wording given written self →
+            written ++ text.items ≡ readings_text wording given ++ last_lines wording trace.entry fault edges given) }
     {
         let mut lines = self.lines;
         match self.wording {
             Wording::Lines(_) => {
-                let odd = seen.oddities(self.has_byte);
-                push_summing_up(&mut lines, &self.survey, fault, odd)?;
+                push_summing_up(&mut lines, &self.survey, trace, fault, odd)?;
                 Ok(lines)
             }
             Wording::Json => {

@@ -1,5 +1,10 @@
+pub mod Blocks
 pub mod Defining
+pub mod Documents
 pub mod Drawn
+pub mod Joined
 pub mod Names
+pub mod Pictures
 pub mod Shown
+pub mod Skipped
 pub mod Told

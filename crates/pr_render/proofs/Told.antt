@@ -17,19 +17,19 @@ use Rattle.pr_render.specs.Words.{either_text, text_if}
 use Rattle.pr_render.proofs.Names.{byte-small, names-tell}
 
 -- a list's first item, and what follows it
-first-is : {a b : ℕ} {xs bs : List ℕ} → a ∷ xs ≡ b ∷ bs → a ≡ b
+pub first-is : {a b : ℕ} {xs bs : List ℕ} → a ∷ xs ≡ b ∷ bs → a ≡ b
 first-is is = cc
 
-rest-is : {a b : ℕ} {xs bs : List ℕ} → a ∷ xs ≡ b ∷ bs → xs ≡ bs
+pub rest-is : {a b : ℕ} {xs bs : List ℕ} → a ∷ xs ≡ b ∷ bs → xs ≡ bs
 rest-is is = cc
 
 -- a text without a byte
-abbrev Free : (q : ℕ) → List ℕ → Type 0
+abbrev pub Free : (q : ℕ) → List ℕ → Type 0
 Free q [] = Unit {0}
 Free q (x ∷ xs) = (x ≢ q) × Free q xs
 
 -- a text up to a byte that it does not have
-cut-at : (q : ℕ) (xs ys r s : List ℕ) → Free q xs → Free q ys → xs ++ (q ∷ r) ≡ ys ++ (q ∷ s) → (xs ≡ ys) × (r ≡ s)
+pub cut-at : (q : ℕ) (xs ys r s : List ℕ) → Free q xs → Free q ys → xs ++ (q ∷ r) ≡ ys ++ (q ∷ s) → (xs ≡ ys) × (r ≡ s)
 cut-at q [] [] r s f g is = (refl, rest-is is)
 cut-at q [] (y ∷ ys) r s f g is = absurd (g.0 (sym (first-is is)))
 cut-at q (x ∷ xs) [] r s f g is = absurd (f.0 (first-is is))
@@ -69,7 +69,7 @@ free-name (Cell code l r w) small =
 free-name (Dots value) small = (λ e. omega arith, free-decimal 34 (omega arith) value (byte-small value small))
 
 -- five texts before another one
-regroup : (v w x y z more : List ℕ) → ((((v ++ w) ++ x) ++ y) ++ z) ++ more ≡ v ++ (w ++ (x ++ (y ++ (z ++ more))))
+pub regroup : (v w x y z more : List ℕ) → ((((v ++ w) ++ x) ++ y) ++ z) ++ more ≡ v ++ (w ++ (x ++ (y ++ (z ++ more))))
 regroup v w x y z more =
     append_assoc (((v ++ w) ++ x) ++ y) z more ∙ (append_assoc ((v ++ w) ++ x) y (z ++ more)
     ∙ (append_assoc (v ++ w) x (y ++ (z ++ more)) ∙ append_assoc v w (x ++ (y ++ (z ++ more)))))
@@ -172,7 +172,7 @@ distances-tell : (x y : ℕ) → nat_lt x (2 ^ 60) ≡ true → nat_lt y (2 ^ 60
 distances-tell x y small other is =
     let e : 10 * x ≡ 10 * y = decimal_injective (10 * x) (10 * y) (distance-small x small) (distance-small y other) is in omega arith
 
-line-split : (ps qs : List Placed) (a b : List ℕ) → list_all is_drawn ps ≡ true → list_all is_drawn qs ≡ true
+pub line-split : (ps qs : List Placed) (a b : List ℕ) → list_all is_drawn ps ≡ true → list_all is_drawn qs ≡ true
     → line_svg ps ++ (codes "</g>\n" ++ a) ≡ line_svg qs ++ (codes "</g>\n" ++ b) → (ps ≡ qs) × (a ≡ b)
 unfolding line_svg
 line-split ps qs a b f g is =
@@ -184,7 +184,7 @@ line-split ps qs a b f g is =
     let letters = told.1 ∙ ap (λ ms. strips_svg no_strip ms ++ (codes "</g>\n" ++ b)) (sym told.0) in
     (told.0, append_cancel_left (codes "</g>\n") a b (append_cancel_left (strips_svg no_strip ps) (codes "</g>\n" ++ a) (codes "</g>\n" ++ b) letters))
 
-row-split : (r s : Row) (a b : List ℕ) → is_row r ≡ true → is_row s ≡ true → row_svg r ++ a ≡ row_svg s ++ b → (r ≡ s) × (a ≡ b)
+pub row-split : (r s : Row) (a b : List ℕ) → is_row r ≡ true → is_row s ≡ true → row_svg r ++ a ≡ row_svg s ++ b → (r ≡ s) × (a ≡ b)
 unfolding row_svg
 row-split r s a b f g is =
     let rf = and_parts (nat_lt r.y (2 ^ 60)) (list_all is_drawn r.marks) f in

@@ -7,12 +7,16 @@ use Rattle.pr_page.specs.declared.paper.Paper.{Paper}
 use Rattle.pr_page.specs.declared.paper.Row.{Row}
 use Rattle.pr_page.specs.declared.paper.Mark.{Mark}
 use Rattle.pr_page.specs.declared.paper.Mark.TheVariants.{Cell, Dots}
+use Rattle.pr_serial.specs.declared.Present.{Present}
+use Rattle.pr_system.specs.declared.outcome.Outcome.{Outcome}
 use Rattle.pr_dots.specs.Dots.{dots_of}
+use Rattle.pr_dots.specs.Sheets.{rows_on}
 use Rattle.pr_dots.specs.declared.character_sets.Shapes.{Shapes}
 use Rattle.pr_render.specs.Characters.{character}
 use Rattle.pr_render.specs.Plain.{held_text, rows_text, shown}
 use Rattle.pr_render.specs.Words.{is_blank}
-use Rattle.pr_render.specs.Svg.{Disc, disc_of, each_once, mark_discs, marks_of, name_svg, row_svg}
+use Rattle.pr_render.specs.SheetSvg.{sheet_svg_of}
+use Rattle.pr_render.specs.Svg.{Disc, disc_of, drawn_of, each_once, mark_discs, marks_of, name_svg, row_svg, svg_of}
 
 -- the code or the value of a mark is a byte
 abbrev pub is_of_bytes : Mark → Bool
@@ -63,6 +67,31 @@ is_row r = nat_lt r.y (2 ^ 60) && list_all is_drawn r.marks
 abbrev pub ElementsTellRows : Type 0
 ElementsTellRows = (these those : List Row) → list_all is_row these ≡ true → list_all is_row those ≡ true
     → flat_map row_svg these ≡ flat_map row_svg those → these ≡ those
+
+-- a paper of such rows, and of marks held at such places
+abbrev pub is_paper : Paper → Bool
+is_paper p = list_all is_row p.rows && list_all is_drawn p.held
+
+-- the papers that a picture shows, each after the number of its printer
+abbrev pub drawn_papers : Outcome → Present → List (ℕ × Paper)
+drawn_papers outcome drawn =
+    (if drawn.four then (4, outcome.paper4) ∷ [] else []) ++ (if drawn.five then (5, outcome.paper5) ∷ [] else [])
+
+-- a picture tells its papers: where two documents are the same, in whatever shapes, the same printers are drawn, with the same
+-- rows and the same marks held
+abbrev pub PicturesTellPapers : Type 0
+PicturesTellPapers =
+    (shapes other : Shapes) (these those : Outcome) (present around : Present)
+    → is_paper these.paper4 ≡ true → is_paper these.paper5 ≡ true → is_paper those.paper4 ≡ true → is_paper those.paper5 ≡ true
+    → svg_of shapes these present ≡ svg_of other those around
+    → drawn_papers these (drawn_of these present) ≡ drawn_papers those (drawn_of those around)
+
+-- the document of one sheet tells the rows that are on it
+abbrev pub SheetsTellRows : Type 0
+SheetsTellRows =
+    (shapes other : Shapes) (this that : Paper) (sheet again : ℕ)
+    → list_all is_row (rows_on sheet this.rows) ≡ true → list_all is_row (rows_on again that.rows) ≡ true
+    → sheet_svg_of shapes this sheet ≡ sheet_svg_of other that again → rows_on sheet this.rows ≡ rows_on again that.rows
 
 -- a text shows a character at a column of a line, both counted from 0: a blank where the line is shorter
 pub record ShowsAt (line column u : ℕ) (text : List ℕ) : Type 0 where

@@ -5,6 +5,6 @@ pub mod Parts
 pub mod SheetSvg
 pub mod Showing
 pub mod Plain
-pub mod Strips
 pub mod Svg
+pub mod Tables
 pub mod Words

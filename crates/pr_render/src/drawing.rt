@@ -13,6 +13,7 @@ use crate::parts::{
     paper_piece, units_begin, units_between,
 };
 use crate::sheets::{paper_end, push_sheet_if};
+use crate::texts::Texts;
 use pr_dots::Shapes;
 use pr_page::{NoMemory, Paper};
 use pr_serial::Present;
@@ -154,12 +155,13 @@ fn push_picture(
 ) -> Result<(), AllocError>
     ensures { OnOk result (text.new.items ≡ text.old.items ++ picture_svg shapes.now outcome.now drawn) }
 {
+    let texts = Texts::new(alloc)?;
     let picas = sheet_picas(outcome);
     let five = if drawn.four { 13860 } else { 630 };
     push_head(text, width_of(drawn), height_of(picas, outcome))?;
     push_definitions(text, alloc, shapes, outcome, drawn)?;
-    push_sheet_if(text, alloc, drawn.four, 4, 630, picas, &outcome.paper4)?;
-    push_sheet_if(text, alloc, drawn.five, 5, five, picas, &outcome.paper5)?;
+    push_sheet_if(text, &texts, drawn.four, 4, 630, picas, &outcome.paper4)?;
+    push_sheet_if(text, &texts, drawn.five, 5, five, picas, &outcome.paper5)?;
     push_notes(text, picas, outcome)?;
     text.extend_from_slice(b"</svg>\n")
 }

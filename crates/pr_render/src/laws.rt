@@ -1,6 +1,6 @@
 //! Laws of the definitions, with nothing to run.
 
-ghost use Rattle.pr_render.specs.Laws.{DiscsAreTheDots, ElementsTellRows, LinesShowEachCell, NamesTellMarks, WideCellsShowABlank};
+ghost use Rattle.pr_render.specs.Laws.{DiscsAreTheDots, ElementsTellRows, LinesShowEachCell, NamesTellMarks, PicturesTellPapers, SheetsTellRows, WideCellsShowABlank};
 
 /// A law: what a picture draws of a paper's rows is a disc at each dot of the paper, and no other.
 /// An element draws what is defined under its name, moved to the element's place; each mark in the
@@ -18,6 +18,17 @@ pub fn names_tell_marks()
 /// same rows: each at its distance, with the same marks at the same places.
 pub fn elements_tell_rows()
     ensures { ElementsTellRows }
+{}
+
+/// A law: the pages can be had back from the whole document. Outcomes with the same document have the same printers in it,
+/// each with the same rows and the same marks held; whatever else differs, as statuses or the shapes of characters.
+pub fn pictures_tell_papers()
+    ensures { PicturesTellPapers }
+{}
+
+/// A law: the rows on a sheet can be had back from the document of that sheet.
+pub fn sheets_tell_rows()
+    ensures { SheetsTellRows }
 {}
 
 /// Laws: in the line of its row a cell shows its character (a reversed blank a full block) at the column of its

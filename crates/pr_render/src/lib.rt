@@ -4,7 +4,8 @@
 //! - `columns` and `plain` make the lines of [`Format`]'s text.
 //! - `drawing` makes the SVG document of the fixed texts in `parts`: `defined` defines each mark once and `uses` has
 //!   the elements that name one, `letters` makes the letters of a line, `sheets` a printer's sheet of these, and
-//!   `notes` the lines below the sheets. `single` draws one sheet of 11 inches.
+//!   `notes` the lines below the sheets. `single` draws one sheet of 11 inches. What most marks have is ready in
+//!   `texts`, tables of `short_text`.
 //! - `laws` says what is drawn, without the folds.
 //!
 //! A further format is a definition in `specs/` and a file in `src/`, and an arm in pr_cli's `text_in` and
@@ -24,7 +25,9 @@ mod notes;
 mod parts;
 mod plain;
 mod sheets;
+mod short_text;
 mod single;
+mod texts;
 mod uses;
 
 pub use characters::character;

@@ -148,7 +148,7 @@ pub fn use_begin() -> &'static [u8]
 #[tactic(auto, unfolding(crate::specs::Parts::use_place))]
 pub fn use_place() -> &'static [u8]
     ensures text { result.now ≡ use_place }
-    ensures short { length result.now ≤ 12 }
+    ensures short { length result.now ≤ 5 }
 {
     b"\" x=\""
 }
@@ -157,7 +157,7 @@ pub fn use_place() -> &'static [u8]
 #[tactic(auto, unfolding(crate::specs::Parts::use_end))]
 pub fn use_end() -> &'static [u8]
     ensures text { result.now ≡ use_end }
-    ensures short { length result.now ≤ 12 }
+    ensures short { length result.now ≤ 4 }
 {
     b"\"/>\n"
 }

@@ -10,9 +10,10 @@ use crate::parts::{
     held_begin, held_note, ink_begin, paper_folds, row_begin, sheet_end, sheet_marks, sheet_name,
     sheet_paper,
 };
+use crate::texts::Texts;
 use crate::uses::push_uses;
 use pr_page::{Paper, Placed, Row};
-use std::alloc::{AllocError, Global};
+use std::alloc::AllocError;
 
 /// Where rows end.
 fn rows_end(rows: &[Row]) -> u128
@@ -41,38 +42,38 @@ pub fn paper_end(paper: &Paper) -> u128
 
 /// Adds the marks of a line, and the letters over them.
 #[tactic(auto, unfolding(crate::specs::Svg::line_svg))]
-fn push_line(text: &mut Vec<u8>, alloc: Global, marks: &[Placed]) -> Result<(), AllocError>
+fn push_line(text: &mut Vec<u8>, texts: &Texts, marks: &[Placed]) -> Result<(), AllocError>
     ensures { OnOk result (text.new.items ≡ text.old.items ++ line_svg marks.now) }
 {
-    push_uses(text, marks)?;
-    push_letters(text, alloc, marks)
+    push_uses(text, texts, marks)?;
+    push_letters(text, texts, marks)
 }
 
 /// Adds a printed line.
 #[tactic(auto, unfolding(crate::specs::Svg::row_svg))]
-pub fn push_row(text: &mut Vec<u8>, alloc: Global, row: &Row) -> Result<(), AllocError>
+pub fn push_row(text: &mut Vec<u8>, texts: &Texts, row: &Row) -> Result<(), AllocError>
     ensures { OnOk result (text.new.items ≡ text.old.items ++ row_svg row.now) }
 {
     text.extend_from_slice(row_begin())?;
     push_number(text, 10 * u128::from(row.y))?;
     text.extend_from_slice(b")\">\n")?;
-    push_line(text, alloc, row.marks.as_slice())?;
+    push_line(text, texts, row.marks.as_slice())?;
     text.extend_from_slice(b"</g>\n")
 }
 
 /// Adds rows.
-fn push_rows(text: &mut Vec<u8>, alloc: Global, rows: &[Row]) -> Result<(), AllocError>
+fn push_rows(text: &mut Vec<u8>, texts: &Texts, rows: &[Row]) -> Result<(), AllocError>
     ensures { OnOk result (text.new.items ≡ text.old.items ++ flat_map row_svg rows.now) }
 {
     for row in rows {
-        push_row(text, alloc, row)?;
+        push_row(text, texts, row)?;
     }
     Ok(())
 }
 
 /// Adds the marks held at a distance, if there are any.
 #[tactic(auto, unfolding(crate::specs::Svg::held_svg))]
-fn push_held(text: &mut Vec<u8>, alloc: Global, y: u128, held: &[Placed]) -> Result<(), AllocError>
+fn push_held(text: &mut Vec<u8>, texts: &Texts, y: u128, held: &[Placed]) -> Result<(), AllocError>
     requires { y ≤ 18446744073709551657 }
     ensures { OnOk result (text.new.items ≡ text.old.items ++ held_svg y held.now) }
 {
@@ -82,19 +83,19 @@ fn push_held(text: &mut Vec<u8>, alloc: Global, y: u128, held: &[Placed]) -> Res
     text.extend_from_slice(held_begin())?;
     push_number(text, 10 * y)?;
     text.extend_from_slice(b")\">\n")?;
-    push_line(text, alloc, held)?;
+    push_line(text, texts, held)?;
     text.extend_from_slice(b"</g>\n")
 }
 
 /// Adds the marks of a paper.
 #[tactic(auto, unfolding(crate::specs::Svg::ink_svg))]
-fn push_ink(text: &mut Vec<u8>, alloc: Global, paper: &Paper) -> Result<(), AllocError>
+fn push_ink(text: &mut Vec<u8>, texts: &Texts, paper: &Paper) -> Result<(), AllocError>
     ensures { OnOk result (text.new.items ≡ text.old.items ++ ink_svg paper.now) }
 {
     let rows = paper.rows.as_slice();
     text.extend_from_slice(ink_begin())?;
-    push_rows(text, alloc, rows)?;
-    push_held(text, alloc, rows_end(rows) + 21, paper.held.as_slice())?;
+    push_rows(text, texts, rows)?;
+    push_held(text, texts, rows_end(rows) + 21, paper.held.as_slice())?;
     text.extend_from_slice(b"</g>\n")
 }
 
@@ -141,7 +142,7 @@ fn push_paper(text: &mut Vec<u8>, picas: u128) -> Result<(), AllocError>
 #[tactic(auto, unfolding(crate::specs::Svg::sheet_svg))]
 fn push_sheet(
     text: &mut Vec<u8>,
-    alloc: Global,
+    texts: &Texts,
     device: u64,
     x: u64,
     picas: u128,
@@ -152,7 +153,7 @@ fn push_sheet(
 {
     push_name_line(text, device, x)?;
     push_paper(text, picas)?;
-    push_ink(text, alloc, paper)?;
+    push_ink(text, texts, paper)?;
     push_held_line(text, rows_end(paper.rows.as_slice()), paper.held.as_slice())?;
     text.extend_from_slice(sheet_end())
 }
@@ -160,7 +161,7 @@ fn push_sheet(
 /// Adds a printer's sheet if it is drawn.
 pub fn push_sheet_if(
     text: &mut Vec<u8>,
-    alloc: Global,
+    texts: &Texts,
     drawn: bool,
     device: u64,
     x: u64,
@@ -171,7 +172,7 @@ pub fn push_sheet_if(
     ensures { OnOk result (text.new.items ≡ text.old.items ++ text_if drawn (sheet_svg device x picas paper.now)) }
 {
     if drawn {
-        push_sheet(text, alloc, device, x, picas, paper)?;
+        push_sheet(text, texts, device, x, picas, paper)?;
     }
     Ok(())
 }

@@ -12,6 +12,7 @@ use crate::parts::{
     single_begin, single_end, single_marks, single_paper, single_size,
 };
 use crate::sheets::push_row;
+use crate::texts::Texts;
 use pr_dots::{Shapes, is_on};
 use pr_page::{NoMemory, Paper, Row};
 use std::alloc::{AllocError, Global};
@@ -70,12 +71,12 @@ fn push_definitions(
 }
 
 /// Adds the rows on a sheet.
-fn push_rows(text: &mut Vec<u8>, alloc: Global, sheet: u64, rows: &[Row]) -> Result<(), AllocError>
+fn push_rows(text: &mut Vec<u8>, texts: &Texts, sheet: u64, rows: &[Row]) -> Result<(), AllocError>
     ensures { OnOk result (text.new.items ≡ text.old.items ++ flat_map row_svg (rows_on sheet rows.now)) }
 {
     for row in rows {
         if is_on(sheet, row) {
-            push_row(text, alloc, row)?;
+            push_row(text, texts, row)?;
         }
     }
     Ok(())
@@ -93,11 +94,12 @@ fn push_single(
 ) -> Result<(), AllocError>
     ensures { OnOk result (text.new.items ≡ text.old.items ++ single_svg shapes.now top (rows_on sheet rows.now)) }
 {
+    let texts = Texts::new(alloc)?;
     push_head(text, top)?;
     push_definitions(text, alloc, shapes, sheet, rows)?;
     push_sheet(text, top)?;
     text.extend_from_slice(ink_begin())?;
-    push_rows(text, alloc, sheet, rows)?;
+    push_rows(text, &texts, sheet, rows)?;
     text.extend_from_slice(sheet_end())?;
     text.extend_from_slice(single_end())
 }

@@ -1,15 +1,22 @@
 //! Marks by their names: where each is defined, and where it is used.
 
-ghost use Rattle.std.specs.Prelude.{◌≡◌, ◌*◌, ◌+◌, ◌<◌, ◌≤◌, ◌++◌, flat_map, length, map, take, OnOk};
+ghost use Rattle.std.specs.Prelude.{◌≡◌, ◌*◌, ◌+◌, ◌<◌, ◌≤◌, ◌++◌, drop, flat_map, length, map, take, OnOk};
 ghost use Rattle.pr_dots.specs.Dots.{bit_dots, column_dots, columns_dots};
 ghost use Rattle.pr_render.specs.Svg.{definition_svg, disc_of, disc_svg, name_svg, number_of, use_svg};
 
 use crate::adding::{either, push_small};
 use crate::block::{put, put_if, put_small};
 use crate::parts::{mark_begin, mark_path, use_begin, use_end, use_place};
+use crate::texts::Texts;
 use pr_dots::{Shapes, columns};
 use pr_page::{Mark, Placed};
 use std::alloc::AllocError;
+
+/// The most marks of a block.
+const BLOCK_MARKS: usize = 32;
+
+/// Room for the elements of these marks, each of at most two short texts.
+const BLOCK: usize = 1024;
 
 /// Puts a mark's name into a block, at most 23 bytes.
 #[inline(always)]
@@ -141,26 +148,61 @@ fn across(x: u16) -> u64
     21 * u64::from(x)
 }
 
-/// Adds a mark at a dot column: at most 80 bytes, which are added by one copy.
+/// Adds a mark at its dot column, of any kind: at most 80 bytes, which are added by one copy.
+#[inline(never)]
 #[tactic(auto, unfolding(crate::specs::Svg::use_svg))]
-fn push_use(text: &mut Vec<u8>, x: u16, mark: Mark) -> Result<(), AllocError>
-    ensures { OnOk result (text.new.items ≡ text.old.items ++ use_svg (record { x = x; mark = mark })) }
+fn push_use(text: &mut Vec<u8>, placed: Placed) -> Result<(), AllocError>
+    ensures { OnOk result (text.new.items ≡ text.old.items ++ use_svg placed) }
 {
     let mut block = [0u8; 80];
     let at = put(&mut block, 0, use_begin());
-    let at = put_name(&mut block, at, mark);
+    let at = put_name(&mut block, at, placed.mark);
     let at = put(&mut block, at, use_place());
-    let at = put_small(&mut block, at, across(x));
+    let at = put_small(&mut block, at, across(placed.x));
     let end = put(&mut block, at, use_end());
     text.extend_from_slice(&block[..end])
 }
 
-/// Adds the marks of a line.
-pub fn push_uses(text: &mut Vec<u8>, marks: &[Placed]) -> Result<(), AllocError>
+/// Puts the elements of the first marks into a block, and says of how many marks and how many bytes
+/// these are.
+fn fill(texts: &Texts, block: &mut [u8], marks: &[Placed]) -> (usize, usize)
+    // the caller's part
+    requires { length block.old ≡ 1024 }
+    // what it gives
+    ensures text { take result.1 block.new ++ flat_map use_svg (drop result.0 marks.now) ≡ flat_map use_svg marks.now }
+    ensures marks { result.0 ≤ length marks.now }
+    ensures few { result.0 ≤ 32 }
+    ensures within { result.1 ≤ 1024 }
+    ensures length { length block.new ≡ 1024 }
+{
+    let mut end = 0;
+    for (count, placed) in marks.iter().enumerate() {
+        if count == BLOCK_MARKS {
+            return (count, end);
+        }
+        match texts.put_use(block, end, *placed) {
+            Some(next) => end = next,
+            None => return (count, end),
+        }
+    }
+    (marks.len(), end)
+}
+
+/// Adds the marks of a line, block by block.
+pub fn push_uses(text: &mut Vec<u8>, texts: &Texts, marks: &[Placed]) -> Result<(), AllocError>
     ensures { OnOk result (text.new.items ≡ text.old.items ++ flat_map use_svg marks.now) }
 {
-    for placed in marks {
-        push_use(text, placed.x, placed.mark)?;
+    let mut block = [0u8; BLOCK];
+    let mut rest = marks;
+    while !rest.is_empty() {
+        let (count, end) = fill(texts, &mut block, rest);
+        if count == 0 {
+            push_use(text, rest[0])?;
+            rest = &rest[1..];
+        } else {
+            text.extend_from_slice(&block[..end])?;
+            rest = &rest[count..];
+        }
     }
     Ok(())
 }

@@ -10,7 +10,7 @@ use Rattle.pr_decode.specs.Readings.{greatest, least}
 use Rattle.pr_report.specs.declared.detail.Bounds.{Bounds}
 use Rattle.pr_report.specs.declared.interval.Interval.{Interval}
 use Rattle.pr_report.specs.declared.tally.Tally.{Tally}
-use Rattle.pr_report.specs.Intervals.{is_outside, length_of, name_of}
+use Rattle.pr_report.specs.Intervals.{is_beyond, is_outside, length_of, lowest_of, name_of}
 use Rattle.pr_report.specs.Steps.{Adds, counted, counter_with, first_half, known_text, least_with}
 use Rattle.pr_report.specs.Summary.{figures_text, interval_line, least_of, lengths, lengths_text, middle, exact_below, exact_middle}
 use Rattle.pr_report.specs.Taking.{HasTallied, Tallies, equal_to, greatest_of}
@@ -55,11 +55,13 @@ more-tallied b i ns n old new few h a =
     record {
       interval = a.interval ∙ h.interval;
       bounds = a.bounds ∙ h.bounds;
+      lowest = a.lowest ∙ h.lowest;
+      highest = a.highest ∙ h.highest;
       count = omega arith;
       least = a.least ∙ (ap (λ c. least_with c old.least n) h.count ∙ (ap (λ m. least_with (length ns) m n) h.least ∙ sym (least_of-push ns n)));
       greatest = a.greatest ∙ (ap (λ m. max m n) h.greatest ∙ sym (greatest_of-push ns n));
       outside = counted-more (is_outside b i) ns n old.outside new.outside few h.outside
-          (a.outside ∙ (ap (λ j. counted (is_outside old.bounds j n) old.outside) h.interval ∙ ap (λ x. counted (is_outside x i n) old.outside) h.bounds));
+          (a.outside ∙ (ap (λ l. counted (is_beyond n l old.highest) old.outside) h.lowest ∙ ap (λ g. counted (is_beyond n (lowest_of b i) g) old.outside) h.highest));
       room = a.room ∙ h.room;
       counters = λ k less.
           let within : k < length old.counters.items = subst (λ m. k < m) (sym h.room) less in

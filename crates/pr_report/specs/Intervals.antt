@@ -67,8 +67,11 @@ abbrev pub is_above : ℕ → (greatest : Option ℕ) → Bool
 is_above n None = false
 is_above n (Some greatest) = nat_lt greatest n
 
+abbrev pub is_beyond : ℕ → (lowest : ℕ) → (highest : Option ℕ) → Bool
+is_beyond n lowest highest = nat_lt n lowest || is_above n highest
+
 abbrev pub is_outside : Bounds → Interval → ℕ → Bool
-is_outside b i n = nat_lt n (lowest_of b i) || is_above n (highest_of b i)
+is_outside b i n = is_beyond n (lowest_of b i) (highest_of b i)
 
 -- a word, and then these bounds
 abbrev pub upper_text : (greatest : Option ℕ) → List ℕ

@@ -2,6 +2,9 @@
 -- rests at 0: what is odd, and what to try.
 use Rattle.std.specs.Prelude.{ℕ, not, ◌||◌, Bool, true, false, List, [], ◌∷◌, ◌++◌, Option, Some, None, codes, if◌then◌else◌}
 use Rattle.std.specs.List.{list_any}
+use Rattle.pr_capture.specs.declared.format.Source.{Source}
+use Rattle.pr_capture.specs.declared.format.Source.TheVariants.{Csv, Text, Vcd}
+use Rattle.pr_capture.specs.declared.format.TraceInput.{TraceInput}
 use Rattle.pr_wire.specs.declared.Edge.{Edge}
 use Rattle.pr_wire.specs.declared.Levels.{Levels}
 use Rattle.pr_decode.specs.declared.reading.FrameEnd.TheVariants.{Acknowledged, Cut, Unacknowledged}
@@ -59,16 +62,31 @@ told_if b line = if b then line else []
 abbrev pub is_odd : Oddities → Bool
 is_odd o = o.no_byte || o.no_attention || o.atn_rests || o.clock_rests || o.data_rests
 
--- what to try, if anything is odd
-abbrev pub advice : Oddities → List ℕ
-advice o = told_if (is_odd o) (codes "try --invert for probes behind inverters, or other signals with --names\n")
+-- what to try of signals: the levels the other way round, or other signals; acknowledged bytes are there to be looked at,
+-- since a good recording may begin and end within a transfer
+abbrev pub other_signals : (no_byte is_inverted : Bool) → List ℕ
+other_signals no_byte is_inverted =
+    told_if (not no_byte) (codes "if the bytes make no sense, ")
+    ++ told_if is_inverted (codes "try without --invert, or other signals with --names\n")
+    ++ told_if (not is_inverted) (codes "try --invert for probes behind inverters, or other signals with --names\n")
 
--- the lines
-abbrev pub oddities_text : Oddities → List ℕ
-oddities_text o =
+-- a trace text has neither probes nor other signals
+abbrev pub to_try : Source → (no_byte is_inverted : Bool) → List ℕ
+to_try Text no_byte is_inverted =
+    codes "in a trace text the levels are those of ATN, CLOCK and DATA, and 1 is released\n"
+to_try Vcd no_byte is_inverted = other_signals no_byte is_inverted
+to_try Csv no_byte is_inverted = other_signals no_byte is_inverted
+
+-- the same, if anything is odd
+abbrev pub advice : TraceInput → Oddities → List ℕ
+advice input o = told_if (is_odd o) (to_try input.source o.no_byte input.signals.is_inverted)
+
+-- the lines, of a recording that is read so
+abbrev pub oddities_text : TraceInput → Oddities → List ℕ
+oddities_text input o =
     told_if o.no_byte (codes "no byte is acknowledged\n")
     ++ told_if o.no_attention (codes "attention never comes: ATN is not pulled\n")
     ++ told_if o.atn_rests (codes "ATN rests at 0\n")
     ++ told_if o.clock_rests (codes "CLOCK rests at 0\n")
     ++ told_if o.data_rests (codes "DATA rests at 0\n")
-    ++ advice o
+    ++ advice input o

@@ -1,9 +1,13 @@
 -- Machine steps: what a tally keeps of lengths, and what one length more comes to. No reader needs to believe them.
 use Rattle.std.specs.Prelude.{◌≡◌, ℕ, ◌+◌, ◌-◌, ◌^◌, ◌<◌, ◌==◌, cond, min, max, nat_le, Bool, List, [], ◌∷◌, length, get_or, Option, Some, None, codes, if◌then◌else◌}
 use Rattle.pr_wire.specs.declared.Levels.{Levels}
+use Rattle.pr_decode.specs.declared.reading.Reading.{Reading}
+use Rattle.pr_report.specs.declared.detail.Bounds.{Bounds}
+use Rattle.pr_report.specs.declared.detail.Bounds.TheVariants.{Guide, Profile}
 use Rattle.pr_report.specs.declared.outside.Outside.{Outside}
 use Rattle.pr_report.specs.declared.tally.Tally.{Tally}
-use Rattle.pr_report.specs.Intervals.{is_outside}
+use Rattle.pr_report.specs.Intervals.{intervals, is_beyond}
+use Rattle.pr_report.specs.Outside.{first_of, outside_in}
 use Rattle.pr_report.specs.Summary.{figures_text}
 
 -- a count, with one more where a test holds
@@ -29,10 +33,12 @@ first_half count so_far n (c ∷ cs) =
 pub record Adds (n : ℕ) (old new : Tally) : Type 0 where
   pub interval : new.interval ≡ old.interval
   pub bounds : new.bounds ≡ old.bounds
+  pub lowest : new.lowest ≡ old.lowest
+  pub highest : new.highest ≡ old.highest
   pub count : new.count ≡ min (old.count + 1) (2 ^ 64 - 1)
   pub least : new.least ≡ least_with old.count old.least n
   pub greatest : new.greatest ≡ max old.greatest n
-  pub outside : new.outside ≡ counted (is_outside old.bounds old.interval n) old.outside
+  pub outside : new.outside ≡ counted (is_beyond n old.lowest old.highest) old.outside
   pub room : length new.counters.items ≡ length old.counters.items
   pub counters : (k : ℕ) → k < length old.counters.items
       → get_or new.counters.items k 0 ≡ counter_with n k (get_or old.counters.items k 0)
@@ -41,6 +47,11 @@ pub record Adds (n : ℕ) (old new : Tally) : Type 0 where
 abbrev pub earlier : (before now : Option Outside) → Option Outside
 earlier None now = now
 earlier (Some o) now = Some o
+
+-- the same where the first interval outside is kept: the verdict by the profile needs none
+abbrev pub kept_with : Bounds → (before : Option Outside) → Reading → Option Outside
+kept_with Profile before r = before
+kept_with Guide before r = earlier before (first_of (outside_in Guide intervals r))
 
 -- what a tally tells
 abbrev pub known_text : Tally → List ℕ

@@ -5,6 +5,7 @@ use Rattle.std.specs.List.{count_by, list_any}
 use Rattle.pr_decode.specs.declared.reading.Reading.{Reading}
 use Rattle.pr_decode.specs.Readings.{greatest}
 use Rattle.pr_report.specs.declared.detail.Bounds.{Bounds}
+use Rattle.pr_report.specs.declared.detail.Bounds.TheVariants.{Guide}
 use Rattle.pr_report.specs.declared.interval.Interval.{Interval}
 use Rattle.pr_report.specs.declared.interval.Interval.TheVariants.{Ready, FirstPull, Answer, AnswerLength, PullAfterAnswer, ShortestLow, LongestLow, ShortestHigh, LongestHigh, Acknowledgement}
 use Rattle.pr_wire.specs.declared.Edge.{Edge}
@@ -12,7 +13,7 @@ use Rattle.pr_report.specs.declared.counts.Counts.{Counts}
 use Rattle.pr_report.specs.declared.oddities.LinesSeen.{LinesSeen}
 use Rattle.pr_report.specs.declared.survey.Survey.{Survey}
 use Rattle.pr_report.specs.declared.tally.Tally.{Tally}
-use Rattle.pr_report.specs.Intervals.{is_outside}
+use Rattle.pr_report.specs.Intervals.{highest_of, is_outside, lowest_of}
 use Rattle.pr_report.specs.Outside.{all_outside, first_of}
 use Rattle.pr_report.specs.Oddities.{first_levels, is_attention, last_levels}
 use Rattle.pr_report.specs.Summary.{is_command, is_cut, is_data_byte, is_frame, is_incomplete, is_unacknowledged, least_of, lengths, exact_below}
@@ -30,6 +31,8 @@ equal_to n ns = count_by (λ m. m == n) ns
 pub record HasTallied (b : Bounds) (i : Interval) (ns : List ℕ) (t : Tally) : Type 0 where
   pub interval : t.interval ≡ i
   pub bounds : t.bounds ≡ b
+  pub lowest : t.lowest ≡ lowest_of b i
+  pub highest : t.highest ≡ highest_of b i
   pub count : t.count ≡ length ns
   pub least : t.least ≡ least_of ns
   pub greatest : t.greatest ≡ greatest_of ns
@@ -53,12 +56,12 @@ pub record HasCounted (rs : List Reading) (c : Counts) : Type 0 where
 abbrev pub number_taken : Survey → ℕ
 number_taken s = s.taken
 
--- these readings were taken, and held against these bounds
+-- these readings were taken, and held against these bounds; the verdict by the profile needs no interval outside
 pub record HasSurveyed (b : Bounds) (rs : List Reading) (s : Survey) : Type 0 where
   pub taken : s.taken ≡ length rs
   pub few : length rs < 2 ^ 64
   pub bounds : s.bounds ≡ b
-  pub outside : s.outside ≡ first_of (all_outside b rs)
+  pub outside : b ≡ Guide → s.outside ≡ first_of (all_outside Guide rs)
   pub counts : HasCounted rs s.counts
   pub ready : Tallies b Ready rs s.ready
   pub first_pull : Tallies b FirstPull rs s.first_pull

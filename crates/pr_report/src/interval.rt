@@ -3,7 +3,7 @@
 
 ghost use Rattle.std.specs.Prelude.{◌≡◌, ◌-◌, ◌++◌, OnOk};
 ghost use Rattle.std.specs.Option.{option_map};
-ghost use Rattle.pr_report.specs.Intervals.{acknowledgement_in, bounds_after, highest_of, if_bits, is_above, is_outside, length_of, longest_answer, lowest_of, measure, name_of, owner_words, profile_greatest, row_of, transfer_of, unless_answered, upper_text};
+ghost use Rattle.pr_report.specs.Intervals.{acknowledgement_in, bounds_after, highest_of, if_bits, is_above, is_beyond, is_outside, length_of, longest_answer, lowest_of, measure, name_of, owner_words, profile_greatest, row_of, transfer_of, unless_answered, upper_text};
 
 use crate::detail::Bounds;
 use crate::numbers::push_numbered;
@@ -164,6 +164,13 @@ fn is_above(length: u64, greatest: Option<u64>) -> bool
     }
 }
 
+/// Whether a length is below a least one, or above a greatest one.
+pub(crate) fn is_beyond(length: u64, lowest: u64, highest: Option<u64>) -> bool
+    ensures { result ≡ is_beyond length lowest highest }
+{
+    length < lowest || is_above(length, highest)
+}
+
 /// Adds the greatest length, or that there is none.
 fn push_upper(text: &mut Vec<u8>, greatest: Option<u64>) -> Result<(), NoMemory>
     ensures { OnOk result (text.new.items ≡ text.old.items ++ upper_text greatest) }
@@ -282,7 +289,7 @@ impl Interval {
     pub fn is_outside(self, bounds: Bounds, length: u64) -> bool
         ensures { result ≡ is_outside bounds self length }
     {
-        length < self.lowest(bounds) || is_above(length, self.highest(bounds))
+        is_beyond(length, self.lowest(bounds), self.highest(bounds))
     }
 
     /// How long it is in a reading, in microseconds, where the reading has it. Halves are there once a

@@ -4,10 +4,11 @@ ghost use Rattle.std.specs.Prelude.{◌≡◌, ◌++◌, ◌∷◌, ◌||◌, []
 ghost use Rattle.std.specs.List.{list_any};
 ghost use Rattle.pr_wire.specs.declared.Edge.{Edge};
 ghost use Rattle.pr_decode.specs.declared.reading.Reading.{Reading};
-ghost use Rattle.pr_report.specs.Oddities.{advice, is_acknowledged, is_attention, is_odd, odd_levels, oddities_of, oddities_text, told_if};
+ghost use Rattle.pr_report.specs.Oddities.{advice, is_acknowledged, is_attention, is_odd, odd_levels, oddities_of, oddities_text, other_signals, to_try, told_if};
 ghost use Rattle.pr_report.specs.Steps.{first_or};
 ghost use Rattle.pr_report.specs.Taking.{HasSeen};
 
+use pr_capture::{Source, TraceInput};
 use pr_decode::{FrameEnd, Reading};
 use pr_wire::{Edge, Levels, NoMemory};
 
@@ -171,24 +172,64 @@ fn is_odd(odd: Oddities) -> bool
     odd.no_byte || odd.no_attention || odd.atn_rests || odd.clock_rests || odd.data_rests
 }
 
-/// Adds what to try, if anything is odd.
-fn push_advice(text: &mut Vec<u8>, odd: Oddities) -> Result<(), NoMemory>
-    ensures { OnOk result (text.new.items ≡ text.old.items ++ advice odd) }
+/// Adds what to try of a recording of signals, in which no byte is acknowledged or one is, and whose levels are
+/// inverted or not.
+fn push_other_signals(text: &mut Vec<u8>, no_byte: bool, is_inverted: bool) -> Result<(), NoMemory>
+    ensures { OnOk result (text.new.items ≡ text.old.items ++ other_signals no_byte is_inverted) }
 {
+    push_if(text, !no_byte, b"if the bytes make no sense, ")?;
     push_if(
         text,
-        is_odd(odd),
+        is_inverted,
+        b"try without --invert, or other signals with --names\n",
+    )?;
+    push_if(
+        text,
+        !is_inverted,
         b"try --invert for probes behind inverters, or other signals with --names\n",
-    )
+    )?;
+    Ok(())
 }
 
-/// Adds a line for each thing that is odd about a recording, and one with what to try, if there is any.
+/// Adds what to try of a recording in this format, in which no byte is acknowledged or one is.
+fn push_to_try(
+    text: &mut Vec<u8>,
+    source: Source,
+    no_byte: bool,
+    is_inverted: bool,
+) -> Result<(), NoMemory>
+    ensures { OnOk result (text.new.items ≡ text.old.items ++ to_try source no_byte is_inverted) }
+{
+    match source {
+        Source::Text => text.extend_from_slice(
+            b"in a trace text the levels are those of ATN, CLOCK and DATA, and 1 is released\n",
+        ),
+        Source::Vcd | Source::Csv => push_other_signals(text, no_byte, is_inverted),
+    }
+}
+
+/// Adds what to try of a recording that is read so, if anything is odd.
+fn push_advice(text: &mut Vec<u8>, input: TraceInput<'_>, odd: Oddities) -> Result<(), NoMemory>
+    ensures { OnOk result (text.new.items ≡ text.old.items ++ advice input.entry odd) }
+{
+    if is_odd(odd) {
+        push_to_try(text, input.source, odd.no_byte, input.signals.is_inverted)?;
+    }
+    Ok(())
+}
+
+/// Adds a line for each thing that is odd about a recording, and one with what to try, if there is any: `--invert`, or
+/// to leave it out where it is read with it, and no option where it is a trace text.
 ///
 /// # Errors
 ///
 /// [`NoMemory`] where a growth of the text was refused. Nothing is promised of the text then.
-pub fn push_oddities(text: &mut Vec<u8>, odd: Oddities) -> Result<(), NoMemory>
-    ensures { OnOk result (text.new.items ≡ text.old.items ++ oddities_text odd) }
+pub fn push_oddities(
+    text: &mut Vec<u8>,
+    input: TraceInput<'_>,
+    odd: Oddities,
+) -> Result<(), NoMemory>
+    ensures { OnOk result (text.new.items ≡ text.old.items ++ oddities_text input.entry odd) }
 {
     push_if(text, odd.no_byte, b"no byte is acknowledged\n")?;
     push_if(
@@ -199,6 +240,6 @@ pub fn push_oddities(text: &mut Vec<u8>, odd: Oddities) -> Result<(), NoMemory>
     push_if(text, odd.atn_rests, b"ATN rests at 0\n")?;
     push_if(text, odd.clock_rests, b"CLOCK rests at 0\n")?;
     push_if(text, odd.data_rests, b"DATA rests at 0\n")?;
-    push_advice(text, odd)?;
+    push_advice(text, input, odd)?;
     Ok(())
 }

@@ -3,7 +3,7 @@
 ghost use Rattle.std.specs.Prelude.{◌≡◌, ◌++◌, OnOk, if◌then◌else◌, Some, None};
 ghost use Rattle.pr_report.specs.Intervals.{intervals, length_of};
 ghost use Rattle.pr_report.specs.Outside.{byte_at, first_of, guide_verdict, outside_at, outside_in, reading_place};
-ghost use Rattle.pr_report.specs.Steps.{earlier};
+ghost use Rattle.pr_report.specs.Steps.{earlier, kept_with};
 
 use crate::detail::Bounds;
 use crate::interval::{INTERVALS, Interval};
@@ -50,17 +50,28 @@ fn first_outside(bounds: Bounds, intervals: &[Interval], reading: &Reading) -> O
     None
 }
 
-/// The first interval that lies outside these bounds, with one reading more.
+/// The first interval that lies outside the guide's bounds, with one reading more.
+fn with_found(before: Option<Outside>, reading: &Reading) -> Option<Outside>
+    ensures { result ≡ earlier before (first_of (outside_in Bounds.Guide intervals reading.now)) }
+{
+    match before {
+        Some(outside) => Some(outside),
+        None => first_outside(Bounds::Guide, &INTERVALS, reading),
+    }
+}
+
+/// The first interval that lies outside the guide's bounds, with one reading more. The verdict by the profile needs
+/// none, and none is sought for it.
 pub(crate) fn with_reading(
     before: Option<Outside>,
     bounds: Bounds,
     reading: &Reading,
 ) -> Option<Outside>
-    ensures { result ≡ earlier before (first_of (outside_in bounds intervals reading.now)) }
+    ensures { result ≡ kept_with bounds before reading.now }
 {
-    match before {
-        Some(outside) => Some(outside),
-        None => first_outside(bounds, &INTERVALS, reading),
+    match bounds {
+        Bounds::Profile => before,
+        Bounds::Guide => with_found(before, reading),
     }
 }
 

@@ -30,7 +30,7 @@ pub struct Survey {
     taken: u64,
     /// The bounds that intervals are held against.
     bounds: Bounds,
-    /// The first interval outside them.
+    /// The first interval outside them, where they are the guide's.
     outside: Option<Outside>,
     counts: Counts,
     ready: Tally,

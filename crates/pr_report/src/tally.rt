@@ -11,7 +11,7 @@ ghost use Rattle.pr_report.specs.Taking.{Tallies};
 
 use crate::counts::counted;
 use crate::detail::Bounds;
-use crate::interval::Interval;
+use crate::interval::{Interval, is_beyond};
 use crate::numbers::push_numbered;
 use pr_decode::Reading;
 use pr_wire::NoMemory;
@@ -26,6 +26,9 @@ pub(crate) struct Tally {
     interval: Interval,
     /// The bounds that it is held against.
     bounds: Bounds,
+    /// The least and the greatest length within them, looked up once.
+    lowest: u64,
+    highest: Option<u64>,
     /// How many there are.
     count: u64,
     /// The least and the greatest; 0 where there is none.
@@ -121,6 +124,8 @@ impl Tally {
         Ok(Tally {
             interval,
             bounds,
+            lowest: interval.lowest(bounds),
+            highest: interval.highest(bounds),
             count: 0,
             least: 0,
             greatest: 0,
@@ -135,7 +140,8 @@ impl Tally {
     {
         self.least = least_with(self.count, self.least, length);
         self.greatest = self.greatest.max(length);
-        self.outside = counted(self.outside, self.interval.is_outside(self.bounds, length));
+        let is_outside = is_beyond(length, self.lowest, self.highest);
+        self.outside = counted(self.outside, is_outside);
         self.count = self.count.saturating_add(1);
         count_up(&mut self.counters, length);
     }

@@ -29,7 +29,7 @@ const NOTHING: &str = "\
     ready: none\nfirst pull: none\nanswer: none\nanswer length: none\npull after answer: none\n\
     shortest low half: none\nlongest low half: none\nshortest high half: none\nlongest high half: none\n\
     acknowledgement: none\nlawful\nno byte is acknowledged\nattention never comes: ATN is not pulled\n\
-    try --invert for probes behind inverters, or other signals with --names\n";
+    in a trace text the levels are those of ATN, CLOCK and DATA, and 1 is released\n";
 
 #[test]
 fn too_large(rt: HostRuntime) {

@@ -34,7 +34,8 @@ use Rattle.pr_report.specs.declared.report.Report.{Report}
 use Rattle.pr_recording.specs.declared.wording.Wording.{Wording}
 use Rattle.pr_report.specs.declared.detail.Detail.{Detail}
 use Rattle.pr_report.specs.Contexts.{at_start}
-use Rattle.pr_web.specs.Giving.{Gives, GivesBus, GivesEdges, GivesFault, GivesIntervals, GivesJson, GivesLines, GivesPages, GivesRaw, GivesReadings, GivesReport, GivesRows, GivesRun, HandsBytes, HandsRunBytes, Made, beside, heard_in_recording, heard_in_run, made_of, without_value}
+use Rattle.pr_web.specs.EdgeDelays.{edge_delays}
+use Rattle.pr_web.specs.Giving.{Gives, GivesBus, GivesDelays, GivesEdges, GivesFault, GivesIntervals, GivesJson, GivesLines, GivesPages, GivesRaw, GivesReadings, GivesReport, GivesRows, GivesRun, HandsBytes, HandsRunBytes, Made, beside, heard_in_recording, heard_in_run, made_of, without_value}
 use Rattle.pr_web.specs.Lengths.{interval_numbers}
 use Rattle.pr_web.specs.Numbers.{AreLineNumbers, IsFaultRow, edge_numbers, reading_rows}
 use Rattle.pr_web.specs.Rows.{EndsReadings}
@@ -76,6 +77,13 @@ gives-raw shapes is_lower format bytes text old new made told a g = (made, text,
 pub gives-edges : (input : TraceInput) (bytes : List ℕ) (edges : List Edge) (own : Option CliFault) (numbers old new : List ℕ) (told : Told)
     → Says input bytes edges own → numbers ≡ edge_numbers edges → Gives (made_of own) numbers old new told → GivesEdges input bytes old new told
 gives-edges input bytes edges own numbers old new told says are g =
+    let Q : List ℕ → Type 0 = λ l. Gives (made_of own) l old new told in
+    inl (edges, own, says, subst Q are g)
+
+-- so are the delays that edges end
+pub gives-delays : (input : TraceInput) (bytes : List ℕ) (edges : List Edge) (own : Option CliFault) (numbers old new : List ℕ) (told : Told)
+    → Says input bytes edges own → numbers ≡ edge_delays edges → Gives (made_of own) numbers old new told → GivesDelays input bytes old new told
+gives-delays input bytes edges own numbers old new told says are g =
     let Q : List ℕ → Type 0 = λ l. Gives (made_of own) l old new told in
     inl (edges, own, says, subst Q are g)
 

@@ -20,7 +20,7 @@ use Rattle.pr_recording.specs.declared.wording.Wording.{Wording}
 use Rattle.pr_report.specs.declared.detail.Detail.{Detail}
 use Rattle.pr_report.specs.declared.report.Report.{Report}
 use Rattle.pr_web.specs.Answers.{answer_of, number_read, place_of_trace, plain, refusal}
-use Rattle.pr_web.specs.Giving.{Gives, GivesEdges, GivesExtremes, GivesFault, GivesIntervals, GivesJson, GivesLines, GivesPages, GivesRaw, GivesReadings, GivesReport, GivesRows, GivesRun, HandsBytes, HandsRemarks, HandsRunBytes, HasNoMemory, Hands}
+use Rattle.pr_web.specs.Giving.{Gives, GivesDelays, GivesEdges, GivesExtremes, GivesFault, GivesIntervals, GivesJson, GivesLines, GivesPages, GivesRaw, GivesReadings, GivesReport, GivesRows, GivesRun, HandsBytes, HandsRemarks, HandsRunBytes, HasNoMemory, Hands}
 use Rattle.pr_web.specs.Numbers.{bounds_numbers}
 use Rattle.pr_web.specs.Settings.{IsInput, is_yes}
 use Rattle.pr_web.specs.declared.answer.Answer.{Answer}
@@ -91,6 +91,14 @@ TellsEdges None atn clock line inverted start rate bytes old new answer = Refuse
 TellsEdges (Some source) atn clock line inverted start rate bytes old new answer =
     (input : TraceInput) × IsInput source atn clock line (is_yes inverted) start rate input
     × (told : Told) × GivesEdges input bytes old new told × (answer ≡ answer_of told)
+
+-- the delay that each edge of a recording ends
+abbrev pub TellsDelays : Option Source → (atn clock line : List ℕ) → (inverted start rate : ℕ) → List ℕ
+    → (old new : List ℕ) → Answer → Type 0
+TellsDelays None atn clock line inverted start rate bytes old new answer = Refuses 29 old new answer
+TellsDelays (Some source) atn clock line inverted start rate bytes old new answer =
+    (input : TraceInput) × IsInput source atn clock line (is_yes inverted) start rate input
+    × (told : Told) × GivesDelays input bytes old new told × (answer ≡ answer_of told)
 
 -- a row for each reading of a recording
 abbrev pub TellsRows :

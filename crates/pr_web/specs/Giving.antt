@@ -36,6 +36,7 @@ use Rattle.pr_explain.specs.OddLines.{AreRemarks}
 use Rattle.pr_explain.specs.declared.oddities.Remarks.{Remarks}
 use Rattle.pr_serial.specs.declared.Present.{Present}
 use Rattle.pr_web.specs.Answers.{answer_of, plain}
+use Rattle.pr_web.specs.EdgeDelays.{edge_delays}
 use Rattle.pr_web.specs.Extremes.{extreme_numbers}
 use Rattle.pr_report.specs.Intervals.{intervals}
 use Rattle.pr_web.specs.Lengths.{interval_numbers}
@@ -135,6 +136,13 @@ abbrev pub GivesEdges : TraceInput → List ℕ → (old new : List ℕ) → Tol
 GivesEdges input bytes old new told =
     ((edges : List Edge) × (own : Option CliFault) × Says input bytes edges own
     × Gives (made_of own) (edge_numbers edges) old new told)
+    ⊎ HasNoMemory old new told
+
+-- the buffer gets the delay that each edge of a recording ends, up to its fault if it has one
+abbrev pub GivesDelays : TraceInput → List ℕ → (old new : List ℕ) → Told → Type 0
+GivesDelays input bytes old new told =
+    ((edges : List Edge) × (own : Option CliFault) × Says input bytes edges own
+    × Gives (made_of own) (edge_delays edges) old new told)
     ⊎ HasNoMemory old new told
 
 -- the buffer gets a row for each reading of a recording, up to where it stops

@@ -2,6 +2,7 @@ pub mod Settings
 pub mod Answers
 pub mod Lengths
 pub mod Numbers
+pub mod EdgeDelays
 pub mod Giving
 pub mod Asked
 pub mod Rows

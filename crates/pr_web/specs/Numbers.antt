@@ -53,18 +53,20 @@ end_of (IncompleteByte t cut.Cut) = (4, 0)
 
 -- a reading: what ended it and when, its bits, its byte, whether it is a command; ready to send, ready for data;
 -- whether it has end-or-identify, and when DATA was pulled and released for it; CLOCK's first pull and its last;
--- the shortest and the longest halves of its bits, CLOCK pulled and CLOCK released; and how many bytes its lines have
-abbrev pub row_with : Transfer → (end : ℕ × ℕ) → (lines : ℕ) → List ℕ
-row_with t end lines =
+-- the shortest and the longest halves of its bits, CLOCK pulled and CLOCK released; whether a printer listens before it;
+-- and how many bytes its lines have
+abbrev pub row_with : Transfer → (end : ℕ × ℕ) → (listens : Bool) → (lines : ℕ) → List ℕ
+row_with t end listens lines =
     end.0 ∷ end.1 ∷ t.bits ∷ t.byte ∷ flag t.opening.command
     ∷ t.opening.ready_to_send ∷ t.opening.ready_for_data
     ∷ flag (is_some t.opening.pulse)
     ∷ option_map_or (λ p. p.pulled) t.opening.pulse 0 ∷ option_map_or (λ p. p.released) t.opening.pulse 0
     ∷ t.pull ∷ t.last_pull
-    ∷ t.low.shortest ∷ t.low.longest ∷ t.high.shortest ∷ t.high.longest ∷ lines ∷ []
+    ∷ t.low.shortest ∷ t.low.longest ∷ t.high.shortest ∷ t.high.longest ∷ flag listens ∷ lines ∷ []
 
 abbrev pub row_of : Detail → Context → Reading → List ℕ
-row_of detail before r = row_with (transfer_of r) (end_of r) (length (reading_lines detail before r))
+row_of detail before r =
+    row_with (transfer_of r) (end_of r) before.printer_listens (length (reading_lines detail before r))
 
 -- a row for each reading
 abbrev pub reading_rows : Detail → Context → List Reading → List ℕ

@@ -10,7 +10,7 @@
 //!   as the writer, and the text copied to the front of the buffer (`answer`). A recording that cannot be
 //!   read to its end answers its fault, and the text of what comes before it too.
 //! - `numbers` has the calls that give numbers in place of a text: edges, readings (`rows`), what the lengths of their
-//!   intervals come to (`lengths`), and delays. `scripts` has
+//!   intervals come to (`lengths`), and delays; `delays` has the delay that each edge ends. `scripts` has
 //!   the line of each statement, the place of a fault, and parts of pages. The page draws and marks by these, and
 //!   reads no text for them.
 //!   `extremes` has the numbers by which each delay of a run is the least or the greatest: it performs the script over
@@ -27,6 +27,7 @@
 #![tactic(auto)]
 
 mod answer;
+mod delays;
 mod explanations;
 mod extremes;
 mod item_log;
@@ -40,6 +41,7 @@ mod settings;
 mod words;
 
 pub use answer::{Answer, Told};
+pub use delays::print1525_edge_delays;
 pub use explanations::{
     print1525_explain_reading, print1525_explain_script, print1525_explain_stop,
     print1525_explain_trace, print1525_remarks,

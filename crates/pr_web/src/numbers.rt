@@ -39,7 +39,7 @@ const KINDS: [Kind; 14] = [
 
 /// Reads an input to its end, or to its first fault: the edges that it says up to there, and that
 /// fault, if it has one.
-fn read_input(alloc: Global, bytes: &[u8], input: TraceInput<'_>) -> Result<LastEdges, NoMemory>
+pub fn read_input(alloc: Global, bytes: &[u8], input: TraceInput<'_>) -> Result<LastEdges, NoMemory>
     ensures says { IfOk result (λ said. Says input.entry bytes.now said.edges.items said.fault) }
     ensures own { IfOk result (λ said. IfSome said.fault IsOwnFault) }
 {
@@ -177,7 +177,7 @@ pub extern "C" fn print1525_edges(
     *answer = numbered(edges(alloc, bytes, input, out));
 }
 
-/// Reads a recording, and puts a row of seventeen numbers for each of its readings at the front of
+/// Reads a recording, and puts a row of eighteen numbers for each of its readings at the front of
 /// the page's buffer: those readings whose lines [`crate::print1525_readings`] gives, with `detail` as its
 /// `wording` (0 to 3). All moments and lengths are microseconds.
 ///
@@ -189,6 +189,7 @@ pub extern "C" fn print1525_edges(
 /// - Whether end-or-identify is given, and when DATA is pulled and released for it, or 0.
 /// - CLOCK's first pull, and its last.
 /// - How long CLOCK is pulled in a bit, the shortest and the longest; and how long it is released.
+/// - Whether printer 4 or 5 listens before the reading.
 /// - How many bytes the reading's lines have.
 ///
 /// The recording is passed as to [`crate::print1525_readings`], with the refusals of

@@ -70,9 +70,14 @@ fn released_in(pulse: Option<Pulse>) -> u64
     }
 }
 
-/// Adds the row of a reading whose lines have this many bytes.
-fn push_row(rows: &mut Vec<u64>, reading: &Reading, lines: u64) -> Result<(), NoMemory>
-    ensures { OnOk result (rows.new.items ≡ rows.old.items ++ row_with (transfer_of reading.now) (end_of reading.now) lines) }
+/// Adds the row of a reading before which a printer listens or none does, and whose lines have this many bytes.
+fn push_row(
+    rows: &mut Vec<u64>,
+    reading: &Reading,
+    listens: bool,
+    lines: u64,
+) -> Result<(), NoMemory>
+    ensures { OnOk result (rows.new.items ≡ rows.old.items ++ row_with (transfer_of reading.now) (end_of reading.now) listens lines) }
 {
     let byte = transfer_of(reading);
     let end = end_of(reading);
@@ -94,6 +99,7 @@ fn push_row(rows: &mut Vec<u64>, reading: &Reading, lines: u64) -> Result<(), No
         byte.low.longest,
         byte.high.shortest,
         byte.high.longest,
+        flag(listens),
         lines,
     ])
 }
@@ -109,7 +115,7 @@ pub fn rows_of(alloc: Global, detail: Detail, readings: &[Reading]) -> Result<Ve
         text.clear();
         push_reading(&mut text, before, reading, detail)?;
         let lines = text.len() as u64;
-        push_row(&mut rows, reading, lines)?;
+        push_row(&mut rows, reading, before.printer_listens, lines)?;
         before = before.after(reading);
     }
     Ok(rows)

@@ -1,7 +1,7 @@
 use crate::answer::Answer;
 use crate::{
-    print1525_bounds, print1525_bus_asked, print1525_check_json, print1525_edges,
-    print1525_explain_reading, print1525_explain_script, print1525_explain_stop,
+    print1525_bounds, print1525_bus_asked, print1525_check_json, print1525_edge_delays,
+    print1525_edges, print1525_explain_reading, print1525_explain_script, print1525_explain_stop,
     print1525_explain_trace, print1525_extreme_delays, print1525_heard, print1525_intervals,
     print1525_part_of_pages, print1525_part_of_raw, print1525_reading_rows, print1525_readings,
     print1525_refusal, print1525_remarks, print1525_report, print1525_reprint, print1525_run_bytes,
@@ -141,8 +141,12 @@ fn edges_and_readings_as_numbers(rt: HostRuntime) {
         &mut out,
         &mut answer,
     );
-    assert!(rt; answer.code == 0 && answer.length == 17);
-    assert!(rt; out.starts_with(&[4, 0, 0, 0, 1, 1100, 1150, 0, 0, 0, 1190, 1190, 0, 0, 0, 0]));
+    assert!(rt; answer.code == 0 && answer.length == 18);
+    assert!(rt;
+        out.starts_with(&[
+            4, 0, 0, 0, 1, 1100, 1150, 0, 0, 0, 1190, 1190, 0, 0, 0, 0, 0
+        ])
+    );
     print1525_bounds(rt.alloc(), &mut out, &mut answer);
     assert!(rt; answer.code == 0 && answer.length == 30);
     assert!(rt;
@@ -153,6 +157,48 @@ fn edges_and_readings_as_numbers(rt: HostRuntime) {
     assert!(rt;
         out[16..].starts_with(&[1, 1000, 1, 10000, 200, 250, 80, 200, 1, 80, 1, 60, 80, 250])
     );
+}
+
+#[test]
+fn delays_of_edges(rt: HostRuntime) {
+    let mut out = [7u64; 20];
+    let mut answer = NOTHING;
+    let (atn, clock, line) = NAMES;
+    // ATN after a rest, the printers' answer, the look, ready, the first pull, and both halves of a bit, of which the
+    // second is 20 microseconds too long. After that edge nothing is known.
+    print1525_edge_delays(
+        rt.alloc(),
+        b"0 111\n100 001\n200 000\n1100 010\n1150 011\n1190 000\n1260 010\n1480 000\n1550 010\n",
+        0,
+        atn,
+        clock,
+        line,
+        0,
+        0,
+        0,
+        &mut out,
+        &mut answer,
+    );
+    assert!(rt; answer.code == 0 && answer.length == 18);
+    assert!(rt;
+        out == [
+            15, 0, 14, 0, 8, 100, 1, 100, 9, 1100, 2, 1150, 4, 1190, 5, 1260, 15, 0, 7, 7
+        ]
+    );
+    print1525_edge_delays(
+        rt.alloc(),
+        b"0 111\n",
+        5,
+        atn,
+        clock,
+        line,
+        0,
+        0,
+        0,
+        &mut out,
+        &mut answer,
+    );
+    assert!(rt; answer.code == 2 && answer.fault == 29);
 }
 
 #[test]

@@ -28,10 +28,10 @@ use Rattle.pr_cli.specs.Report.{AnswersReport, IsReportFault, WritesNoReport}
 use Rattle.pr_cli.specs.Report as check
 use Rattle.pr_cli.specs.Raw.{AnswersRaw, IsRawFault}
 use Rattle.pr_recording.specs.declared.byte_log.Heard.{Heard}
-use Rattle.pr_recording.specs.declared.wording.Wording.TheVariants.{Json, Lines}
+use Rattle.pr_recording.specs.declared.wording.Wording.TheVariants.{Lines}
 use Rattle.pr_recording.specs.Bytes.{AnswersBytes, HasReadBytes}
 use Rattle.pr_recording.specs.Checked.{AnswersJson}
-use Rattle.pr_recording.specs.Decoded.{AnswersDecode, IsDecodeFault}
+use Rattle.pr_recording.specs.Decoded.{AnswersDecode, AnswersDecodeJson, IsDecodeFault, without_odd}
 use Rattle.pr_recording.specs.Decoded as decode
 use Rattle.pr_recording.specs.Pages as reprint
 use Rattle.pr_recording.specs.RunBytes.{AnswersRunBytes}
@@ -86,11 +86,11 @@ IsOverheard answers (Ok (answer.Overheard heard odd)) = answers (Ok (heard, odd)
 IsOverheard answers (Ok _) = ⊥
 IsOverheard answers (Err fault) = answers (Err fault)
 
--- the same with what is odd about a recording that is printed
-abbrev pub IsReprinted : (Result Oddities CliFault → Type 0) → Result Answer CliFault → Type 0
-IsReprinted answers (Ok (answer.Reprinted odd)) = answers (Ok odd)
-IsReprinted answers (Ok _) = ⊥
-IsReprinted answers (Err fault) = answers (Err fault)
+-- the same with what is odd about a recording whose pages or JSON do not say it
+abbrev pub IsRemarked : (Result Oddities CliFault → Type 0) → Result Answer CliFault → Type 0
+IsRemarked answers (Ok (answer.Remarked odd)) = answers (Ok odd)
+IsRemarked answers (Ok _) = ⊥
+IsRemarked answers (Err fault) = answers (Err fault)
 
 -- what `pages` answers: the pages of a script, or the bytes that a printer hears in its run
 abbrev pub AnswersRun :
@@ -104,11 +104,11 @@ abbrev pub AnswersRecording :
 AnswersRecording shapes input (reading.Readings detail) text old new result =
     IsDone (AnswersDecode trace_limit (Lines detail) input text old new) result
 AnswersRecording shapes input reading.Json text old new result =
-    IsDone (AnswersDecode trace_limit Json input text old new) result
+    IsRemarked (AnswersDecodeJson input text old new) result
 AnswersRecording shapes input (reading.Bytes device) text old new result =
     IsOverheard (AnswersBytes input device text old new) result
 AnswersRecording shapes input (reading.Pages f) text old new result =
-    IsReprinted (reprint.AnswersPages shapes input f text old new) result
+    IsRemarked (reprint.AnswersPages shapes input f text old new) result
 
 -- the answer of a job, by the input's bytes and by what the writer held before and after; for a run
 -- they are the bytes of a script text, also where the listing has another form; the format of a
@@ -149,7 +149,8 @@ IsJobFault (Raw lower f) fault = IsRawFault fault
 -- a recording has been read to its end, unless it has a fault
 abbrev pub ReadsRecording : DecodeOutput → Option (List ℕ) → Result Answer CliFault → Type 0
 ReadsRecording (reading.Bytes device) left result = IsOverheard (HasReadBytes left) result
-ReadsRecording (reading.Pages f) left result = IsReprinted (reprint.ReadsPages left) result
+ReadsRecording (reading.Pages f) left result = IsRemarked (reprint.ReadsPages left) result
+ReadsRecording reading.Json left result = IsRemarked (λ answer. decode.ReadsAll left (without_odd answer)) result
 ReadsRecording _ left result = IsDone (decode.ReadsAll left) result
 
 -- a trace has been read to its end where it is accepted, and where its edges are refused

@@ -14,7 +14,7 @@ use Rattle.pr_cli.specs.declared.characters.ShapesFault.TheVariants as shapes
 use Rattle.pr_cli.specs.declared.pages.Ending.{Ending}
 use Rattle.pr_cli.specs.declared.pages.Ending.TheVariants.{Done, Stopped}
 use Rattle.print1525.specs.declared.jobs.Answer.{Answer}
-use Rattle.print1525.specs.declared.jobs.Answer.TheVariants.{Ended, Heard, Overheard, Reprinted}
+use Rattle.print1525.specs.declared.jobs.Answer.TheVariants.{Ended, Heard, Overheard, Remarked}
 
 -- 0 when a job is done, 1 when a BASIC error stopped the run
 abbrev pub ending_status : Ending → ℕ
@@ -26,7 +26,7 @@ abbrev pub answer_status : Answer → ℕ
 answer_status (Ended ending) = ending_status ending
 answer_status (Heard ending heard) = ending_status ending
 answer_status (Overheard heard odd) = ending_status Done
-answer_status (Reprinted odd) = ending_status Done
+answer_status (Remarked odd) = ending_status Done
 
 -- 2 when the input is refused, 3 when memory was refused, or a read or a write failed
 abbrev pub fault_status : CliFault → ℕ

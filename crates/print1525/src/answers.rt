@@ -9,15 +9,15 @@ use crate::progress::{Progress, clear};
 use crate::shown::Shown;
 use crate::starts::started_job;
 use crate::statuses::{FAILED, ending_status, fault_status, is_answered, text_status};
-use crate::told::{show_oddities, subject_of, tell_heard, tell_listing, tell_more};
+use crate::told::{Subject, show_oddities, subject_of, tell_heard, tell_listing, tell_more};
 use pr_cli::{CliFault, Ending, SCRIPT_LIMIT, TeeReader, Watched};
 use pr_dots::Shapes;
 use pr_files::{Noting, save};
 use pr_listing::{ListingForm, TextFault, read_text};
 use pr_options::{Job, Task};
-use std::alloc::{AllocError, Global};
+use std::alloc::Global;
 use std::cell::Cell;
-use std::fs::{File, Files};
+use std::fs::{File, Files, OpenFile};
 use std::io;
 use std::io::{Error, Read, Write};
 use std::time::Clock;
@@ -59,6 +59,10 @@ pub struct Manner {
 struct Aside<'a> {
     /// An explanation follows a refusal or an error.
     is_explained: bool,
+    /// The input can be read a second time for that: it is a file by name, and no pipe or device. Any other is kept.
+    is_file: bool,
+    /// How many bytes have come of the input.
+    count: &'a Cell<u64>,
     /// A number of bytes read is on the terminal, to be cleared before anything else is said.
     is_shown: &'a Cell<bool>,
 }
@@ -91,8 +95,11 @@ pub fn answer_task(
         output: output.filter(|name| !is_standard_output(name)),
     };
     let is_shown = Cell::new(false);
+    let count = Cell::new(0);
     let aside = Aside {
         is_explained: manner.is_explained,
+        is_file: false,
+        count: &count,
         is_shown: &is_shown,
     };
     let is_apart = manner.is_watched && (names.output.is_some() || !manner.is_seen);
@@ -100,15 +107,25 @@ pub fn answer_task(
         if manner.is_typed {
             tell_waiting(rt, &work.job);
         }
-        let reader = Progress::new(rt, rt.reader(), is_apart && !manner.is_typed, &is_shown);
+        let is_watched = is_apart && !manner.is_typed;
+        let reader = Progress::new(rt, rt.reader(), is_watched, &count, &is_shown);
         return answer_from(rt, reader, names, work, aside);
     };
     match File::open(rt, name) {
         Ok(file) => {
-            let reader = Progress::new(rt, file, is_apart, &is_shown);
-            answer_from(rt, reader, names, work, aside)
+            let is_file = manner.is_explained && is_regular(&file);
+            let reader = Progress::new(rt, file, is_apart, &count, &is_shown);
+            answer_from(rt, reader, names, work, Aside { is_file, ..aside })
         }
         Err(error) => tell_file(rt, name, &error),
+    }
+}
+
+/// Whether an open file is no pipe, device or the like, so that its bytes can be read again.
+fn is_regular(file: &impl OpenFile) -> bool {
+    match file.metadata() {
+        Ok(metadata) => metadata.is_file(),
+        Err(_) => false,
     }
 }
 
@@ -162,7 +179,7 @@ fn answer_from<R: Read + Drop>(
 /// Does a job over a reader and a writer, and gives the exit status and the writer. A listing in
 /// another form is made a script's text first, and a recording's format or own moment 0 is found first.
 fn answer_job<R: Read + Drop, W: Write + Drop>(
-    rt: &(impl Eprint + AllocGlobal),
+    rt: &(impl Files + Eprint + AllocGlobal),
     reader: R,
     writer: W,
     names: Names<'_>,
@@ -186,7 +203,7 @@ fn is_to_find(job: &Job<'_>) -> bool {
 
 /// Does a job in the format, and from the moment, that a recording's first bytes show.
 fn answer_recording<R: Read + Drop, W: Write + Drop>(
-    rt: &(impl Eprint + AllocGlobal),
+    rt: &(impl Files + Eprint + AllocGlobal),
     reader: R,
     writer: W,
     names: Names<'_>,
@@ -194,12 +211,8 @@ fn answer_recording<R: Read + Drop, W: Write + Drop>(
     aside: Aside<'_>,
 ) -> (u8, W) {
     let mut input = Watched::new(Noting::new(reader));
-    match read_first(rt.alloc(), &mut input) {
-        Ok(first) => {
-            let Ok(work) = found_work(rt.alloc(), work, first.as_slice()) else {
-                clear(rt, aside.is_shown);
-                return (tell(rt, CliFault::NoMemory), writer);
-            };
+    match found_work(rt.alloc(), work, &mut input) {
+        Ok((work, first)) => {
             let whole = first.as_slice().chain(input.into_inner());
             answer_over(rt, whole, writer, names, work, aside)
         }
@@ -218,23 +231,29 @@ fn answer_recording<R: Read + Drop, W: Write + Drop>(
     }
 }
 
-/// What is to be done, by the first bytes of a recording.
-fn found_work<'a>(alloc: Global, work: Work<'a>, first: &[u8]) -> Result<Work<'a>, AllocError> {
+/// What is to be done, by the first bytes of a recording, and these bytes.
+fn found_work<'a, R: Read>(
+    alloc: Global,
+    work: Work<'a>,
+    input: &mut Watched<R>,
+) -> Result<(Work<'a>, Vec<u8>), CliFault> {
     let Work {
         job,
         before,
         shapes,
     } = work;
-    let job = found_job(job, first);
+    let mut first = read_first(alloc, input)?;
+    let job = found_job(job, first.as_slice());
     let job = match before {
-        Some(before) => started_job(alloc, job, first, before)?,
+        Some(before) => started_job(alloc, job, input, &mut first, before)?,
         None => job,
     };
-    Ok(Work {
+    let work = Work {
         job,
         before: None,
         shapes,
-    })
+    };
+    Ok((work, first))
 }
 
 /// The first bytes of an input: 4096, or all where there are fewer.
@@ -258,7 +277,7 @@ fn read_first<R: Read>(alloc: Global, input: &mut Watched<R>) -> Result<Vec<u8>,
 
 /// Does a job over the text of a listing in another form.
 fn answer_listing<R: Read + Drop, W: Write + Drop>(
-    rt: &(impl Eprint + AllocGlobal),
+    rt: &(impl Files + Eprint + AllocGlobal),
     reader: R,
     writer: W,
     names: Names<'_>,
@@ -269,7 +288,13 @@ fn answer_listing<R: Read + Drop, W: Write + Drop>(
     let kept = TeeReader::new(rt.alloc(), reader, aside.is_explained);
     let mut input = Watched::new(Noting::new(kept));
     match read_text(rt.alloc(), &mut input, form, SCRIPT_LIMIT) {
-        Ok(text) => answer_over(rt, text.as_slice(), writer, names, work, aside),
+        Ok(text) => {
+            let aside = Aside {
+                is_file: false,
+                ..aside
+            };
+            answer_over(rt, text.as_slice(), writer, names, work, aside)
+        }
         Err(fault) => {
             let input = input.into_inner();
             clear(rt, aside.is_shown);
@@ -291,9 +316,10 @@ fn form_of(job: &Job<'_>) -> ListingForm {
 }
 
 /// Does a job over a reader and a writer, and gives the exit status and the writer. Where more is to
-/// be told, the input is kept, since a trace text's first bad line may be its last.
+/// be told, the input is kept, since a trace text's first bad line may be its last; a file is read again instead, when the
+/// job has let go what it kept.
 fn answer_over<R: Read + Drop, W: Write + Drop>(
-    rt: &(impl Eprint + AllocGlobal),
+    rt: &(impl Files + Eprint + AllocGlobal),
     reader: R,
     writer: W,
     names: Names<'_>,
@@ -302,7 +328,8 @@ fn answer_over<R: Read + Drop, W: Write + Drop>(
 ) -> (u8, W) {
     let Work { job, shapes, .. } = work;
     let subject = subject_of(&job);
-    let kept = TeeReader::new(rt.alloc(), reader, aside.is_explained);
+    let is_kept = aside.is_explained && !aside.is_file;
+    let kept = TeeReader::new(rt.alloc(), reader, is_kept);
     let mut input = Watched::new(Noting::new(kept));
     let mut output = Watched::new(Noting::new(writer));
     let answer = do_job(rt.alloc(), &mut input, &mut output, job, shapes);
@@ -310,7 +337,7 @@ fn answer_over<R: Read + Drop, W: Write + Drop>(
     let input = input.into_inner();
     let output = output.into_inner();
     let status = match answer {
-        Ok(answer) => tell_answer(rt, answer),
+        Ok(answer) => tell_answer(rt, subject, answer),
         Err(CliFault::ReadFailed) => tell_failed(
             rt,
             CliFault::ReadFailed,
@@ -322,24 +349,35 @@ fn answer_over<R: Read + Drop, W: Write + Drop>(
         }
         Err(fault) => tell(rt, fault),
     };
-    if let Some(bytes) = input.into_inner().into_bytes() {
+    let bytes = match names.input {
+        Some(name) if aside.is_file => read_again(rt, name, aside.count.get()),
+        _ => input.into_inner().into_bytes(),
+    };
+    if let Some(bytes) = bytes {
         tell_more(rt, bytes.as_slice(), subject, ending_of(answer));
     }
     (status, output.into_inner())
+}
+
+/// The first bytes of the file of this name, as many as a job has read; None where they cannot be had.
+fn read_again(rt: &(impl Files + AllocGlobal), name: &str, count: u64) -> Option<Vec<u8>> {
+    let file = File::open(rt, name).ok()?;
+    let mut input = Watched::new(file.take(count));
+    pr_cli::read_whole(rt.alloc(), &mut input, usize::MAX).ok()
 }
 
 /// How a job ended, or its fault.
 fn ending_of(answer: Result<Answer, CliFault>) -> Result<Ending, CliFault> {
     match answer {
         Ok(Answer::Ended(ending) | Answer::Heard(ending, _)) => Ok(ending),
-        Ok(Answer::Overheard(_, _) | Answer::Reprinted(_)) => Ok(Ending::Done),
+        Ok(Answer::Overheard(_, _) | Answer::Remarked(_)) => Ok(Ending::Done),
         Err(fault) => Err(fault),
     }
 }
 
 /// Gives the exit status of a job that ended so. Where its bytes do not say in which character set a printer prints
 /// them, tells that in one line on standard error, and then what is odd about a recording that was not listed.
-fn tell_answer(rt: &(impl Eprint + AllocGlobal), answer: Answer) -> u8
+fn tell_answer(rt: &(impl Eprint + AllocGlobal), subject: Subject<'_>, answer: Answer) -> u8
     ensures { result ≡ answer_status answer }
 {
     match answer {
@@ -350,11 +388,11 @@ fn tell_answer(rt: &(impl Eprint + AllocGlobal), answer: Answer) -> u8
         }
         Answer::Overheard(heard, odd) => {
             tell_heard(rt, heard);
-            show_oddities(rt, odd);
+            show_oddities(rt, subject, odd);
             ending_status(Ending::Done)
         }
-        Answer::Reprinted(odd) => {
-            show_oddities(rt, odd);
+        Answer::Remarked(odd) => {
+            show_oddities(rt, subject, odd);
             ending_status(Ending::Done)
         }
     }

@@ -31,7 +31,9 @@ pub fn shapes_for(
     }
 }
 
-/// Reads the shapes of a file of this name.
+/// Reads the shapes of a file of this name. It has a frame of its own, so a task without a file is spared the room for the
+/// block that it reads into.
+#[inline(never)]
 fn shapes_from<R: Read + Drop>(
     rt: &(impl Eprint + AllocGlobal),
     file: R,

@@ -15,7 +15,8 @@ use pr_cli::{
 use pr_dots::Shapes;
 use pr_options::{CheckOutput, DecodeOutput, Job, PagesOutput, found_source};
 use pr_recording::{
-    Heard, Wording, bytes_over, check_json_over, decode_over, reprint_over, run_bytes_over,
+    Heard, Wording, bytes_over, check_json_over, decode_json_over, decode_over, reprint_over,
+    run_bytes_over,
 };
 use pr_report::{Oddities, Report};
 use pr_serial::Present;
@@ -31,8 +32,8 @@ pub enum Answer {
     Heard(Ending, Heard),
     /// It wrote those that a printer hears in a recording, about which this is odd.
     Overheard(Heard, Oddities),
-    /// It wrote the pages of a recording, about which this is odd.
-    Reprinted(Oddities),
+    /// It wrote the pages of a recording, or its readings as JSON, which do not say that this is odd about it.
+    Remarked(Oddities),
 }
 
 /// Returns the job with the format that the first bytes of its recording show, where it has to be found; every other job
@@ -91,9 +92,9 @@ pub fn restarted_job<'a>(job: Job<'a>, start: u64) -> Job<'a>
 /// Those of the job's call: [`pr_cli::pages_as_over`] or, for bytes, [`pr_recording::run_bytes_over`];
 /// [`pr_cli::bus_as_over`]; [`pr_cli::check_over`] for the frames of a trace text,
 /// [`pr_recording::check_json_over`] for the JSON of any trace, and else
-/// [`pr_cli::check_as_over`]; [`pr_recording::decode_over`] for a list and for JSON,
-/// [`pr_recording::bytes_over`], and [`pr_recording::reprint_over`] for pages; [`pr_cli::raw_over`]. They leave
-/// what they leave there. A read failed exactly if the input has failed, and a write exactly if the output has.
+/// [`pr_cli::check_as_over`]; [`pr_recording::decode_over`] for a list,
+/// [`pr_recording::decode_json_over`] for JSON, [`pr_recording::bytes_over`], and [`pr_recording::reprint_over`] for
+/// pages; [`pr_cli::raw_over`]. They leave what they leave there. A read failed exactly if the input has failed, and a write exactly if the output has.
 pub fn do_job<R: Read, W: Write>(
     alloc: Global,
     input: &mut Watched<R>,
@@ -262,8 +263,8 @@ fn decode_recording<R: Read, W: Write>(
             Ok(Answer::Ended(Ending::Done))
         }
         DecodeOutput::Json => {
-            decode_over(alloc, input, output, trace, Wording::Json)?;
-            Ok(Answer::Ended(Ending::Done))
+            let odd = decode_json_over(alloc, input, output, trace)?;
+            Ok(Answer::Remarked(odd))
         }
         DecodeOutput::Bytes(device) => {
             let (heard, odd) = bytes_over(alloc, input, output, trace, device)?;
@@ -271,7 +272,7 @@ fn decode_recording<R: Read, W: Write>(
         }
         DecodeOutput::Pages(format) => {
             let odd = reprint_over(alloc, input, output, trace, format, shapes)?;
-            Ok(Answer::Reprinted(odd))
+            Ok(Answer::Remarked(odd))
         }
     }
 }

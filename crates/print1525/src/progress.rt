@@ -18,18 +18,20 @@ pub struct Progress<'a, T, R> {
     inner: R,
     /// When the number is shown next; None where none is to be shown.
     next: Option<Duration>,
-    bytes: u64,
+    /// How many bytes have come.
+    count: &'a Cell<u64>,
     /// Whether the number is on the terminal.
     is_shown: &'a Cell<bool>,
 }
 
 impl<'a, T: Clock + Eprint, R> Progress<'a, T, R> {
-    /// No byte has come yet. Nothing is ever shown unless `is_watched`. Whether something is on the terminal is kept in
-    /// `is_shown`, so that [`clear`] takes it off before anything else is said there.
+    /// No byte has come yet. Nothing is ever shown unless `is_watched`. How many bytes have come is kept in `count`, and
+    /// whether something is on the terminal in `is_shown`, so that [`clear`] takes it off before anything else is said there.
     pub fn new(
         rt: &'a T,
         inner: R,
         is_watched: bool,
+        count: &'a Cell<u64>,
         is_shown: &'a Cell<bool>,
     ) -> Progress<'a, T, R> {
         let next = if is_watched { after(rt, QUIET) } else { None };
@@ -37,19 +39,19 @@ impl<'a, T: Clock + Eprint, R> Progress<'a, T, R> {
             rt,
             inner,
             next,
-            bytes: 0,
+            count,
             is_shown,
         }
     }
 
     /// Shows how many bytes have come, if it is time, and nothing any more at the end.
     fn note(&mut self, n: usize) {
-        self.bytes = self.bytes.wrapping_add(n as u64);
+        let bytes = self.count.get().wrapping_add(n as u64);
+        self.count.set(bytes);
         if n == 0 {
             clear(self.rt, self.is_shown);
             self.next = None;
         } else if self.is_due() {
-            let bytes = self.bytes;
             let _ = self
                 .rt
                 .eprint(format_args!("\rprint1525: {bytes} bytes read"));
@@ -60,9 +62,12 @@ impl<'a, T: Clock + Eprint, R> Progress<'a, T, R> {
 
     /// Whether it is time to show the number.
     fn is_due(&self) -> bool {
-        match (self.next, self.rt.monotonic()) {
-            (Some(next), Ok(now)) => now >= next,
-            _ => false,
+        let Some(next) = self.next else {
+            return false;
+        };
+        match self.rt.monotonic() {
+            Ok(now) => now >= next,
+            Err(_) => false,
         }
     }
 }

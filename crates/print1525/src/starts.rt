@@ -1,45 +1,111 @@
 //! Where a trace starts that starts before its recording's own moment 0.
 
-ghost use Rattle.std.specs.Prelude.{◌+◌, ◌^◌, ◌<◌, ◌≤◌, IfOk, IfSome};
+ghost use Rattle.std.specs.Prelude.{◌≡◌, ◌+◌, ◌^◌, ◌<◌, ◌≤◌, IfOk, IfSome, MatchOption, length};
 ghost use Rattle.pr_capture.specs.CsvSteps.{line_number};
 
 use crate::jobs::restarted_job;
 use pr_capture::{CaptureFault, CsvReader, Source, TraceInput};
+use pr_cli::{BLOCK, CliFault, Watched};
 use pr_options::Job;
 use std::alloc::{AllocError, Global};
+use std::io::Read;
 
-/// A job whose trace starts so long before its recording's own moment 0, by the recording's first bytes: the start that
-/// a job has counts from the recording's first moment. Of a job that reads no recording nothing changes.
-pub fn started_job<'a>(
+/// A job whose trace starts so long before its recording's own moment 0: the start that a job has counts from the
+/// recording's first moment. The first bytes of the input have been read already; where a table's first row does not
+/// end in them, more are read after them, until it does. Of a job that reads no recording nothing changes.
+///
+/// # Errors
+///
+/// [`CliFault::ReadFailed`] and [`CliFault::NoMemory`].
+pub fn started_job<'a, R: Read>(
     alloc: Global,
     job: Job<'a>,
-    first: &[u8],
+    input: &mut Watched<R>,
+    first: &mut Vec<u8>,
     before: u64,
-) -> Result<Job<'a>, AllocError> {
+) -> Result<Job<'a>, CliFault> {
     let zero = match &job {
-        Job::Check(input, _) | Job::Decode { input, .. } => zero_of(alloc, *input, first)?,
+        Job::Check(trace, _) | Job::Decode { input: trace, .. } => {
+            zero_of(alloc, *trace, input, first)?
+        }
         Job::Pages(..) | Job::Bus(..) | Job::Raw { .. } => 0,
     };
     Ok(restarted_job(job, zero.saturating_sub(before)))
 }
 
-/// How long after its first moment a recording's own moment 0 is, in microseconds, by its first bytes: 0 where it does
-/// not begin before that, as dumps never do, and where these bytes have no sample.
-fn zero_of(alloc: Global, input: TraceInput<'_>, first: &[u8]) -> Result<u64, AllocError> {
-    if input.source != Source::Csv {
+/// How long after its first moment a recording's own moment 0 is, in microseconds: 0 where it does not begin before
+/// that, as dumps never do, and where it has no sample.
+fn zero_of<R: Read>(
+    alloc: Global,
+    trace: TraceInput<'_>,
+    input: &mut Watched<R>,
+    first: &mut Vec<u8>,
+) -> Result<u64, CliFault> {
+    if trace.source != Source::Csv {
         return Ok(0);
     }
-    let mut reader = CsvReader::new(alloc, input.signals, input.rate);
-    let mut rest = first;
-    while !rest.is_empty() {
-        match reader.take_front(rest) {
-            Ok((len, None)) => rest = &rest[len..],
-            Ok((len, Some(_))) => return zero_behind(alloc, reader, &rest[..len]),
-            Err(CaptureFault::NoMemory) => return Err(AllocError),
+    let mut reader = CsvReader::new(alloc, trace.signals, trace.rate);
+    let mut taken = 0;
+    'blocks: for _ in 0..usize::MAX {
+        let bytes = first.as_slice();
+        match row_end(&mut reader, &bytes[taken..]) {
+            Ok(Some(len)) => return Ok(zero_behind(
+                alloc,
+                reader,
+                last_line(&bytes[..taken + len]),
+            )?),
+            Ok(None) => taken = bytes.len(),
+            Err(CaptureFault::NoMemory) => return Err(CliFault::NoMemory),
             Err(_) => return Ok(0),
         }
+        if !read_more(input, first)? {
+            break;
+        }
     }
-    Ok(0)
+    // The last line may lack its end.
+    match time_of(&mut reader, b"\n")? {
+        Some(_) => Ok(zero_behind(alloc, reader, last_line(first.as_slice()))?),
+        None => Ok(0),
+    }
+}
+
+/// Reads a block more of an input, and adds it. Gives whether there was more.
+fn read_more<R: Read>(input: &mut Watched<R>, first: &mut Vec<u8>) -> Result<bool, CliFault>
+    ensures more { IfOk result (λ _. length first.old.items ≤ length first.new.items) }
+{
+    let mut block = [0u8; BLOCK];
+    let Ok(n) = input.read(&mut block) else {
+        return Err(CliFault::ReadFailed);
+    };
+    if first.extend_from_slice(&block[..n]).is_err() {
+        return Err(CliFault::NoMemory);
+    }
+    Ok(n > 0)
+}
+
+/// Takes bytes up to the end of a table's first row, and gives how many; None where it takes all of them.
+fn row_end(reader: &mut CsvReader<'_>, bytes: &[u8]) -> Result<Option<usize>, CaptureFault>
+    requires few { line_number reader.old + length bytes.now < 2 ^ 64 }
+    ensures number { IfOk result (λ _. line_number reader.new ≤ line_number reader.old + length bytes.now) }
+    ensures within { IfOk result (λ end. IfSome end (λ len. len ≤ length bytes.now)) }
+{
+    let mut rest = bytes;
+    while !rest.is_empty() {
+        match reader.take_front(rest)? {
+            (len, None) => rest = &rest[len..],
+            (len, Some(_)) => return Ok(Some(bytes.len() - rest.len() + len)),
+        }
+    }
+    Ok(None)
+}
+
+/// The last line of a text, with its end if it has one.
+fn last_line(text: &[u8]) -> &[u8] {
+    let inner = text.len().saturating_sub(1);
+    match text[..inner].iter().rposition(|b| *b == b'\n') {
+        Some(i) => &text[i + 1..],
+        None => text,
+    }
 }
 
 /// The same after a table's first row. Since times count from that row's, it is the time of a row with 0 in that place; in a

@@ -380,14 +380,16 @@ fn trace_told(
 
 /// Writes what is odd about a recording, and what to try, on standard error: the last lines of its list, each after two
 /// blanks.
-pub fn show_oddities(rt: &(impl Eprint + AllocGlobal), odd: Oddities) {
-    show(rt, odd_lines(rt.alloc(), odd));
+pub fn show_oddities(rt: &(impl Eprint + AllocGlobal), subject: Subject<'_>, odd: Oddities) {
+    if let Subject::Recording(trace) = subject {
+        show(rt, odd_lines(rt.alloc(), trace, odd));
+    }
 }
 
-/// What is odd about a recording, and what to try.
-fn odd_lines(alloc: Global, odd: Oddities) -> Result<String, AllocError> {
+/// What is odd about a recording that is read so, and what to try.
+fn odd_lines(alloc: Global, trace: TraceInput<'_>, odd: Oddities) -> Result<String, AllocError> {
     let mut lines = Vec::new(alloc);
-    push_oddities(&mut lines, odd)?;
+    push_oddities(&mut lines, trace, odd)?;
     let mut text = String::new(alloc);
     push_indented(&mut text, lines.as_slice())?;
     Ok(text)

@@ -2,11 +2,9 @@ use Rattle.std.proofs.Common.{◌+◌, ◌≤◌, length}
 use Rattle.pr_capture.specs.CsvSteps.{line_number}
 use Rattle.print1525.proofs.starts.zero_of.Given as goal
 
--- each line takes at least a byte
-abbrev pub invariant-loop-rest : goal.invariant-loop-rest
-invariant-loop-rest l = record {
-  lines : line_number l.reader + length l.rest ≤ length l.fn.first + 1;
+-- each line that was taken has at least a byte
+abbrev pub invariant-blocks-2 : goal.invariant-blocks-2
+invariant-blocks-2 g l = record {
+  lines : line_number l.reader ≤ l.taken + 1;
+  within : l.taken ≤ length l.first.items;
 }
-
-abbrev pub decreases-loop-rest : goal.decreases-loop-rest
-decreases-loop-rest l = length l.rest

@@ -1,7 +1,7 @@
 use Rattle.std.proofs.Common.{◌≡◌, ◌+◌, ◌<◌, ◌^◌, ◌++◌, ◌∷◌, [], length, arith}
 use Rattle.pr_report.specs.declared.interval.Interval.TheVariants.{Ready, FirstPull, Answer, AnswerLength, PullAfterAnswer, ShortestLow, LongestLow, ShortestHigh, LongestHigh, Acknowledgement}
 use Rattle.pr_report.proofs.Sums.{one-longer}
-use Rattle.pr_report.proofs.FoundOutside.{found-more}
+use Rattle.pr_report.proofs.FoundOutside.{kept-more}
 use Rattle.pr_report.proofs.survey.Survey.take.Goals as goal
 
 pub returns-clause-taken : goal.returns-clause-taken
@@ -13,7 +13,7 @@ returns-clause-taken c = λ b rs h.
       taken = omega arith;
       few = omega arith;
       bounds = h.bounds;
-      outside = found-more b rs c.args.reading.now c.args.self.now.bounds c.args.self.now.outside c.with_reading-self.result h.bounds h.outside c.with_reading-self.ensures;
+      outside = kept-more b rs c.args.reading.now c.args.self.now.bounds c.args.self.now.outside c.with_reading-self.result h.bounds h.outside c.with_reading-self.ensures;
       counts = c.with-self.ensures rs few h.counts;
       ready = c.take.ensures b Ready rs few h.ready;
       first_pull = c.take-2.ensures b FirstPull rs few h.first_pull;

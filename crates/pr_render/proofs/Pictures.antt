@@ -1,0 +1,172 @@
+-- Papers by the picture of all pages.
+use Rattle.std.proofs.Common.{◌≡◌, ℕ, ◌+◌, ◌*◌, ◌<◌, ◌≤◌, ◌^◌, Bool, true, false, cond, List, [], ◌∷◌, ◌++◌, refl, sym, ap, ◌∙◌, arith, get_or, decimal, codes}
+use Rattle.std.specs.Prelude.{◌&&◌, nat_lt, flat_map, map, if◌then◌else◌}
+use Rattle.std.specs.List.{list_all}
+use Rattle.std.proofs.lemmas.Bool.{and_parts}
+use Rattle.std.proofs.lemmas.Fmt.{decimal_injective}
+use Rattle.std.proofs.lemmas.List.{append_assoc, append-nil}
+use Rattle.std.proofs.lemmas.List.Concat.{flat_map-cons}
+use Rattle.pr_page.specs.declared.paper.Paper.{Paper}
+use Rattle.pr_serial.specs.declared.Present.{Present}
+use Rattle.pr_system.specs.declared.outcome.Outcome.{Outcome}
+use Rattle.pr_dots.specs.declared.character_sets.Shapes.{Shapes}
+use Rattle.pr_render.specs.Laws.{PicturesTellPapers, drawn_papers, is_paper}
+use Rattle.pr_render.specs.Parts.{desk, document_about, document_begin, height_begin, notes_begin, paper_piece, units_begin, units_between}
+use Rattle.pr_render.specs.Svg.{definitions_svg, drawn_marks, drawn_of, head_svg, height_of, name_line, notes_svg, picture_svg, sheet_picas, sheet_svg, size_svg, units_svg, width_of}
+use Rattle.pr_render.specs.Words.{text_if}
+use Rattle.pr_render.proofs.Documents.{all-definitions-split, sheet-split}
+use Rattle.pr_render.proofs.Skipped.{after-part, after_line, in-append, in-number, in_line}
+use Rattle.pr_render.proofs.Told.{regroup}
+
+-- the head is passed over
+in-size : (w h : ℕ) → in_line (size_svg w h) ≡ true
+unfolding size_svg document_begin height_begin
+in-size w h =
+    in-append ((document_begin ++ decimal w) ++ height_begin) (decimal h)
+    (in-append (document_begin ++ decimal w) height_begin (in-append document_begin (decimal w) refl (in-number w)) refl) (in-number h)
+
+in-units : (w h : ℕ) → in_line (units_svg w h) ≡ true
+unfolding units_svg units_begin units_between
+in-units w h =
+    in-append ((units_begin ++ decimal (210 * w)) ++ units_between) (decimal (210 * h))
+    (in-append (units_begin ++ decimal (210 * w)) units_between (in-append units_begin (decimal (210 * w)) refl (in-number (210 * w))) refl) (in-number (210 * h))
+
+about-skip : (r : List ℕ) → after_line (after_line (after_line (after_line (after_line (document_about ++ (paper_piece ++ (desk ++ r))))))) ≡ r
+unfolding document_about paper_piece desk
+about-skip r = refl
+
+head-skip : (w h : ℕ) (r : List ℕ) → after_line (after_line (after_line (after_line (after_line (head_svg w h ++ r))))) ≡ r
+unfolding head_svg
+head-skip w h r =
+    ap (λ e. after_line (after_line (after_line (after_line (after_line e))))) (regroup (size_svg w h) (units_svg w h) document_about paper_piece desk r)
+    ∙ ap (λ e. after_line (after_line (after_line (after_line e)))) (after-part (size_svg w h) (units_svg w h ++ (document_about ++ (paper_piece ++ (desk ++ r)))) (in-size w h)
+    ∙ after-part (units_svg w h) (document_about ++ (paper_piece ++ (desk ++ r))) (in-units w h))
+    ∙ about-skip r
+
+-- a printer's sheet: its place in the document, its length, and its paper
+record Sheet : Type 0 where
+  device : ℕ
+  x : ℕ
+  picas : ℕ
+  paper : Paper
+
+abbrev sheet-text : Sheet → List ℕ
+sheet-text s = sheet_svg s.device s.x s.picas s.paper
+
+abbrev told-by : Sheet → ℕ × Paper
+told-by s = (s.device, s.paper)
+
+abbrev told-first : ℕ → Paper → List (ℕ × Paper) → List (ℕ × Paper)
+told-first device paper rest = (device, paper) ∷ rest
+
+abbrev is-sheet : Sheet → Bool
+is-sheet s = nat_lt s.device 10 && is_paper s.paper
+
+-- what follows sheets begins with no group
+abbrev Follows : List ℕ → Type 0
+Follows e = 103 < get_or e 1 0
+
+sheet-no : (s : Sheet) (a b : List ℕ) → Follows a → a ≡ sheet-text s ++ b → ⊥
+unfolding sheet_svg name_line
+sheet-no s a b far is = by (ap (λ e. get_or e 1 0) is)
+  where
+    by : get_or a 1 0 ≡ 103 → ⊥
+    by e = omega arith
+
+device-small : (d : ℕ) → nat_lt d 10 ≡ true → d < 2 ^ 64
+device-small d is = grind (arith, is)
+
+sheets-split : (ss ts : List Sheet) (a b : List ℕ) → list_all is-sheet ss ≡ true → list_all is-sheet ts ≡ true → Follows a → Follows b
+    → flat_map sheet-text ss ++ a ≡ flat_map sheet-text ts ++ b → map told-by ss ≡ map told-by ts
+sheets-split [] [] a b f g far near is = refl
+sheets-split [] (t ∷ ts) a b f g far near is =
+    absurd (sheet-no t a (flat_map sheet-text ts ++ b) far (is ∙ (ap (λ e. e ++ b) (flat_map-cons sheet-text t ts) ∙ append_assoc (sheet-text t) (flat_map sheet-text ts) b)))
+sheets-split (s ∷ ss) [] a b f g far near is =
+    absurd (sheet-no s b (flat_map sheet-text ss ++ a) near (sym is ∙ (ap (λ e. e ++ a) (flat_map-cons sheet-text s ss) ∙ append_assoc (sheet-text s) (flat_map sheet-text ss) a)))
+sheets-split (s ∷ ss) (t ∷ ts) a b f g far near is =
+    let sf = and_parts (is-sheet s) (list_all is-sheet ss) f in
+    let tf = and_parts (is-sheet t) (list_all is-sheet ts) g in
+    let sp = and_parts (nat_lt s.device 10) (is_paper s.paper) sf.0 in
+    let tp = and_parts (nat_lt t.device 10) (is_paper t.paper) tf.0 in
+    let first = sheet-split s.device s.x s.picas s.paper t.device t.x t.picas t.paper (flat_map sheet-text ss ++ a) (flat_map sheet-text ts ++ b) sp.1 tp.1
+    (sym (ap (λ e. e ++ a) (flat_map-cons sheet-text s ss) ∙ append_assoc (sheet-text s) (flat_map sheet-text ss) a)
+    ∙ (is ∙ (ap (λ e. e ++ b) (flat_map-cons sheet-text t ts) ∙ append_assoc (sheet-text t) (flat_map sheet-text ts) b))) in
+    let devices = decimal_injective s.device t.device (device-small s.device sp.0) (device-small t.device tp.0) first.0 in
+    let more = sheets-split ss ts a b sf.1 tf.1 far near first.1.1 in
+    ap (λ d. told-first d s.paper (map told-by ss)) devices
+    ∙ (ap (λ p. told-first t.device p (map told-by ss)) first.1.0 ∙ ap (λ ps. told-first t.device t.paper ps) more)
+
+-- the sheets of a picture
+abbrev first-sheet : Outcome → Sheet
+first-sheet outcome = record { device = 4; x = 630; picas = sheet_picas outcome; paper = outcome.paper4 }
+
+abbrev second-sheet : Bool → Outcome → Sheet
+second-sheet four outcome = record { device = 5; x = cond four 13860 630; picas = sheet_picas outcome; paper = outcome.paper5 }
+
+abbrev sheets-of : Outcome → (four five : Bool) → List Sheet
+sheets-of outcome four five = cond four (first-sheet outcome ∷ []) [] ++ cond five (second-sheet four outcome ∷ []) []
+
+one-sheet : (s : Sheet) → flat_map sheet-text (s ∷ []) ≡ sheet-text s
+one-sheet s = flat_map-cons sheet-text s [] ∙ append-nil (sheet-text s)
+
+sheets-text : (outcome : Outcome) (four five : Bool) (more : List ℕ)
+    → text_if four (sheet-text (first-sheet outcome)) ++ (text_if five (sheet-text (second-sheet four outcome)) ++ more)
+    ≡ flat_map sheet-text (sheets-of outcome four five) ++ more
+sheets-text outcome true true more =
+    sym (append_assoc (sheet-text (first-sheet outcome)) (sheet-text (second-sheet true outcome)) more)
+    ∙ ap (λ t. (sheet-text (first-sheet outcome) ++ t) ++ more) (sym (one-sheet (second-sheet true outcome)))
+    ∙ ap (λ t. t ++ more) (sym (flat_map-cons sheet-text (first-sheet outcome) (second-sheet true outcome ∷ [])))
+sheets-text outcome true false more = ap (λ t. t ++ more) (sym (one-sheet (first-sheet outcome)))
+sheets-text outcome false true more = ap (λ t. t ++ more) (sym (one-sheet (second-sheet false outcome)))
+sheets-text outcome false false more = refl
+
+sheets-fit : (outcome : Outcome) (four five : Bool) → is_paper outcome.paper4 ≡ true → is_paper outcome.paper5 ≡ true
+    → list_all is-sheet (sheets-of outcome four five) ≡ true
+sheets-fit outcome true true f g = ap (λ b. b && (is_paper outcome.paper5 && true)) f ∙ ap (λ b. b && true) g
+sheets-fit outcome true false f g = ap (λ b. b && true) f
+sheets-fit outcome false true f g = ap (λ b. b && true) g
+sheets-fit outcome false false f g = refl
+
+sheets-papers : (outcome : Outcome) (four five : Bool) → map told-by (sheets-of outcome four five) ≡ drawn_papers outcome (record { four = four; five = five })
+sheets-papers outcome true true = refl
+sheets-papers outcome true false = refl
+sheets-papers outcome false true = refl
+sheets-papers outcome false false = refl
+
+-- the document, part by part
+abbrev notes-end : Outcome → List ℕ
+notes-end outcome = notes_svg (sheet_picas outcome) outcome ++ codes "</svg>\n"
+
+notes-follow : (outcome : Outcome) → Follows (notes-end outcome)
+unfolding notes_svg notes_begin
+notes-follow outcome = omega arith
+
+picture-parts : (shapes : Shapes) (outcome : Outcome) (drawn : Present) → picture_svg shapes outcome drawn
+    ≡ head_svg (width_of drawn) (height_of (sheet_picas outcome) outcome)
+    ++ (definitions_svg shapes (drawn_marks outcome drawn) ++ (flat_map sheet-text (sheets-of outcome drawn.four drawn.five) ++ notes-end outcome))
+unfolding picture_svg
+picture-parts shapes outcome drawn =
+    regroup (head_svg (width_of drawn) (height_of (sheet_picas outcome) outcome)) (definitions_svg shapes (drawn_marks outcome drawn))
+    (text_if drawn.four (sheet-text (first-sheet outcome))) (text_if drawn.five (sheet-text (second-sheet drawn.four outcome)))
+    (notes_svg (sheet_picas outcome) outcome) (codes "</svg>\n")
+    ∙ ap (λ t. head_svg (width_of drawn) (height_of (sheet_picas outcome) outcome) ++ (definitions_svg shapes (drawn_marks outcome drawn) ++ t))
+    (sheets-text outcome drawn.four drawn.five (notes-end outcome))
+
+drawn-tell : (shapes other : Shapes) (these those : Outcome) (drawn kept : Present)
+    → is_paper these.paper4 ≡ true → is_paper these.paper5 ≡ true → is_paper those.paper4 ≡ true → is_paper those.paper5 ≡ true
+    → picture_svg shapes these drawn ≡ picture_svg other those kept → drawn_papers these drawn ≡ drawn_papers those kept
+drawn-tell shapes other these those drawn kept e f g h is =
+    let headless : definitions_svg shapes (drawn_marks these drawn) ++ (flat_map sheet-text (sheets-of these drawn.four drawn.five) ++ notes-end these)
+    ≡ definitions_svg other (drawn_marks those kept) ++ (flat_map sheet-text (sheets-of those kept.four kept.five) ++ notes-end those)
+    = sym (head-skip (width_of drawn) (height_of (sheet_picas these) these) _)
+    ∙ (ap (λ t. after_line (after_line (after_line (after_line (after_line t))))) (sym (picture-parts shapes these drawn) ∙ (is ∙ picture-parts other those kept))
+    ∙ head-skip (width_of kept) (height_of (sheet_picas those) those) _) in
+    let sheets = all-definitions-split shapes other (drawn_marks these drawn) (drawn_marks those kept) _ _ headless in
+    let told = sheets-split (sheets-of these drawn.four drawn.five) (sheets-of those kept.four kept.five) (notes-end these) (notes-end those)
+    (sheets-fit these drawn.four drawn.five e f) (sheets-fit those kept.four kept.five g h) (notes-follow these) (notes-follow those) sheets in
+    sym (sheets-papers these drawn.four drawn.five) ∙ (told ∙ sheets-papers those kept.four kept.five)
+
+-- pictures tell their papers
+pub pictures-tell : PicturesTellPapers
+pictures-tell shapes other these those present around e f g h is =
+    drawn-tell shapes other these those (drawn_of these present) (drawn_of those around) e f g h is
