@@ -2,7 +2,7 @@
  *
  * Each input and buffer ends where memory ends. In each round a call, its settings, its input and its room are drawn; settings,
  * decoders, receivers and printers are mostly lawful, and sometimes bytes of nothing. What every call has to keep is tested: a status of
- * 0 to 3 with the details that belong to it, a buffer that stays as it was behind the text and with every other status, inputs that stay,
+ * 0 to 3 with the details that belong to it, a buffer that stays as it was after the text and with every other status, inputs that stay,
  * and the same answer when it is asked again. Some allocations are refused. Status 0, else 1 and a line with the round. (tests/header.py
  * says which calls of the header are not here.) */
 #define _DEFAULT_SOURCE
@@ -376,7 +376,7 @@ static void test_marks(const char *call, const print1525_mark *marks, size_t len
     }
 }
 
-/* A printer as it was before some bytes, given them one by one: the same marks, and the same printer behind them. */
+/* A printer as it was before some bytes, given them one by one: the same marks, and the same printer after them. */
 static void test_one_by_one(print1525_printer *other, const uint8_t *bytes, size_t all, const print1525_mark *marks, size_t length, const print1525_printer *printer) {
     print1525_mark made[PRINT1525_MARKS_OF_A_BYTE];
     print1525_details details;

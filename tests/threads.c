@@ -21,7 +21,7 @@ typedef struct {
 
 static work alone, shared[THREADS];
 
-/* What a decoder, a receiver and a strict receiver give of edges, one behind the other. */
+/* What a decoder, a receiver and a strict receiver give of edges, one after the other. */
 static void receive(const print1525_edge *edges, size_t count, uint8_t *text, print1525_details *answer) {
     print1525_decoder decoder;
     print1525_receiver receiver;
@@ -47,7 +47,7 @@ static void receive(const print1525_edge *edges, size_t count, uint8_t *text, pr
     answer->length = length;
 }
 
-/* The pixels that a watched printer's marks make, byte by byte, and behind them those of bytes together. */
+/* The pixels that a watched printer's marks make, byte by byte, and after them those of bytes together. */
 static void print(uint8_t *text, print1525_details *answer) {
     static const print1525_region region = {0, 0, 300, 60};
     const size_t size = region.width * region.height;
