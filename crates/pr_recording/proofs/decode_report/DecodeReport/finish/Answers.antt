@@ -14,6 +14,6 @@ returns-then-is_some c =
 pub returns : goal.returns
 returns c =
     let none : is_some c.stop_at.result ≡ false = search rules in
-    let ended : Ended = record { lines = c.in_ok-lines.lines; odd = c.oddities-odd.result; refused = c.refused_by-refused.result } in
+    let ended : Ended = record { lines = c.in_ok-lines.lines; odd = c.oddities-odd-2.result; refused = c.refused_by-refused.result } in
     ends_whole c.args.trace c.args.is_checked c.args.self c.args.own c.finish-cut.result c.push_if.new.self c.finish-fault.result ended (sym c.stop_at.ensures ∙ not_some c.stop_at.result none) c.refused_by-refused.ensures c.finish-cut.ensures.read
-    c.finish-fault.ensures c.in_ok-push_if.ensures.accounted c.oddities-odd.ensures c.in_ok-lines.ensures
+    c.finish-fault.ensures c.in_ok-push_if.ensures.accounted c.oddities-odd-2.ensures c.in_ok-lines.ensures
