@@ -55,7 +55,8 @@
  * WHAT A CALLER CARRIES.
  * - Threads: no call keeps any state, so several threads may make calls at once.
  * - Stack: at most 4096 bytes of it for print1525_decoder_.., _receiver_.., _strict_.., _printer_.. and the calls under
- *   `Words` above; at most PRINT1525_STACK for each other call, print1525_edges among them.
+ *   `Words` above; at most PRINT1525_STACK for each other call, print1525_edges among them. Where functions of the C
+ *   library are bound at their first call (without `-z now`), the dynamic linker needs some 2500 bytes more then.
  * - Memory: malloc, realloc and free of one allocator, aligned as C demands. Where they give none, a call fails with
  *   PRINT1525_FAULT_NO_MEMORY and has freed what it took.
  * - Signal handlers: the calls with at most 4096 bytes of stack, which take no memory, and no others.
@@ -261,14 +262,16 @@ typedef struct {
     size_t length;
 } print1525_delays;
 
-/* The name of a signal in a dump or a table; without a byte it is the usual one: ATN, CLOCK or CLK, DATA. */
+/* The name of a signal in a dump or a table; without a byte it is the usual one: ATN, CLOCK or CLK, DATA. Two lines of
+ * one name are the same signal: unlike the program, no call refuses that. */
 typedef struct {
     const char *bytes;
     size_t length;
 } print1525_name;
 
-/* What the options of the program say. Begin with PRINT1525_SETTINGS_INIT, the program's own defaults, and change what
- * you want; each call says which settings it reads. A number that an option does not have is refused. */
+/* What the options of the program say. Begin with PRINT1525_SETTINGS_INIT and change what you want: it has the
+ * program's defaults, with a trace text for `recording`, as `check` (`decode` has PRINT1525_RECORDING_FOUND). Each call
+ * says which settings it reads. A number that an option does not have is refused. */
 typedef struct {
     size_t size;                      /* sizeof(print1525_settings) */
     uint8_t present;                  /* --present: enum print1525_present */
@@ -401,7 +404,8 @@ PRINT1525_CALL int print1525_reprint(const void *recording, size_t length, const
 /* Why a script is refused, as `--explain` says it: the place, a caret, and what is allowed there.
  *
  * Reads: a script, or a listing by from.
- * Gives: the text, and as `place` the line of the first fault; no text, and 0, where the script is not refused.
+ * Gives: the text, and as `place` the line of the first fault; no text, and 0, where the script is not refused, or only
+ * for its size (9).
  * Refuses: from (60), and a listing, as print1525_listing. */
 PRINT1525_CALL int print1525_explain_script(const void *script, size_t length, const print1525_settings *settings,
                                             void *buffer, size_t capacity, print1525_details *details);
@@ -462,7 +466,7 @@ typedef struct {
     uint64_t last_pull;                   /* CLOCK's last pull */
     uint8_t command;                      /* 1: a command; 0: a data byte */
     uint8_t eoi;                          /* 1: with end-or-identify */
-    uint8_t bits;                         /* how many bits came whole, at most eight */
+    uint8_t bits;                         /* how many bits came whole: at most eight; of a damaged decoder any number */
     uint8_t byte;                         /* their number, the lowest bit first */
 } print1525_byte;
 
@@ -680,7 +684,8 @@ PRINT1525_CALL int print1525_printer_select(print1525_printer *printer, uint8_t 
  * Reads: a printer that was begun.
  * Gives: the marks, `length` of them, at the front of `marks`: none, one, or those of a repeat. `capacity` counts
  * marks; PRINT1525_MARKS_OF_A_BYTE have room for those of any byte. Where the line ends, the printer's `y` grows.
- * Refuses: NULL (80). Where the buffer is too small (91) the byte is not taken, and the printer is as it was. */
+ * Refuses: NULL (80) and OVERLAP (81). Where the buffer is too small (91) the byte is not taken, and the printer is as
+ * it was. */
 PRINT1525_CALL int print1525_printer_byte(print1525_printer *printer, uint8_t byte, print1525_mark *marks,
                                           size_t capacity, print1525_details *details);
 
@@ -958,25 +963,29 @@ PRINT1525_OWN const char *print1525_own_counted(int fault) {
 
 PRINT1525_CALL size_t print1525_message(const print1525_details *details, char *text, size_t capacity) {
     print1525_own_text to = {text, capacity, 0};
+    /* (read before anything is written: the text may lie over the details) */
+    const int status = details != NULL ? details->status : PRINT1525_DONE;
+    const int fault = details != NULL ? details->fault : PRINT1525_FAULT_NONE;
+    const size_t place = details != NULL ? details->place : 0, column = details != NULL ? details->column : 0;
     if (text == NULL) to.capacity = 0;
-    if (details != NULL && details->status == PRINT1525_STOPPED) {
+    if (status == PRINT1525_STOPPED) {
         print1525_own_add(&to, "?");
-        print1525_own_add(&to, print1525_strerror(details->fault));
+        print1525_own_add(&to, print1525_strerror(fault));
         print1525_own_add(&to, "  ERROR (statement ");
-        print1525_own_add_number(&to, details->place);
+        print1525_own_add_number(&to, place);
         print1525_own_add(&to, ")");
-    } else if (details != NULL && details->status != PRINT1525_DONE) {
-        const char *const counted = print1525_own_counted(details->fault);
+    } else if (status != PRINT1525_DONE) {
+        const char *const counted = print1525_own_counted(fault);
         if (counted != NULL) {
             print1525_own_add(&to, counted);
-            print1525_own_add_number(&to, details->place);
-            if (details->column > 0) {
+            print1525_own_add_number(&to, place);
+            if (column > 0) {
                 print1525_own_add(&to, ", column ");
-                print1525_own_add_number(&to, details->column);
+                print1525_own_add_number(&to, column);
             }
             print1525_own_add(&to, ": ");
         }
-        print1525_own_add(&to, print1525_strerror(details->fault));
+        print1525_own_add(&to, print1525_strerror(fault));
     }
     if (to.capacity > 0) to.text[to.length < to.capacity ? to.length : to.capacity - 1] = '\0';
     return to.length;

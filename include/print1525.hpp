@@ -38,7 +38,7 @@ public:
     std::vector<print1525_edge> edges;
 };
 
-// Settings, which begin with the program's defaults. The characters, the names and the delays stay their owner's.
+// Settings, which begin as PRINT1525_SETTINGS_INIT. The characters, the names and the delays stay their owner's.
 struct settings : print1525_settings {
     settings() : print1525_settings PRINT1525_SETTINGS_INIT {}
     settings(print1525_page format) : settings() { page = static_cast<std::uint8_t>(format); }

@@ -30,11 +30,12 @@ export const leaveReads = () => { taken++; };
 
 /** Shows a file as what it seems to be. */
 export async function takeFile(file) {
-  const turn = ++taken;
+  const turn = ++taken, { source } = state, before = editor.area.value;
   taking++;
   try {
     const bytes = new Uint8Array(await file.arrayBuffer());
-    if (turn !== taken) return;                     // a later file was dropped by now
+    // By now a later file was dropped, something was typed, or the file on show was put away.
+    if (turn !== taken || source !== state.source || before !== editor.area.value) return;
     const why = refusalOf(bytes, file.name);
     tellOnce('file', why);
     if (!why) await take(bytes, file.name, kindOf(bytes, file.name));

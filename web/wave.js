@@ -314,7 +314,9 @@ export class Wave {
     const [unit, per] = step >= 1e6 ? ['s', 1e6] : step >= 1e3 ? ['ms', 1e3] : ['µs', 1];
     pen.font = `11px ${this.font}`;
     pen.textBaseline = 'top';
-    for (let moment = Math.ceil(this.from / step) * step; moment <= this.to; moment += step) {
+    // (counted: to a moment of some 2^64 a step adds nothing)
+    for (let n = 0, first = Math.ceil(this.from / step); n <= (this.to - this.from) / step && (first + n) * step <= this.to; n++) {
+      const moment = (first + n) * step;
       const x = Math.round(this.xOf(moment)) + .5;
       pen.strokeStyle = this.ink('line');
       pen.lineWidth = 1;

@@ -101,10 +101,17 @@ async function verdictOf(ask) {
   return answer.code === 2 && answer.edge >= 0 ? { isLawful: false, verdict: `not lawful: ${print1525.words(answer)}` } : UNKNOWN;
 }
 
+/** How many of these moments there are before time goes back, which no reading and no picture has. */
+function inOrder(times) {
+  const back = times.findIndex((time, index) => index > 0 && time < times[index - 1]);
+  return back < 0 ? times.length : back;
+}
+
 /** Keeps a recording, and gives its edges and what is said of it; `ask` has its bytes and their format. */
 async function keepWire(ask, said, verdict) {
-  const { times, levels } = await print1525.edges(ask), { readings } = await print1525.readings(ask), { intervals } = await print1525.intervals(ask);
-  const { kinds, since } = await print1525.edgeDelays(ask), { bytes, input = 'text' } = ask;
+  const all = await print1525.edges(ask), delays = await print1525.edgeDelays(ask), count = inOrder(all.times);
+  const [times, levels, kinds, since] = [all.times, all.levels, delays.kinds, delays.since].map(it => (count < it.length ? it.slice(0, count) : it));
+  const { readings } = await print1525.readings(ask), { intervals } = await print1525.intervals(ask), { bytes, input = 'text' } = ask;
   const frames = said.code === 3 ? [] : framesOf(readings, said.text), edges = { times, levels };
   Object.assign(wire, { run: running, bytes, input, starts: input === 'text' ? lineStarts(bytes) : null, edges, frames, readings: said.text });
   return { times: times.slice(), levels: levels.slice(), kinds, since, frames, counts: countsOf(frames), intervals, ...verdict };

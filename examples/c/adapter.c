@@ -30,7 +30,8 @@ int main(int words, char **word) {
     setvbuf(stdin, in, _IOFBF, sizeof in);
     setvbuf(stdout, out, _IOFBF, sizeof out);
 
-    if (print1525_strict_begin(&receiver, (uint8_t)(words > 1 ? atoi(word[1]) : 4)) != PRINT1525_DONE) {
+    const int device = words > 1 ? atoi(word[1]) : 4;
+    if (device != (uint8_t)device || print1525_strict_begin(&receiver, (uint8_t)device) != PRINT1525_DONE) {
         fprintf(stderr, "%s\n", print1525_strerror(PRINT1525_FAULT_NO_SUCH_DEVICE));
         return PRINT1525_REFUSED;
     }

@@ -24,11 +24,12 @@ int main(int words, char **word) {
     print1525_received received;
     print1525_edge edge;
     print1525_details details;
-    int got = 1, status = print1525_receiver_begin(&receiver, (uint8_t)(words > 1 ? atoi(word[1]) : 4));
+    const int device = words > 1 ? atoi(word[1]) : 4;
+    int got = 1, status = PRINT1525_DONE;
 
-    if (status != PRINT1525_DONE) {
+    if (device != (uint8_t)device || print1525_receiver_begin(&receiver, (uint8_t)device) != PRINT1525_DONE) {
         fprintf(stderr, "%s\n", print1525_strerror(PRINT1525_FAULT_NO_SUCH_DEVICE));
-        return status;
+        return PRINT1525_REFUSED;
     }
     while (status == PRINT1525_DONE && (got = next_edge(&edge)) > 0) {
         status = print1525_receiver_edge(&receiver, &edge, &received, &details);

@@ -137,15 +137,26 @@ def _message(details):
     return text.value.decode()
 
 
+def _number(value, most, what):
+    value = int(value)
+    if not 0 <= value <= most:
+        raise ValueError(f"{what} is no number from 0 to {most}: {value}")
+    return value
+
+
+def _numbers(values, what):
+    return (c_uint16 * len(values))(*(_number(it, 65535, what) for it in values))
+
+
 def _settings(words):
     """The structure of some settings, by their names (`from_` for `from`), values by name or number, delays as lists."""
     made = Settings(size=ctypes.sizeof(Settings), present=NAMES["present"].index("both"))
     for word, value in words.items():
         name = word.rstrip("_")
         if name in NAMES:
-            setattr(made, name, NAMES[name].index(value) if value in NAMES[name] else int(value))
+            setattr(made, name, NAMES[name].index(value) if value in NAMES[name] else _number(value, 255, word))
         elif name in NUMBERS:
-            setattr(made, name, int(value))
+            setattr(made, name, _number(value, 2**64 - 1, word))
         elif name in SIGNALS:
             value = value.encode() if isinstance(value, str) else bytes(value)
             setattr(made, name, Name(value, len(value)))
@@ -154,7 +165,7 @@ def _settings(words):
         elif name == "stopped":
             made.stopped = Details(status=STOPPED, fault=value.fault, place=value.place)
         elif name in ("computer_delays", "printer4_delays", "printer5_delays"):
-            setattr(made, name, Delays((c_uint16 * len(value))(*value), len(value)))
+            setattr(made, name, Delays(_numbers(value, word), len(value)))
         else:
             raise TypeError(f"no setting {word}")
     return made
@@ -198,10 +209,10 @@ def explain_stop(script, stopped, **settings):
 
 def print_inputs(inputs, **settings):
     """print1525_print: the page of a printer's inputs, bytes and SELECT_UPPER or SELECT_LOWER."""
-    return _text(_LIBRARY.print1525_print, (c_uint16 * len(inputs))(*inputs), len(inputs), settings)
+    return _text(_LIBRARY.print1525_print, _numbers(inputs, "an input"), len(inputs), settings)
 
 
-def edges(recording, **settings):
+def edges(recording, /, **settings):
     """The edges of a recording, each its microsecond and the levels of ATN, CLOCK and DATA; Refused has those before its fault."""
     recording, chosen, details, room = _bytes(recording), _settings(settings), Details(), 0
     while True:
@@ -236,7 +247,7 @@ def receive(edges, device=4):
     """What comes to a device on any bus: for each thing its kind (`listen`, `select`, `byte` or `unlisten`), the number of the
     byte or of the secondary address, and whether the byte is the last of its sender."""
     receiver, received, details = Receiver(), Received(), Details()
-    if _LIBRARY.print1525_receiver_begin(byref(receiver), device) != DONE:
+    if _LIBRARY.print1525_receiver_begin(byref(receiver), _number(device, 255, "a device")) != DONE:
         raise Refused(Details(status=REFUSED, fault=NO_SUCH_DEVICE))
     for edge in edges:
         if _LIBRARY.print1525_receiver_edge(byref(receiver), byref(Edge(*edge)), byref(received), byref(details)) != DONE:

@@ -343,7 +343,7 @@ pub enum Bounds {
     Guide = 1,
 }
 
-/// What the options of the program say; `default()` is the program's own.
+/// What the options of the program say; `default()` has the program's defaults, with a trace text for a recording.
 #[derive(Clone, Copy, Debug, Default)]
 pub struct Settings<'a> {
     pub present: Present,
