@@ -240,7 +240,7 @@ columns = record { atn = 1; clock = 2; line = 3 }
 abbrev layout : Separator → TimeUnit → Layout
 layout p u = record { columns = columns; separator = separator_byte p; scale = Timed (place_of_unit u) }
 
--- a moment of a table that starts at 0: none was told yet, or one was
+-- a moment of a table that starts at 0: none was given yet, or one was
 abbrev moment : (start : Option ℕ) → (before : ℕ) → Moment
 moment start before = record { start = start; before = before; count = 0 }
 

@@ -44,7 +44,7 @@ is_silent line = is_remark (without_space line)
 abbrev pub is_in_front : (line : List ℕ) → Bool
 is_in_front line = is_silent line || is_some (behind_word (codes "METAsamplerate") line)
 
--- what separates fields: the first comma, semicolon or tab of the line of the names tells it
+-- what separates fields: the first comma, semicolon or tab of the line of the names shows it
 abbrev pub is_separator : ℕ → Bool
 is_separator b = b == 44 || b == 59 || b == 9
 
@@ -167,7 +167,7 @@ sample_of c inverted number fields t =
     level_or number inverted Data (field_at c.line fields) >>= λ line.
     Ok (edge_at t atn clock line)
 
--- the moment of the first row: no start is known, no time was told, and no sample comes before it
+-- the moment of the first row: no start is known, no time was given, and no sample comes before it
 abbrev pub first_moment : Moment
 first_moment = record { start = None; before = 0; count = 0 }
 
@@ -187,7 +187,7 @@ abbrev pub instant_of_row : (unit : ℕ) → (first : Option (List ℕ)) → Opt
 instant_of_row unit None = None
 instant_of_row unit (Some f) = instant_in unit (without_front f)
 
--- that of the sample whose number it has, so many times
+-- that of the sample whose number, multiplied by `step`, it spells
 abbrev pub instant_of_number : (step rate : ℕ) → (first : Option (List ℕ)) → Option Instant
 instant_of_number step rate None = None
 instant_of_number step rate (Some f) = sample_in step rate (without_front f)
@@ -197,13 +197,13 @@ moment_of (Timed unit) number m fields = moment_at number m (instant_of_row unit
 moment_of (Numbered step rate) number m fields = moment_at number m (instant_of_number step rate (field_at 0 fields))
 moment_of (Counted rate) number m fields = moment_next number m (time_at_rate rate m.count)
 
--- what a row tells: its sample, and the moment from which the next row goes on
+-- what a row says: its sample, and the moment from which the next row goes on
 abbrev pub row_of : Layout → (inverted : Bool) → (number : ℕ) → Moment → (fields : List (List ℕ)) → Result Row CaptureFault
 row_of y inverted number m fields =
     moment_of y.scale number m fields >>= λ next.
     sample_of y.columns inverted number fields next.before >>= λ e. Ok (record { sample = e; moment = next })
 
--- a row's sample, and what is told after it
+-- a row's sample, and what is read after it
 abbrev pub contents_after_row : Result Row CaptureFault → (Moment → CaptureContents) → CaptureContents
 contents_after_row (Err f) rest = refused f
 contents_after_row (Ok r) rest = with_samples (r.sample ∷ []) (rest r.moment)
@@ -217,7 +217,7 @@ row_contents y inverted number m (l ∷ ls) =
 
 -- The whole.
 
--- what is told after the line of the names
+-- what is read after the line of the names
 abbrev pub named_contents : Result Layout CaptureFault → (Layout → CaptureContents) → CaptureContents
 named_contents (Err f) rest = refused f
 named_contents (Ok y) rest = rest y

@@ -111,7 +111,7 @@ no_remarks given = record { given = given; rate = None; bare = Some 0 }
 abbrev pub rate_known : Remarks → Option ℕ
 rate_known r = first_some r.given r.rate
 
--- after a rate: a remark of sigrok's, whatever sign it begins with, tells the unit of a bare word for time too
+-- after a rate: a remark of sigrok's, whatever sign it begins with, gives the unit of a bare word for time too
 abbrev pub with_rate : Remarks → (line : List ℕ) → (text : Option (List ℕ)) → Remarks
 with_rate r line None = r
 with_rate r line (Some text) = record {
@@ -130,7 +130,7 @@ abbrev pub remarked : Remarks → (line : List ℕ) → Remarks
 remarked r line = with_meta r line (behind_word (codes "METAsamplerate") line)
 
 -- Columns of times: sigrok-cli adds up the time of one sample, in whole units, rounded down. Where that lacks a part, its times are taken
--- for what they are: numbers of samples, so many times.
+-- for what they are: numbers of samples, multiplied by that time.
 
 abbrev pub is_this : (unit : ℕ) → Option ℕ → Bool
 is_this unit None = false
@@ -289,7 +289,7 @@ abbrev pub time_at_rate : (rate count : ℕ) → Option ℕ
 time_at_rate rate count =
     if not (rate == 0) && nat_lt (count + 1) 18446744073709551616 && nat_lt (count * 1000000 / rate) 18446744073709551616 then Some (count * 1000000 / rate) else None
 
--- A number of a sample, so many times: digits alone.
+-- The number of a sample, multiplied by `step`: digits alone.
 
 abbrev pub count_in : (text : List ℕ) → Option ℕ
 count_in l = if list_all is_framing (behind_digits l) then number_in l else None

@@ -1,7 +1,7 @@
 //! Reading tables of separated values, as logic analysers export them.
 //!
 //! The kit's crate `csv` does not fit: its reader owns its stream, while all three formats are read
-//! from the front of a block that somebody else has read (`take_front`), so that one loop serves
+//! from the front of a block that the caller has read (`take_front`), so that one loop serves
 //! them; its clauses do not say on which line a row is; and its quoted fields may hold line ends.
 
 ghost use Rattle.std.specs.Prelude.{◌≡◌, ◌+◌, ◌^◌, ◌<◌, ◌≤◌, ◌∷◌, [], false, true, None, Err, IfErr, IfOk, Ok, drop, length, option_copied, take, IfSome, Some};
@@ -53,7 +53,7 @@ pub struct Layout {
 /// Where the next row is in time.
 #[derive(Clone, Copy)]
 pub struct Moment {
-    /// How long before moment 0 the table starts, in microseconds, once a row has told it.
+    /// How long before moment 0 the table starts, in microseconds, once a row has shown it.
     pub start: Option<u64>,
     /// The time of the last row, in microseconds from the start on.
     pub before: u64,
@@ -437,7 +437,7 @@ fn sample_of(
     Ok(Edge { time, levels })
 }
 
-/// How many rows there were after so many more.
+/// How many rows there were after `rows` more.
 fn with_rows(count: u64, rows: usize) -> Option<u64>
     ensures { IfSome result (λ n. n ≡ count + rows) }
 {
@@ -490,7 +490,7 @@ impl Moment {
         })
     }
 
-    /// That of the row after so many more at a rate, if each of them has a time.
+    /// That of the row after `rows` more at a rate, if each of them has a time.
     pub fn skip(self, rate: u64, rows: usize) -> Option<Moment>
         ensures after { IfSome result (λ m. m ≡ moment_after rate self rows) }
         ensures timed { IfSome result (λ m. AreTimed rate self rows) }
@@ -527,7 +527,7 @@ impl Moment {
     }
 }
 
-/// What a row tells.
+/// What a row says.
 #[derive(Clone, Copy)]
 pub struct Row {
     pub sample: Edge,
@@ -535,7 +535,7 @@ pub struct Row {
     pub moment: Moment,
 }
 
-/// What a row after a moment tells.
+/// What a row after a moment says.
 fn row_of(
     layout: Layout,
     is_inverted: bool,
