@@ -43,7 +43,7 @@ use std::io::{Read, Write};
 /// - [`CliFault::NoMemory`]: memory was refused.
 ///
 /// With the first three the lines of all that is settled before the fault have been written. With every
-/// other error a beginning of what was to be written has been.
+/// other error a beginning of the whole text has been written.
 pub fn decode_over<R: Read, W: Write>(
     alloc: Global,
     input: &mut Watched<R>,
