@@ -22,7 +22,7 @@ use Rattle.pr_capture.specs.declared.signals.Signals.{Signals}
 use Rattle.pr_capture.specs.Recording.{◌>>=◌, ended, is_framing, is_named, level_in, refused, second_name, with_samples, without_front, CaptureContents}
 use Rattle.pr_capture.specs.Words.{is_space}
 use Rattle.pr_capture.specs.Numbers.{behind_word}
-use Rattle.pr_capture.specs.TableTimes.{from_start, has_numbers, instant_in, is_sample_word, is_time_alone, no_remarks, rate_known, remarked, sample_in, scale_of, start_of, time_at_rate, time_or, time_unit}
+use Rattle.pr_capture.specs.TableTimes.{bare_unit, from_start, has_numbers, instant_in, is_counting, no_remarks, rate_known, remarked, sample_in, scale_of, start_of, time_at_rate, time_or, time_unit}
 
 -- Lines and fields.
 
@@ -104,11 +104,10 @@ abbrev pub rate_or : (number : ℕ) → (rate : Option ℕ) → Result ℕ Captu
 rate_or number None = Err (NoTime number)
 rate_or number (Some rate) = Ok rate
 
--- the rate counts where the first column is another than one of times or of numbers. Beside a column that is called by a word
--- for these alone, but has none, only a rate that the caller gives counts
+-- the rate counts where the first column is another than one of times or of numbers
 abbrev pub rate_beside : Remarks → (first : Option (List ℕ)) → Option ℕ
 rate_beside r None = rate_known r
-rate_beside r (Some name) = if is_time_alone name || is_sample_word name then r.given else rate_known r
+rate_beside r (Some name) = if is_counting name then None else rate_known r
 
 -- a table without times: its first column has the numbers of samples, or it has a row a sample
 abbrev pub layout_beside : Signals → Remarks → (number separator : ℕ) → (numbers : Bool) → (fields : List (List ℕ)) → Result Layout CaptureFault
@@ -122,7 +121,7 @@ layout_beside s r number sep false fs =
 -- or with times in its first column, by their unit
 abbrev pub layout_by : Signals → Remarks → (number separator : ℕ) → (unit : Option ℕ) → (fields : List (List ℕ)) → Result Layout CaptureFault
 layout_by s r number sep (Some unit) fs =
-    columns_in s number 1 (drop 1 fs) >>= λ c. Ok (record { columns = c; separator = sep; scale = scale_of r unit })
+    columns_in s number 1 (drop 1 fs) >>= λ c. Ok (record { columns = c; separator = sep; scale = scale_of r unit (field_at 0 fs) })
 layout_by s r number sep None fs = layout_beside s r number sep (has_numbers r.bare (field_at 0 fs)) fs
 
 -- the unit of the first column, if it is one of times
@@ -131,7 +130,7 @@ unit_in bare None = None
 unit_in bare (Some name) = time_unit bare name
 
 abbrev pub layout_in : Signals → Remarks → (number separator : ℕ) → (fields : List (List ℕ)) → Result Layout CaptureFault
-layout_in s r number sep fs = layout_by s r number sep (unit_in r.bare (field_at 0 fs)) fs
+layout_in s r number sep fs = layout_by s r number sep (unit_in (bare_unit r) (field_at 0 fs)) fs
 
 -- the layout that a line names
 abbrev pub layout_of : Signals → Remarks → (number : ℕ) → (line : List ℕ) → Result Layout CaptureFault

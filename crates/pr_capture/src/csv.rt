@@ -16,7 +16,7 @@ use crate::entries::is_word;
 use crate::fault::{CaptureFault, Wire};
 use crate::last_row::LastRow;
 use crate::numbers::{behind_first, behind_word, first_of};
-use crate::remarks::{Remarks, has_numbers, is_sample_word, is_time_alone, scale_of, time_unit};
+use crate::remarks::{Remarks, has_numbers, is_counting, scale_of, time_unit};
 use crate::signals::{Signals, are_framing, is_named, is_space, level_in, without_front};
 use crate::times::{Instant, from_start, instant_in, sample_in, start_of, time_at_rate, time_or};
 use pr_wire::{Edge, Levels};
@@ -238,16 +238,15 @@ fn columns_in(
     Ok(Columns { atn, clock, line })
 }
 
-/// The rate of samples, where the first column is another than one of times or of numbers of samples, or has
-/// the name of one but none of them.
+/// The rate of samples, where the first column is another than one of times or of numbers.
 fn rate_beside(remarks: Remarks, first: Option<&[u8]>) -> Option<u64>
     ensures { result ≡ rate_beside remarks (option_copied first.entry) }
 {
     match first {
         None => remarks.rate_known(),
         Some(name) => {
-            if is_time_alone(name) || is_sample_word(name) {
-                remarks.given
+            if is_counting(name) {
+                None
             } else {
                 remarks.rate_known()
             }
@@ -318,7 +317,7 @@ fn layout_by(
             Ok(Layout {
                 columns,
                 separator,
-                scale: scale_of(remarks, unit),
+                scale: scale_of(remarks, unit, field_at(separator, line, 0)),
             })
         }
         None => {
@@ -340,7 +339,7 @@ fn layout_of(
 {
     let separator = separator_of(line);
     let (first, more) = split_field(separator, line);
-    let unit = time_unit(remarks.bare, first);
+    let unit = time_unit(remarks.bare_unit(), first);
     layout_by(signals, remarks, number, separator, unit, line, more)
 }
 

@@ -230,12 +230,12 @@ fn rule_of_tables(fault: CaptureFault) -> &'static str {
 fn rule_of_times(line: &[u8]) -> &'static str {
     let name = first_field(separator_of(line).unwrap_or(b','), line);
     if is_time_alone(name) {
-        "sigrok-cli writes 0 for all of these times: give the sample rate with --rate, such as --rate 4M, \
-         unless dedup=true left out rows"
+        "the unit of these times is not known, or sigrok-cli wrote 0 for all of them: write the table from \
+         a .sr file with sigrok's remarks and without --rate, or with a unit in this name, such as Time [s]"
     } else {
-        "expected a first column of times, such as Time [s] or microseconds; for a table without times \
-         give the sample rate with --rate, such as --rate 4M, or in a remark such as \
-         ; Samplerate: 4 MHz"
+        "expected a first column of times, such as Time [s] or microseconds; for one of numbers named \
+         Sample, or a table without either, give the sample rate with --rate, such as --rate 4M, or in a \
+         remark such as ; Samplerate: 4 MHz"
     }
 }
 
