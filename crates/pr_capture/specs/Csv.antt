@@ -121,7 +121,8 @@ layout_beside s r number sep false fs =
 -- or with times in its first column, by their unit
 abbrev pub layout_by : Signals → Remarks → (number separator : ℕ) → (unit : Option ℕ) → (fields : List (List ℕ)) → Result Layout CaptureFault
 layout_by s r number sep (Some unit) fs =
-    columns_in s number 1 (drop 1 fs) >>= λ c. Ok (record { columns = c; separator = sep; scale = scale_of r unit (field_at 0 fs) })
+    columns_in s number 1 (drop 1 fs) >>= λ c.
+    Ok (record { columns = c; separator = sep; scale = scale_of r unit (field_at 0 fs) })
 layout_by s r number sep None fs = layout_beside s r number sep (has_numbers r.bare (field_at 0 fs)) fs
 
 -- the unit of the first column, if it is one of times

@@ -49,18 +49,18 @@ time_unit bare l =
 abbrev pub begins : (word name : List ℕ) → Bool
 begins word l = is_some (behind_word word l)
 
--- a first column that is called so has times or numbers, never levels: Time (usec), Elapsed, Sample No., Row 1, n, or no name at all
+-- a first column that is called so has times or numbers, never levels: Time (usec), Elapsed, Sample No., Row, n, or nothing
 abbrev pub is_counting : (name : List ℕ) → Bool
 is_counting l =
-    begins (codes "time") l || begins (codes "elapsed") l || begins (codes "relative") l || begins (codes "sample") l || begins (codes "row") l
-    || begins (codes "index") l || begins (codes "number") l || spells (codes "t") l || spells (codes "n") l || spells (codes "nr") l
-    || spells (codes "no") l || list_all is_sign l
+    begins (codes "time") l || begins (codes "elapsed") l || begins (codes "relative") l || begins (codes "sample") l
+    || begins (codes "row") l || begins (codes "index") l || begins (codes "number") l || spells (codes "t") l
+    || spells (codes "n") l || spells (codes "nr") l || spells (codes "no") l || list_all is_sign l
 
 -- sigrok's own names for times: Time, or their unit in full
 abbrev pub is_sigrok_word : (name : List ℕ) → Bool
 is_sigrok_word l =
-    spells (codes "time") l || spells (codes "seconds") l || spells (codes "milliseconds") l || spells (codes "microseconds") l
-    || spells (codes "nanoseconds") l || spells (codes "picoseconds") l
+    spells (codes "time") l || spells (codes "seconds") l || spells (codes "milliseconds") l
+    || spells (codes "microseconds") l || spells (codes "nanoseconds") l || spells (codes "picoseconds") l
 
 abbrev pub is_sigrok_name : (first : Option (List ℕ)) → Bool
 is_sigrok_name None = false
@@ -128,8 +128,8 @@ no_remarks given = record { given = given; rate = None; bare = Some 0 }
 abbrev pub rate_known : Remarks → Option ℕ
 rate_known r = first_some r.given r.rate
 
--- the unit of a bare word for time: none where a caller gives a rate and no remark does, since sigrok's units go by the rate, and
--- other tools' are seconds
+-- the unit of a bare word for time: none where a caller gives a rate and no remark does, since sigrok's units go by the
+-- rate, and other tools' are seconds
 abbrev pub bare_unit : Remarks → Option ℕ
 bare_unit r = if is_some r.given && not (is_some r.rate) then None else r.bare
 
@@ -139,7 +139,8 @@ with_rate r line None = r
 with_rate r line (Some text) = record {
   given = r.given;
   rate = rate_in (without_signs text);
-  bare = if bytes_eq (take 11 (without_signs line)) (codes "Samplerate:") then unit_by (rate_in (without_signs text)) else r.bare;
+  bare = if bytes_eq (take 11 (without_signs line)) (codes "Samplerate:")
+      then unit_by (rate_in (without_signs text)) else r.bare;
 }
 
 -- the line that sigrok-cli puts in front of what it writes before it knows the rate, so that all its times are 0
