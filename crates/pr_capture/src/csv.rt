@@ -687,8 +687,8 @@ pub struct CsvReader<'a> {
 
 impl<'a> CsvReader<'a> {
     /// Makes a reader that has taken nothing of a text, with the rate of samples, in samples a second, that
-    /// the caller gives: a table whose first column has no times is read at it, whatever its remarks say. It
-    /// takes no memory.
+    /// the caller gives: a table whose first column has neither times nor other counts by its name is read at it,
+    /// whatever its remarks say. It takes no memory.
     pub fn new(alloc: Global, signals: Signals<'a>, rate: Option<u64>) -> CsvReader<'a>
         ensures read { HasReadTable signals.entry rate [] [] result }
         ensures number { line_number result ≡ 1 }

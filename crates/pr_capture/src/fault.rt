@@ -23,7 +23,8 @@ pub enum CaptureFault {
     /// No signal has the wire's name.
     #[error("line {0}: no signal {1}")]
     NoSignal(usize, Wire),
-    /// The first column of a table is not one of times, and no remark tells the rate of its samples.
+    /// The first column of a table is not one of times in a known unit: it has other counts by its name, or no rate of
+    /// samples is known.
     #[error("line {0}: no time")]
     NoTime(usize),
     /// A word that can not be here.
