@@ -54,7 +54,7 @@ function endOf(pages) {
 }
 
 /**
- * The lines of an explanation behind the listing's line and the caret below it: what was expected and what is there, without the
+ * The lines of an explanation after the listing's line and the caret below it: what was expected and what is there, without the
  * place, which the numbers of the fault say, and hints.
  */
 function explanationOf(told, { line, column, basicLine }) {
