@@ -43,7 +43,7 @@
  *
  * POINTERS. A pointer may be NULL where its length is 0. With another length NULL is refused (NULL_POINTER). A buffer
  * that overlaps what the call reads is refused (OVERLAP). Settings and details may be NULL: the settings of
- * PRINT1525_SETTINGS_INIT, and nobody wants the details. Structures may overlap: each is read before one is written,
+ * PRINT1525_SETTINGS_INIT, and no details are written. Structures may overlap: each is read before one is written,
  * and details are written last. What cannot be tested is the caller's part: at least `length` items can be read there,
  * or `capacity` items of a buffer written; a pointer to numbers is aligned for them; and during a call no other thread
  * writes what the call reads, or touches what it writes.
@@ -65,7 +65,7 @@
  *
  * STABLE in all versions 1: the names, numbers and structures above the line `The header's own code`, and what calls
  * give. A later version may add calls, numbers of faults, and settings at the end of print1525_settings, whose `size`
- * tells which there are. Not stable: names that begin with print1525_own_, and those that begin with print1525_plain_
+ * says which there are. Not stable: names that begin with print1525_own_, and those that begin with print1525_plain_
  * but for programs that are compiled already. */
 #ifndef PRINT1525_H
 #define PRINT1525_H
@@ -78,7 +78,7 @@
 #define PRINT1525_VERSION "1.0.0"
 #define PRINT1525_VERSION_NUMBER 10000
 
-/* As many bytes of stack at most any call takes. */
+/* The most bytes of stack that any call takes. */
 #define PRINT1525_STACK 98304
 
 #ifdef __cplusplus
@@ -104,7 +104,7 @@ enum print1525_status {
     PRINT1525_FAILED = 3   /* there is no memory, or no room in the buffer: the fault says which */
 };
 
-/* What a call reports beside its status. */
+/* What a call reports besides its status. */
 typedef struct {
     int32_t status; /* what it returned */
     int32_t fault;  /* one of enum print1525_fault; PRINT1525_FAULT_NONE with status 0 */
@@ -321,13 +321,13 @@ typedef struct {
  * Refuses: present (22), mode (23) and page with printer and sheet (24), in this order: SVG and PNG show any part of
  * the pages, PDF one printer, and the others all of them; characters, by their first bad line (52); from (60) and a
  * listing, as print1525_listing; a script above the limit (9), or by its first fault (1 to 7); after the run a sheet
- * that there is not (50), with how many there are, and a document that is too large (51). */
+ * that does not exist (50), with how many there are, and a document that is too large (51). */
 PRINT1525_CALL int print1525_pages(const void *script, size_t length, const print1525_settings *settings, void *buffer,
                                    size_t capacity, print1525_details *details);
 
 /* Runs a script and gives the trace of its run on the serial bus.
  *
- * Reads: what print1525_pages reads, with trace in the place of page, printer, sheet and characters.
+ * Reads: what print1525_pages reads, with trace instead of page, printer, sheet and characters.
  * Gives: the text that `print1525 bus` writes. Status 1 comes with the BASIC error that stopped the run.
  * Refuses: as print1525_pages. */
 PRINT1525_CALL int print1525_bus(const void *script, size_t length, const print1525_settings *settings, void *buffer,
@@ -630,7 +630,7 @@ PRINT1525_CALL int print1525_strict_edges(uint8_t device, const print1525_edge *
 
 /* -------------------------------------------------------------------------------- printers that are watched -- */
 
-/* As many marks at most as a byte makes: the columns of dots of a repeat. */
+/* The most marks that a byte makes: the columns of dots of a repeat. */
 #define PRINT1525_MARKS_OF_A_BYTE 255
 
 /* `kind` of a mark. */
@@ -726,7 +726,7 @@ PRINT1525_CALL int print1525_printer_draw(const print1525_mark *marks, size_t le
                                           uint8_t *pixels, size_t capacity, print1525_details *details);
 
 /* ------------------------------------------------------------------------------------------------------------ */
-/* The header's own code. No caller has to read on.                                                             */
+/* The header's own code. Callers need not read on.                                                             */
 /* ------------------------------------------------------------------------------------------------------------ */
 
 /* The size of each structure, on the one kind of machine that the library is for. */
@@ -1022,7 +1022,7 @@ PRINT1525_OWN int print1525_own_answer(print1525_details *details, print1525_pla
     }
 }
 
-/* How many bytes so many items have; as many as there can be, if they are too many. */
+/* The size of `count` items in bytes, or SIZE_MAX if it does not fit. */
 PRINT1525_OWN size_t print1525_own_room(size_t count, size_t size) {
     return count > SIZE_MAX / size ? SIZE_MAX : count * size;
 }
@@ -1072,7 +1072,7 @@ PRINT1525_OWN void print1525_own_name(print1525_own_call *call, print1525_name *
     name->length = length;
 }
 
-/* Unpacks what a call for a text is passed, an input of so many bytes. */
+/* Unpacks what a call for a text is passed: an input of `size` bytes, settings and a buffer. */
 PRINT1525_OWN print1525_own_call *print1525_own_begin(print1525_own_call *call, const void *input, size_t size,
                                                       const print1525_settings *settings, void *buffer,
                                                       size_t capacity) {
@@ -1391,7 +1391,7 @@ PRINT1525_CALL int print1525_edges(const void *recording, size_t length, const p
         return print1525_own_refuse(details, call.fault);
     answer = print1525_own_recording(&call, PRINT1525_OWN_EDGES, length, 0, capacity);
     count = answer.code == 0 || answer.code == 2 ? answer.length / 2 : 0;
-    /* Two numbers came in the place of each edge: its time, and its levels, which now lie in its first level. */
+    /* Each edge holds two numbers here: its time, and its three levels in one number, where its first level goes. */
     for (index = 0; index < count; index++) {
         const unsigned levels = edges[index].atn;
         edges[index].atn = levels >> 2 & 1;

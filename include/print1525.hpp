@@ -150,7 +150,7 @@ inline std::vector<print1525_edge> edges(std::string_view recording, const setti
     return made;
 }
 
-// A printer: it keeps what it receives, and gives its page when that is wanted.
+// A printer: it keeps what it receives, and gives its page when asked.
 class printer {
 public:
     void select(print1525_set set) {

@@ -224,8 +224,8 @@ static void try_size(const job *j, guarded buffer, size_t capacity, print1525_de
         is_wrong("another answer to a buffer of size", capacity);
 }
 
-/* With an allocation refused the answer is want of memory with an untouched buffer, or where the C library's refusal
- * does not matter, the same as ever. */
+/* With an allocation refused the call reports that there is no memory, and the buffer is untouched; or, where the C
+ * library's refusal does not matter, the answer is the same as ever. */
 static size_t try_refusals(const job *j, guarded buffer, size_t capacity, print1525_details true_answer, const uint8_t *text) {
     uint8_t *const front = buffer.bytes + buffer.size - capacity;
     size_t told = 0;
@@ -733,7 +733,7 @@ static void try_settings(void) {
         }
 }
 
-/* The call with no settings is that with the default ones, and details are as good as none. */
+/* A call without settings gives what the default ones give, with details or without. */
 static void try_defaults(const job *j, uint8_t *buffer, size_t capacity) {
     static const print1525_settings defaults = PRINT1525_SETTINGS_INIT;
     print1525_details given;
@@ -749,7 +749,7 @@ static void try_defaults(const job *j, uint8_t *buffer, size_t capacity) {
     free(other);
 }
 
-/* Pointers that are NULL beside a length of 0 are as good as others; beside another length they are refused, and so is memory that
+/* NULL pointers are accepted with a length of 0; with another length they are refused, and so is memory that
  * overlaps, with nothing changed. */
 static void try_pointers(void) {
     static const char *const names[] = {"pages", "bus", "listing", "raw", "print", "check", "decode", "reprint", "explain_script", "explain_stop", "explain_trace", "explain_reading"};
@@ -944,7 +944,7 @@ static void try_decoder_copy(placed_decoder at, const print1525_decoder *decoder
 }
 
 /* Memory of zeros is a decoder just begun. A decoder refuses an edge that is before the one taken last, with nothing changed; a byte that the
- * recording's end cuts is given by the end alone, as often as it is asked for. */
+ * recording's end cuts is given by the end alone, each time the end is asked for. */
 static void try_decoder(void) {
     static const char levels[] = "100110111101111101";
     static const print1525_edge later = {9, 1, 0, 1}, earlier = {8, 1, 1, 1};
@@ -1035,7 +1035,7 @@ static void try_edge_pointers(void) {
     if (!is_answer(details, PRINT1525_DONE, 0, 0, 0)) is_wrong("no room for no inputs", 0);
     print1525_strict_edges(4, edges, 3, (uint16_t *)(void *)(edges + 2), 1, &details);
     if (!is_answer(details, PRINT1525_REFUSED, PRINT1525_FAULT_OVERLAP, 0, 0)) is_wrong("edges that overlap the inputs", 0);
-    /* So many edges that the number of their bytes is none. */
+    /* More edges than a size_t has bytes for. */
     print1525_edges("0 111\n", 6, NULL, NULL, SIZE_MAX / 16 + 1, &details);
     if (!is_answer(details, PRINT1525_REFUSED, PRINT1525_FAULT_NULL_POINTER, 0, 0)) is_wrong("too many edges", 0);
     /* The edge is the decoder's own, and so is the place of the reading. */

@@ -1,6 +1,6 @@
 /* The printer that is watched (include/print1525.h): of a printer's inputs, a number in each line as print1525_print takes
  * them, it writes each mark: `Y X cell 65 lower reverse wide` or `Y X dots 42`, with `held` for the Y of a line that has
- * not ended. tests/library holds that against the program's list. On the way it tries the calls in other ways, and ends
+ * not ended. tests/library compares that with the program's list. On the way it tries the calls in other ways, and ends
  * with status 1 where they differ. */
 #include "print1525.h"
 #include <stdio.h>
@@ -70,7 +70,7 @@ static int refusals(void) {
     print1525_mark *const itself = (print1525_mark *)(void *)&printer;
     WANT(print1525_printer_byte(&printer, 65, itself, 1, &details) == PRINT1525_REFUSED && details.fault == PRINT1525_FAULT_OVERLAP);
     WANT(print1525_printer_bytes(&printer, "A", 1, itself, 1, &details) == PRINT1525_REFUSED && details.fault == PRINT1525_FAULT_OVERLAP);
-    // (so many items that the number of their bytes is none)
+    // (more items than a size_t has bytes for)
     const size_t many = SIZE_MAX / 16 + 1;
     WANT(print1525_printer_bytes(&printer, "A", 1, NULL, many, &details) == PRINT1525_REFUSED && details.fault == PRINT1525_FAULT_NULL_POINTER);
     WANT(print1525_printer_page(NULL, many, NULL, NULL, 0, &details) == PRINT1525_REFUSED && details.fault == PRINT1525_FAULT_NULL_POINTER);
@@ -80,7 +80,7 @@ static int refusals(void) {
     details.place = 7;
     WANT(print1525_printer_bytes(&printer, NULL, 0, NULL, 0, &details) == PRINT1525_DONE && details.place == 0 && details.length == 0);
     WANT(memcmp(&begun, &printer, sizeof printer) == 0);
-    /* Details that nobody wants: the bytes are taken all the same. */
+    /* Without details: the bytes are taken all the same. */
     WANT(print1525_printer_bytes(&begun, "AB", 2, mark, 2, NULL) == PRINT1525_DONE && begun.x == 12 && mark[1].value == 66);
     WANT(print1525_printer_bytes(&printer, "ABC", 3, mark, 2, &details) == PRINT1525_DONE && details.place == 2 && details.length == 2 && printer.x == 12);
     memset(mark, 0, sizeof mark);

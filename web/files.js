@@ -87,7 +87,7 @@ export function take(bytes, name, kind) {
   showFile({ bytes, name, kind, set: 0, names: ['ATN', 'CLOCK', 'DATA'], inverted: false, start: 0, rate: 0 });
 }
 
-/** Shows a file in the place of the listing, which is kept. */
+/** Shows a file instead of the listing, which is kept. */
 export function showFile(source) {
   state.source = source;
   wave.moved = false;

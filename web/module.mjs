@@ -13,11 +13,11 @@
 //     column      with code 2 the column of what petcat does not write, from 1, or 0
 //     edge        with code 2 the index of the edge of the fault, from 0, or -1
 //     text        what the program `print1525` writes on standard output; of a method whose name begins with
-//                 `explain` what its option --explain tells on standard error
+//                 `explain` what its option --explain writes on standard error
 //     sheets      where a sheet is asked for that there is not, how many there are, else 0
 //
 // The methods `edges`, `edgeDelays`, `readings`, `intervals`, `extremeDelays`, `statementLines`, `scriptFault`, `bounds` and
-// `task` give numbers in place of a text: see print1525.d.mts.
+// `task` give numbers instead of a text: see print1525.d.mts.
 //
 // The numbers are those of include/print1525.h, and for recordings those of crates/pr_web/src/answer.rt.
 // `module.words(answer)` says a stop or a fault in the program's words, and `module.faultName(answer)` without its place.
@@ -129,7 +129,7 @@ export const loadPrint1525 = (() => {
       return [BigInt(at), BigInt(items.length)];
     }
 
-    // Calls an export with these arguments, then a buffer with room for so many bytes or numbers, and the answer. `kind`
+    // Calls an export with these arguments, then a buffer with room for `room` bytes or numbers, and the answer. `kind`
     // says how many bytes each of them has, and what is made of them.
     function attempt(name, words, room, kind) {
       // A call frees all that it takes, so each begins with an empty heap.

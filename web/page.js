@@ -30,8 +30,8 @@ let jobs = 0;
 export let onPaper = 0;            // the number of the print whose sheets are shown
 
 /**
- * Gives the worker a job, and answers with its answer. `run` says of which run the answer is to be, by the number of its
- * print; the answer is null where the worker has another one by then.
+ * Gives the worker a job, and returns its answer. `run` says which run the answer has to be of, by the number of its
+ * print; the answer is null if the worker has another run by then.
  */
 export function ask(job, what, run = onPaper) {
   return new Promise((resolve, reject) => {

@@ -282,7 +282,7 @@ function trying(call, tellOf) {
 
 /** Does the job that words ask for, and gives the exit status. */
 async function run(words, files) {
-  const tell = text => { try { files.writeAll(2, Buffer.from(text)); } catch { /* there is nowhere to tell it */ } };
+  const tell = text => { try { files.writeAll(2, Buffer.from(text)); } catch { /* there is nowhere to report it */ } };
   const module = await openPrint1525().catch(error => { throw failed(error.message); });
   const job = readJob(module, words), characters = charactersOf(module, job, files);
   const inputFailed = error => (job.file === null ? failed('read failed') : failedFile(job.file, error));

@@ -1,4 +1,4 @@
-// The wave of ATN, CLOCK and DATA on a canvas, with the frames named over it, a time axis, and the whole of it in a
+// The wave of ATN, CLOCK and DATA on a canvas, with the frames named over it, a time axis, and the whole wave in a
 // strip below. What is drawn takes as long for a million edges as for a hundred: a column of pixels in which a line
 // turns more than once is one stroke.
 
@@ -80,7 +80,7 @@ export class Wave {
 
   pan(part) { const width = this.to - this.from; this.see(this.from + part * width, this.to + part * width); }
 
-  /** Chooses a frame and shows it; `onChoose` hears of it if `tell`. */
+  /** Chooses a frame and shows it; `onChoose` is called if `tell`. */
   choose(index, tell = true) {
     this.chosen = index;
     this.span = null;

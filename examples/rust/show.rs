@@ -1,7 +1,7 @@
 //! The pages of a script, converted: show [list|text|svg|png|pdf] < SCRIPT
 //! And a printer's page, as an emulator has it: show --bytes [list|text|svg|png|pdf] < BYTES
 //! And the acknowledged bytes of a recording, a trace text: show --decode < RECORDING
-//! And what comes to a device in it, as examples/c/receiver.c tells it: show --receive [DEVICE] < RECORDING
+//! And what comes to a device in it, as examples/c/receiver.c shows it: show --receive [DEVICE] < RECORDING
 mod print1525;
 
 use print1525::{Decoder, Error, Page, Printed, Printer, Received, Receiver, Settings};

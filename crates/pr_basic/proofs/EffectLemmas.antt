@@ -31,7 +31,7 @@ effect_adding e old working =
       screen = old.screen ++ e.screen;
     }) (ap length (sym working.in_step))
 
--- the status after LISTEN, as the channels and as the statement tell it
+-- the status after LISTEN, as the channels and as the statement have it
 listen_status : (file : File) (old : Seen) → IsWorking old → (adding (listen_to file ∷ []) old).status ≡ status_of old.present old.status old.elements (old.elements ++ listen_to file ∷ [])
 listen_status file old working = ap (λ n. cond (is_lacking old.present n (items_of (old.elements ++ listen_to file ∷ []))) 128 old.status) (ap length working.in_step)
 

@@ -18,7 +18,7 @@ use Rattle.pr_basic.proofs.ScriptFaults.{line_placed}
 use Rattle.pr_basic.proofs.ScriptsAgree.{numbered_complete}
 use Rattle.pr_basic.proofs.Spots.{part_spot}
 
--- what goes too far, told without its place
+-- what goes too far, without its place
 far_alone : (part : List Lexeme) (l : Lexeme) (ls : List Lexeme) → GoesTooFar part (l ∷ ls) → GoesTooFarAlone part
 far_alone part l ls (inl h) = (l, ls, inl h)
 far_alone part l ls (inr (inl h)) = (l, ls, inr (inl (h.0, λ e. h.1 ls (ap (λ v. v ∷ ls) e))))
@@ -43,7 +43,7 @@ no_device ls h rest e =
     let P : List Lexeme → Type 0 = λ v. NoNumber 4 30 v in
     subst P same h
 
--- faults outside lists, told without their place
+-- faults outside lists, without their place
 outside_alone : (f : LineFault) (spot : Spot) (part : List Lexeme) → IsFaultOutsideLists (f, spot) part → IsFaultOutsideListsAlone f part
 outside_alone UnknownWord spot part (inl h) = inl (h.0, h.1, h.2, h.3)
 outside_alone UnknownWord spot part (inr (inl h)) = inr (inl (far_alone part h.0 h.1 h.2))
@@ -70,7 +70,7 @@ outside_placed BadDevice part h = device_placed part h.0 h.1 h.2
 outside_placed BadSecond part h = (start_of h.0, (h.0, h.1, h.2, refl))
 outside_placed f part h = absurd h
 
--- faults of items, told without their place
+-- faults of items, without their place
 item_alone : (f : LineFault) (spot : Spot) (n : ℕ) (next : List Lexeme) → IsItemFault (f, spot) n next → IsItemFaultAlone f n next
 item_alone UnknownWord spot n next (inl h) = inl (h.0, h.1, h.2, h.3)
 item_alone UnknownWord spot n next (inr (inl h)) = inr (inl (h.0, h.1, h.2))
@@ -94,7 +94,7 @@ item_placed TooLong n next (inl h) = (within next (1 + length h.0), inl (h.0, h.
 item_placed TooLong n next (inr h) = (start_of next, inr (h.0, h.1, h.2, h.3, h.4, refl))
 item_placed f n next h = absurd h
 
--- a statement's fault, told without its place
+-- a statement's fault, without its place
 statement_alone : (f : LineFault) (spot : Spot) (part : List Lexeme) → IsStatementFault (f, spot) part → IsStatementFaultAlone f part
 statement_alone f spot part (inl h) = inl (outside_alone f spot part h)
 statement_alone f spot part (inr (list, h, g)) = inr (list, h, record { items = g.items; next = g.next; spelled = g.spelled; good = g.good; short = g.short; fault = item_alone f spot _ g.next g.fault })
@@ -106,7 +106,7 @@ statement_placed f part (inr (list, h, g)) =
     let p = item_placed f _ g.next g.fault in
     (p.0, inr (list, h, record { items = g.items; next = g.next; spelled = g.spelled; good = g.good; short = g.short; fault = p.1 }))
 
--- a part's fault, told without its place
+-- a part's fault, without its place
 part_alone : (room : ℕ) (f : LineFault) (spot : Spot) (part : List Lexeme) → IsPartFault room (f, spot) part → IsPartFaultAlone room f part
 part_alone room f spot part (inl h) = inl (ap (λ (p : Placed). p.0) h.0, h.1, h.2)
 part_alone room f spot part (inr h) = inr (statement_alone f spot part h.0, h.1)
@@ -116,7 +116,7 @@ part_placed : (room : ℕ) (f : LineFault) (part : List Lexeme) → IsPartFaultA
 part_placed room f part (inl h) = (start_of part, inl (ap (λ v. (v, start_of part)) h.0, h.1, h.2))
 part_placed room f part (inr h) = let p = statement_placed f part h.0 in (p.0, inr (p.1, h.1))
 
--- a fault of parts, told without its place
+-- a fault of parts, without its place
 parts_alone : (room : ℕ) (f : LineFault) (done : List Lexeme) (inside : ℕ) (ps : List (List Lexeme)) → ArePartsFault room f done inside ps → ArePartsFaultAlone room f ps
 parts_alone room f done inside ps g = record {
   before = g.before;
@@ -159,7 +159,7 @@ parts_placed room f ps g =
       };
     }
 
--- a line's fault, told without its place
+-- a line's fault, without its place
 line_alone : (room : ℕ) (f : LineFault) (column : ℕ) (line : List ℕ) → IsLineFault room f column line → IsLineFaultAlone room f line
 line_alone room f column line h = (h.lexemes, h.found, cases h.fault)
   where
@@ -189,7 +189,7 @@ line_back room f line (lexemes, found, inr h) =
     let n = numbered_complete lexemes h.0 h.1 in
     at_place room f line lexemes (n.0 ++ p.done) p.inside found (inr (h.0, n.0, p.done, h.1, n.2, p.fault, refl))
 
--- a script's fault, told without its place
+-- a script's fault, without its place
 script_alone : (bytes : List ℕ) (fault : ScriptFault) → IsFirstFault bytes fault → IsFirstFaultAlone bytes fault
 script_alone bytes fault (place, (f, number, g, e)) = (
   f,

@@ -20,7 +20,7 @@ status_in_one true false n = refl
 status_in_one false true n = refl
 status_in_one false false n = refl
 
--- in the kept mode, the status after more elements tells of all items
+-- in the kept mode, the status after more elements is that of all items
 pub kept_status : ItemsOnlyGrow → LackingInTwoParts → (present : Present) (before es : List Element) → status_of present (found_of Kept present before) before (before ++ es) ≡ found_of Kept present (before ++ es)
 kept_status grow two_parts present before es =
     let grown = grow before es in

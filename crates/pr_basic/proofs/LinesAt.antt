@@ -97,7 +97,7 @@ one_line text place start begin line other number count h k =
     let r = one_cut place 0 h.before k.before line other h.after k.after (sym h.cut ∙ k.cut) (omega (arith, h.from, h.begins)) (omega (arith, h.to, h.begins)) (omega (arith, k.from, k.begins)) (omega (arith, k.to, k.begins)) in
     (h.begins ∙ ap size_of r.0 ∙ sym k.begins, r.1, h.numbered ∙ ap (λ v. suc (length v)) r.0 ∙ sym k.numbered)
 
--- a first fault is in the line whose number it tells
+-- a first fault is in the line whose number it gives
 pub told : FaultsTellTheirLine
 told bytes fault place (f, number, g, e) =
     let short : g.column ≤ length (without_return g.line) = column_within _ f g.column (without_return g.line) g.fault in (

@@ -58,7 +58,7 @@ unless_then BadByte P Q k h = k h
 unless_then TooLong P Q k h = k h
 unless_then TooMany P Q k h = k h
 
--- a fault is told
+-- a fault is reported
 pub fails_of : {Y : Type 0} (e : Flaw) (said : Result Y Placed) → said ≡ Err (placed e) → Fails e said
 fails_of e said h = unless_of e.fault _ h
 

@@ -48,7 +48,7 @@ pub unspaced_here : (bs : List ℕ) (i : ℕ) → i < length bs → is_space (ge
 unfolding unspaced
 unspaced_here bs i h s = rw (drop-cons bs i 0, s) refl
 
--- nothing is left behind the last byte
+-- nothing is left after the last byte
 pub unspaced_none : (bs : List ℕ) (i : ℕ) → length bs ≤ i → [] ≡ unspaced (drop i bs)
 unfolding unspaced
 unspaced_none bs i h = rw (drop_all i bs h) refl

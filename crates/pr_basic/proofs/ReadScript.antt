@@ -18,7 +18,7 @@ use Rattle.pr_basic.proofs.ScriptFaults.{first_fault_read, script_fails}
 abbrev Whole : Type 0
 Whole = Result (List Statement) ScriptError
 
--- a fault but for want of memory is the first one
+-- a fault but for lack of memory is the first one
 pub refused : (bytes : List ℕ) (f : LineFault) (n place : ℕ) → FailsScript f n place (script_of bytes) → (at_number f n ≡ NoMemory) ⊎ IsFirstFaultAt bytes (at_number f n) place
 refused bytes line.UnknownWord n place h = inr (script_fails bytes line.UnknownWord n place h)
 refused bytes line.BadNumber n place h = inr (script_fails bytes line.BadNumber n place h)

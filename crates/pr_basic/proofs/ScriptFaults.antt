@@ -56,7 +56,7 @@ part_fault_read zero f part (inr h) = cases (is_begun part) refl
     cases false e = rw (e, statement_fault_read f part h.0) refl
 part_fault_read (suc room) f part (inr h) = counted_more (suc room) part (omega arith) ∙ statement_fault_read f part h.0
 
--- a fault of a part that is told by the lexemes before it
+-- a fault of a part that is placed by the lexemes before it
 in_part_err : {A : Type 0} (part : List Lexeme) (r : Result A Placed) (f : LineFault) (at : Passed) → in_part part r ≡ Err (f, at)
     → (spot : Spot) × (r ≡ Err (f, spot)) × (at.done ≡ take (length part - length spot.next) part) × (at.inside ≡ spot.inside)
 in_part_err part (Ok x) f at h = absurd (cc)
@@ -66,7 +66,7 @@ in_part_err part (Err (g, spot)) f at h =
     let place = ap (λ (p : LineFault × Passed). p.1) same in
     (spot, ap (λ v. Err (v, spot)) fault, ap (λ (p : Passed). p.done) (sym place), ap (λ (p : Passed). p.inside) (sym place))
 
--- a fault that is told after lexemes
+-- a fault that is reported after lexemes
 behind_err : {A : Type 0} (front : List Lexeme) (r : Result A (LineFault × Passed)) (f : LineFault) (at : Passed) → behind front r ≡ Err (f, at)
     → (there : Passed) × (r ≡ Err (f, there)) × (at.done ≡ front ++ there.done) × (at.inside ≡ there.inside)
 behind_err front (Ok x) f at h = absurd (cc)
@@ -310,7 +310,7 @@ placed_in room f at line h =
       cut = c.cut;
     }
 
--- a fault that is told in a line
+-- a fault that is reported in a line
 in_line_err : {A : Type 0} (line : List ℕ) (r : Result A (LineFault × Passed)) (f : LineFault) (column : ℕ) → in_line line r ≡ Err (f, column) → (at : Passed) × (r ≡ Err (f, at)) × (column ≡ column_of line at)
 in_line_err line (Ok x) f column h = absurd (cc)
 in_line_err line (Err (g, at)) f column h =
@@ -363,7 +363,7 @@ column_within room f column bytes h =
     let left : length h.left ≡ length (unspaced (past (length h.done) bytes)) = ap length (begins_past bytes h.done h.left h.begins) in
     omega (arith, h.at, left, p.inside)
 
--- a fault that is told of a line
+-- a fault that is reported of a line
 at_line_err : {A : Type 0} (n start : ℕ) (r : Result A (LineFault × ℕ)) (e : ScriptError) → at_line n start r ≡ Err e → (column : ℕ) × (r ≡ Err (e.fault, column)) × (e.number ≡ n) × (e.place ≡ start + column)
 at_line_err n start (Ok x) e h = absurd (cc)
 at_line_err n start (Err (f, column)) e h =
@@ -380,7 +380,7 @@ more_err : {E : Type 0} (r : Result (List Statement) E) (ss : List Statement) (e
 more_err (Ok x) ss e h = absurd (cc)
 more_err (Err f) ss e h = let k : f ≡ e = cc in ap Err k
 
--- a fault of lines, by what was told
+-- a fault of lines, by what was reported
 pub record AreFaultTold (n start room : ℕ) (e : ScriptError) (ls : List (List ℕ)) : Type 0 where
   pub number : ℕ
   pub place : ℕ
@@ -431,7 +431,7 @@ lines_fail n start room e (l ∷ ls) h = elim (bind_err (at_line n start (line_s
       }
 ]
 
--- a line's fault is told
+-- a line's fault is reported
 line_told : (n start room : ℕ) (f : LineFault) (column : ℕ) (l : List ℕ) (ls : List (List ℕ)) → line_statements room l ≡ Err (f, column) → lines_statements n start room (l ∷ ls) ≡ Err (record { fault = f; number = n; place = start + column })
 unfolding lines_statements
 line_told n start room f column l ls h = told (line_statements room l) h
@@ -440,7 +440,7 @@ line_told n start room f column l ls h = told (line_statements room l) h
         → (at_line n start r >>= λ ss. lines_statements (n + 1) (start + suc (length l)) (room - length ss) ls >>= λ more. Ok (ss ++ more)) ≡ Err (record { fault = f; number = n; place = start + column })
     told r e = rw e refl
 
--- a fault after a line is told
+-- a fault after a line is reported
 later_told : (n start room : ℕ) (e : ScriptError) (l : List ℕ) (ls : List (List ℕ)) (ss : List Statement) → line_statements room l ≡ Ok ss → lines_statements (n + 1) (start + suc (length l)) (room - length ss) ls ≡ Err e → lines_statements n start room (l ∷ ls) ≡ Err e
 unfolding lines_statements
 later_told n start room e l ls ss h k = told (line_statements room l) h

@@ -116,7 +116,7 @@ part_fails room bs rest f inside r h = unless_then f _ _ one h
         let front : take (length (here bs) - length (here rest)) (here bs) ≡ r.gone = front_taken (here bs) r.gone (here rest) r.goes_on in
         record { done = r.gone; told = part_step room (lexemes_of bs) ∙ rw (k, front) refl; left = r.is }
 
--- want of memory is told
+-- lack of memory is reported
 pub memory_fails : (f : LineFault) (P : Type 0) → f ≡ line.NoMemory → UnlessMemory f P
 memory_fails f P h = rw h tt
 
@@ -251,7 +251,7 @@ unfolding lines_statements lines_of
 script_ends now n start room [] h = ap Ok (append-nil now)
 script_ends now n start room (b ∷ bs) h = absurd (omega arith)
 
--- what is left behind the colon, by the part it ends
+-- what is left after the colon, by the part it ends
 pub left_on : (next : Option (Bor (List ℕ))) (rest bs : List ℕ) → IsRest rest bs → IfSome next (λ r. r.now ≡ past (suc (length (here rest))) rest) → IfSome next (λ r. r.now ≡ past (suc (length (here bs))) bs)
 left_on None rest bs h k = tt
 left_on (Some r) rest bs h k =

@@ -59,22 +59,22 @@ ok_of ss = Ok ss
 and_more_is : (s : Option Statement) (more ss : List Statement) → ok_of (and_more s more) ≡ ok_of ss → and_more s more ≡ ss
 and_more_is s more ss h = grind arith
 
--- what is told of a part was read
+-- what is reported of a part was read
 in_part_ok : {A : Type 0} (p : List Lexeme) (r : Result A Placed) (x : A) → in_part p r ≡ Ok x → r ≡ Ok x
 in_part_ok p (Ok y) x h = let e : y ≡ x = grind arith in ap Ok e
 in_part_ok p (Err e) x h = absurd (cc)
 
--- what is told after lexemes was read
+-- what is reported after lexemes was read
 behind_ok : {A : Type 0} (front : List Lexeme) (r : Result A (LineFault × Passed)) (x : A) → behind front r ≡ Ok x → r ≡ Ok x
 behind_ok front (Ok y) x h = let e : y ≡ x = grind arith in ap Ok e
 behind_ok front (Err e) x h = absurd (cc)
 
--- what is told of a line was read
+-- what is reported of a line was read
 in_line_of : {A : Type 0} (line : List ℕ) (r : Result A (LineFault × Passed)) (x : A) → in_line line r ≡ Ok x → r ≡ Ok x
 in_line_of line (Ok y) x h = let e : y ≡ x = grind arith in ap Ok e
 in_line_of line (Err e) x h = absurd (cc)
 
--- what is told of a script's line was read
+-- what is reported of a script's line was read
 at_line_of : {A : Type 0} (n start : ℕ) (r : Result A (LineFault × ℕ)) (x : A) → at_line n start r ≡ Ok x → r ≡ Ok x
 at_line_of n start (Ok y) x h = let e : y ≡ x = grind arith in ap Ok e
 at_line_of n start (Err e) x h = absurd (cc)
@@ -101,7 +101,7 @@ parts_complete room (p ∷ ps) ss (inr h) few =
     let rest : statements_in (room - 1) ps ≡ Ok h.1 = parts_complete (room - 1) ps h.1 h.4 (omega (arith, ap length h.3, few)) in
     rw (one, rest, h.3) refl
 
--- what is told of a line number
+-- what is reported of a line number
 ok_pair : (a b : List Lexeme × List Lexeme) (r : Result (List Lexeme × List Lexeme) (LineFault × Passed)) → r ≡ Ok a → r ≡ Ok b → a ≡ b
 ok_pair a b r h k = cc
 

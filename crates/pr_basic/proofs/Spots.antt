@@ -22,7 +22,7 @@ pub record IsSpot (part : List Lexeme) (spot : Spot) : Type 0 where
   pub ends : EndsWith part spot.next
   pub fits : Fits spot
 
--- the whole of a part
+-- a whole part
 whole : (part : List Lexeme) → EndsWith part part
 whole part = record { front = []; cut = refl }
 

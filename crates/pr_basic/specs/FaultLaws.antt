@@ -7,13 +7,13 @@ use Rattle.pr_basic.specs.LineAt.{IsLineAt}
 use Rattle.pr_basic.specs.declared.fault.LineFault.{LineFault}
 use Rattle.pr_basic.specs.declared.fault.ScriptFault.{ScriptFault}
 
--- a text has a first fault exactly where it has it by rules that tell no place
+-- a text has a first fault exactly where it has it by rules that give no place
 abbrev pub PlacesChangeNoFault : Type 0
 PlacesChangeNoFault = (bytes : List ℕ) (fault : ScriptFault)
     → (IsFirstFault bytes fault → IsFirstFaultAlone bytes fault)
     × (IsFirstFaultAlone bytes fault → IsFirstFault bytes fault)
 
--- the first fault of a text is in a line, whose number it tells
+-- the first fault of a text is in a line, whose number it gives
 abbrev pub FaultsTellTheirLine : Type 0
 FaultsTellTheirLine = (bytes : List ℕ) (fault : ScriptFault) (place : ℕ) → IsFirstFaultAt bytes fault place
     → (f : LineFault) × (start : ℕ) × (line : List ℕ) × (number : ℕ) × IsLineAt bytes place start line number

@@ -99,7 +99,7 @@ line_in bytes ends (Word word.Chr ∷ OpenParen ∷ ls) = Err (BadNumber, start_
 line_in bytes ends (Word word.Chr ∷ ls) = Err (UnknownWord, start_of ls)
 line_in bytes ends (l ∷ ls) = Err (UnknownWord, start_of (l ∷ ls))
 
--- an optional list after a file; a comma wants a list that is not empty
+-- an optional list after a file; a comma needs a list that is not empty
 unfoldable pub optional_line_in : List Lexeme → Result Text Placed
 optional_line_in [] = Ok (record { bytes = []; ends = true })
 optional_line_in (Comma ∷ []) = Err (UnknownWord, start_of [])

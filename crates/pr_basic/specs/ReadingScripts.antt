@@ -50,7 +50,7 @@ abbrev pub and_more : Option Statement → List Statement → List Statement
 and_more None ss = ss
 and_more (Some s) ss = s ∷ ss
 
--- the fault of a part, told by the lexemes before its place
+-- the fault of a part, placed by the lexemes before it
 abbrev pub in_part : {A : Type 0} → List Lexeme → Result A Placed → Result A (LineFault × Passed)
 in_part part (Ok x) = Ok x
 in_part part (Err (f, at)) = Err (f, record { done = take (length part - length at.next) part; inside = at.inside })

@@ -45,7 +45,7 @@ UnlessMemory BadByte said = said
 UnlessMemory TooLong said = said
 UnlessMemory TooMany said = said
 
--- a fault but for want of memory is the grammar's
+-- a fault but for lack of memory is the grammar's
 abbrev pub Fails : {Y : Type 0} → Flaw → Result Y Placed → Type 0
 Fails e said = UnlessMemory e.fault (said ≡ Err (placed e))
 
@@ -77,7 +77,7 @@ pub record StandsIn {Y : Type 0} (f : LineFault) (rest : List ℕ) (inside : ℕ
   pub told : said ≡ Err (f, record { done = done; inside = inside })
   pub left : rest ≡ past (length done) line
 
--- a fault but for want of memory is the line's
+-- a fault but for lack of memory is the line's
 abbrev pub FailsIn : {Y : Type 0} → Flaw → List ℕ → Result Y (LineFault × Passed) → Type 0
 FailsIn e line said = UnlessMemory e.fault (StandsIn e.fault e.rest.now e.inside line said)
 
@@ -91,6 +91,6 @@ abbrev pub still : ℕ → Option (Bor (List ℕ)) → Result (List Statement) (
 still room None = Ok []
 still room (Some rest) = statements_in room (parts (lexemes_of rest.now))
 
--- a fault with a line's number and a place is the script's, but for want of memory
+-- a fault with a line's number and a place is the script's, but for lack of memory
 abbrev pub FailsScript : {X : Type 0} → LineFault → ℕ → ℕ → Result X ScriptError → Type 0
 FailsScript f n place said = UnlessMemory f (said ≡ Err (record { fault = f; number = n; place = place }))

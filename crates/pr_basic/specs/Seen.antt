@@ -1,4 +1,4 @@
--- Linking words: a lexeme of the code, without where its bytes lie. No reader needs to believe it.
+-- Linking words: a lexeme of the code, without the place of its bytes. No reader needs to believe it.
 use Rattle.pr_basic.specs.Lexemes as spec
 use Rattle.pr_basic.specs.declared.lexemes.Lexeme.{Lexeme}
 use Rattle.pr_basic.specs.declared.lexemes.Lexeme.TheVariants.{Word, Remark, Digits, Quoted, Comma, Semicolon, Colon, OpenParen, CloseParen, Stray}

@@ -22,7 +22,7 @@ use Rattle.pr_basic.specs.Statements.{Setting, effect_of, status_of}
 use Rattle.pr_basic.specs.Performing.{found_by}
 use Rattle.pr_basic.specs.Runs.{found_of}
 
--- the items sent in a statement: those after the items of what stood before it
+-- the items sent in a statement: those after the items sent before it
 abbrev pub sent_in : List Element → List Element → List Item
 sent_in before all = drop (length (items_of before)) (items_of all)
 
@@ -81,7 +81,7 @@ StatusFoundNext =
     ≡ found_of mode present before →
     found_by mode (status_of present found before (before ++ es)) ≡ found_of mode present (before ++ es)
 
--- a statement sends its items after those of what stood before it
+-- a statement sends its items after those sent before it
 abbrev pub SentAfterEarlier : Type 0
 SentAfterEarlier =
     (before es : List Element) → items_of (before ++ es) ≡ items_of before ++ sent_in before (before ++ es)

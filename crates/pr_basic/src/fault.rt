@@ -6,7 +6,7 @@ ghost use Rattle.pr_basic.specs.FaultPlaces.{at_number};
 use thiserror::Error;
 
 /// The first fault of a script from the left, with the number of its line, counted from 1; or
-/// want of memory, which can come at any point. The rules are the profile's.
+/// lack of memory, which can come at any point. The rules are the profile's.
 #[derive(Clone, Copy, Debug, PartialEq, Eq, Error)]
 pub enum ScriptFault {
     /// No keyword where a statement must begin, a byte that cannot go on the statement, a comma of

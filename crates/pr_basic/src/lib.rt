@@ -3,7 +3,7 @@
 //!
 //! [`read_script`] is Ok exactly on the bytes that the grammar of `specs/Grammar.antt` relates to a
 //! list of statements, with that list, and otherwise answers the first fault, as
-//! `specs/Faults.antt` defines it, or want of memory. [`perform`] performs one statement:
+//! `specs/Faults.antt` defines it, or lack of memory. [`perform`] performs one statement:
 //! `specs/Statements.antt` says what it gives, and `specs/Runs.antt` what a list of statements gives.
 //!
 //! `statement` has the types that both halves share. `lexemes`, `numbers`, `lists`, `reader` and

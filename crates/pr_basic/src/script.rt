@@ -84,7 +84,7 @@ pub fn read_script_at(alloc: Global, bytes: &[u8]) -> Result<Vec<Statement>, Fau
     Ok(statements)
 }
 
-/// Takes the statements of a line, or tells its first fault and how many of its bytes come before.
+/// Takes the statements of a line, or reports its first fault and how many of its bytes come before.
 fn read_line(
     alloc: Global,
     statements: &mut Vec<Statement>,

@@ -1,4 +1,4 @@
-//! What a run of statements keeps beside the channels.
+//! What a run of statements keeps besides the channels.
 
 ghost use Rattle.std.specs.Prelude.{◌≡◌};
 
@@ -12,7 +12,7 @@ pub enum StatusMode {
     Kept,
 }
 
-/// What a run of statements keeps beside the channels. Its fields are public, since every channel
+/// What a run of statements keeps besides the channels. Its fields are public, since every channel
 /// number is allowed.
 #[derive(Clone, Copy, Debug, PartialEq, Eq)]
 pub struct Session {

@@ -39,7 +39,7 @@ done-answered before t first second h = by t.four.present t.five.present h
 abbrev rests : Lines → Lines → List all.TimedPrinter → Lines
 rests x y ls = elim ls [ [] ↦ x | p ∷ qs ↦ y ]
 
--- the numbers that printers have taken do not tell who listens
+-- the numbers that printers have taken do not show who listens
 lines-taking : (before : List Item) (n : ℕ) (ps : List all.TimedPrinter) (x y : Lines)
     → rests x y (listening before (map (taking n) ps)) ≡ rests x y (listening before ps)
 lines-taking before n [] x y = refl

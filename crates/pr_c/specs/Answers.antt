@@ -120,7 +120,7 @@ wave_numbers (wave.Shape at) = (15, at)
 wave_numbers (wave.Truncated at) = (16, at)
 wave_numbers wave.NoMemory = (0, 0)
 
--- a picture that there is not, by its number, and how many sheets there are or 0
+-- a picture that does not exist, by its number, and how many sheets there are or 0
 abbrev pub picture_numbers : PictureFault → ℕ × ℕ
 picture_numbers (picture.NoSuchSheet sheets) = (50, sheets)
 picture_numbers picture.TooLarge = (51, 0)

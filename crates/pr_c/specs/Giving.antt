@@ -13,7 +13,7 @@ use Rattle.pr_c.specs.Answers.{Stopping}
 use Rattle.pr_c.specs.declared.told.Told.{Told}
 use Rattle.pr_c.specs.declared.told.Told.TheVariants.{Written, TooSmall, Refused, NoInput}
 
--- a fault of memory to memory: nothing but want of memory makes a read or a write there fail
+-- a fault of memory to memory: nothing but lack of memory makes a read or a write there fail
 abbrev pub in_memory : CliFault → CliFault
 in_memory (Script fault) = Script fault
 in_memory (Trace fault) = Trace fault
@@ -50,7 +50,7 @@ abbrev pub FindsStop : StatusMode → Present → List ℕ → Result Stopping C
 FindsStop mode present script found =
     (statements : List Statement) → IsScript script statements → IsFound (run_of mode present statements).stop found
 
--- in place of the ending of a run that was made is its stop
+-- instead of the ending of a run that was made there is its stop
 abbrev pub GivesStop : StatusMode → Present → List ℕ → Result Ending CliFault → Result Stopping CliFault → Type 0
 GivesStop mode present script (Ok Done) found = found ≡ Ok None
 GivesStop mode present script (Ok Stopped) found = FindsStop mode present script found

@@ -1,4 +1,4 @@
--- Trusted: the text of a script that a listing has, for a C caller: what is told of it, and what the buffer holds.
+-- Trusted: the text of a script that a listing has, for a C caller: what is said of it, and what the buffer holds.
 use Rattle.std.specs.Prelude.{◌≡◌, ℕ, ◌<◌, ◌≤◌, ◌⊎◌, List, ◌++◌, length, drop}
 use Rattle.pr_listing.specs.Forms.{HasNoText, HasText}
 use Rattle.pr_listing.specs.declared.fault.ListingFault.TheVariants.{NoAddress, CutOff, UnknownName, BadByte, NoMemory}
@@ -8,7 +8,7 @@ use Rattle.pr_c.specs.declared.listings.Listed.{Listed}
 use Rattle.pr_c.specs.declared.listings.Listed.TheVariants.{Written, TooSmall, Refused}
 use Rattle.pr_c.specs.declared.told.Answer.{Answer}
 
--- what is told of a listing in this form: its text is in front of the buffer, and the rest as it was; or it has no room there; or there is
+-- what is said of a listing in this form: its text is in front of the buffer, and the rest as it was; or it has no room there; or there is
 -- none, or memory was refused
 abbrev pub TellsText : ListingForm → List ℕ → (old new : List ℕ) → Listed → Type 0
 TellsText form bytes old new (Written n) =
@@ -18,7 +18,7 @@ TellsText form bytes old new (TooSmall n) =
 TellsText form bytes old new (Refused fault) =
     ((fault ≡ NoMemory) ⊎ HasNoText form bytes fault) × (new ≡ old)
 
--- a refusal with its fault's number and its line, and the column in the place of a length
+-- a refusal with its fault's number and its line, and the column instead of a length
 abbrev pub at_column : (fault line column : ℕ) → Answer
 at_column fault line column = record { code = 2; fault = fault; place = line; length = column }
 

@@ -1,5 +1,5 @@
 //! The calls, over the crates' own types. A failed read of a slice, or a failed write to a `Vec`,
-//! is want of memory, since nothing else can make it fail.
+//! is lack of memory, since nothing else can make it fail.
 
 ghost use Rattle.std.specs.Prelude.{◌≡◌, length};
 ghost use Rattle.pr_c.specs.Answers.{IsBusText, IsFramesText, IsPagesRefusal, IsPagesText, IsPaperRefusal, IsPaperText, IsScriptRefusal, IsTraceRefusal, Tells};

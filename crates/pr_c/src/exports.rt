@@ -164,7 +164,7 @@ pub extern "C" fn print1525_pages_with(
 /// characters of a file.
 ///
 /// It does what [`print1525_pages_with`] does. `device` is 4 or 5 for the pages of one printer, `sheet` is the number
-/// of one sheet from 1; 0 means all of them. A format that cannot show this part is refused as one that there is not,
+/// of one sheet from 1; 0 means all of them. A format that cannot show this part is refused as one that does not exist,
 /// and a sheet that the pages do not have is refused with how many they have.
 #[unsafe(no_mangle)]
 pub extern "C" fn print1525_pages_part(

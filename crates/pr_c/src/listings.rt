@@ -55,7 +55,7 @@ fn at_column(fault: usize, line: usize, column: usize) -> Answer
     }
 }
 
-/// What is told of a listing, as numbers.
+/// What a listing gives, as numbers.
 pub fn answer_for(listed: Listed) -> Answer
     ensures { result ≡ answer_for listed }
 {

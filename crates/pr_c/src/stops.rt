@@ -15,7 +15,7 @@ use pr_system::{NoMemory, Running};
 use pr_wire::Choices;
 use std::alloc::Global;
 
-/// The error that stopped a run that was made of a script, if one did, in place of its ending. A
+/// The error that stopped a run that was made of a script, if one did, instead of its ending. A
 /// script that stopped is run again to find its error: no delay changes where a run stops.
 pub fn with_stop(
     alloc: Global,

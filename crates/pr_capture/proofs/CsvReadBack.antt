@@ -18,7 +18,7 @@ use Rattle.pr_capture.specs.declared.fault.Wire.TheVariants.{Atn, Clock, Data}
 use Rattle.pr_capture.specs.declared.signals.Signals.{Signals}
 use Rattle.pr_capture.specs.Csv.{clock_name, column_in, column_of, csv_contents, fields_of, first_contents, first_moment, is_in_front, is_silent, layout_by, layout_in, layout_of, moment_at, opened, row_contents, row_of, sample_of, separator_of}
 use Rattle.pr_capture.specs.Numbers.{number_from, number_of_first, onward, with_zeros}
-use Rattle.pr_capture.specs.TableTimes.{instant_in, micros_of, no_remarks, start_of, time_unit}
+use Rattle.pr_capture.specs.TableTimes.{bare_unit, instant_in, micros_of, no_remarks, start_of, time_unit}
 use Rattle.pr_capture.specs.CsvLaws.{InOrder, csv_names, csv_of, csv_row, csv_rows, digits_of, level_byte, separator_byte, time_field, time_name, Separator, TimeUnit}
 use Rattle.pr_capture.specs.CsvLaws.Separator.{Comma, Semicolon, Tab}
 use Rattle.pr_capture.specs.CsvLaws.TimeUnit.{Seconds, Milliseconds, Microseconds, Nanoseconds, Picoseconds}
@@ -240,7 +240,7 @@ columns = record { atn = 1; clock = 2; line = 3 }
 abbrev layout : Separator → TimeUnit → Layout
 layout p u = record { columns = columns; separator = separator_byte p; scale = Timed (place_of_unit u) }
 
--- a moment of a table that starts at 0: none was told yet, or one was
+-- a moment of a table that starts at 0: none was given yet, or one was
 abbrev moment : (start : Option ℕ) → (before : ℕ) → Moment
 moment start before = record { start = start; before = before; count = 0 }
 
@@ -382,12 +382,12 @@ names-are Tab Microseconds = record { inner = refl; loud = refl; opens = refl; s
 names-are Tab Nanoseconds = record { inner = refl; loud = refl; opens = refl; separator = refl; fields = refl }
 names-are Tab Picoseconds = record { inner = refl; loud = refl; opens = refl; separator = refl; fields = refl }
 
-unit-read : (u : TimeUnit) → time_unit (Some 0) (time_name u) ≡ Some (place_of_unit u)
-unit-read Seconds = refl
-unit-read Milliseconds = refl
-unit-read Microseconds = refl
-unit-read Nanoseconds = refl
-unit-read Picoseconds = refl
+unit-read : (bare : Option ℕ) (u : TimeUnit) → time_unit bare (time_name u) ≡ Some (place_of_unit u)
+unit-read bare Seconds = refl
+unit-read bare Milliseconds = refl
+unit-read bare Microseconds = refl
+unit-read bare Nanoseconds = refl
+unit-read bare Picoseconds = refl
 
 names-read : (p : Separator) (u : TimeUnit) (s : Signals) (rate : Option ℕ) → IsAsWritten s
     → layout_of s (no_remarks rate) 1 (csv_names (separator_byte p) u) ≡ Ok (layout p u)
@@ -401,7 +401,7 @@ names-read p u s rate h =
     let line : column_in 1 Data s.line.now 1 fs ≡ Ok 3 = ap (λ v. column_in 1 Data v 1 fs) h.line in
     ap (λ b. layout_in s (no_remarks rate) 1 b (fields_of b false (csv_names sep u))) n.separator
     ∙ (ap (layout_in s (no_remarks rate) 1 sep) n.fields
-    ∙ (ap (λ o. layout_by s (no_remarks rate) 1 sep o (time_name u ∷ fs)) (unit-read u)
+    ∙ (ap (λ o. layout_by s (no_remarks rate) 1 sep o (time_name u ∷ fs)) (unit-read (bare_unit (no_remarks rate)) u)
     ∙ rw (atn, clock, line) refl))
 
 -- the first line names the columns

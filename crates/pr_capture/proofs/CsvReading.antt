@@ -76,7 +76,7 @@ held-more old new bytes a b c d e i = λ s rate text samples h. record {
       ∙ ap (with_samples samples) (rw (a, b, c, d) (ap (λ l. contents_from old.signals old.place old.number (lines_of l)) (sym (append_assoc old.line.items bytes more)))));
 }
 
--- what is told of a line that ends, and of what follows
+-- what is read of a line that ends, and of what follows
 line-told : (s : Signals) (rate : Option ℕ) (r : CsvReader) (line text : List ℕ) (samples : List Edge) → line ≡ r.line.items → HasReadTable s rate text samples r → (more : List ℕ)
     → csv_contents s rate ((text ++ 10 ∷ []) ++ more) ≡ with_samples samples (contents_from r.signals r.place r.number (line ∷ lines_of more))
 line-told s rate r line text samples e h more =
@@ -183,7 +183,7 @@ pub ended-rows : (r : CsvReader) (y : Layout) (m : Moment) → r.line.items ≡ 
 unfolding lines_of
 ended-rows r y m e p = λ s rate text samples h. ap (csv_contents s rate) (sym (append-nil text)) ∙ (h.told [] ∙ rw (e, p) refl)
 
--- an end of the last line tells nothing
+-- an end of the last line says nothing
 same-end : (s : Signals) (rate : Option ℕ) (r : CsvReader) (text : List ℕ) (samples : List Edge) → HasReadTable s rate text samples r → 0 < length r.line.items
     → csv_contents s rate text ≡ csv_contents s rate (text ++ 10 ∷ [])
 unfolding lines_of

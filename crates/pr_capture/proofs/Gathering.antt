@@ -53,7 +53,7 @@ gathered-more old new s result a b c d = λ start samples edges h more.
     ∙ (ap (λ v. edges ++ v) (still-one old new s result a b c d more)
     ∙ sym (append_assoc edges (listed result) (still_to_come new more))))
 
--- samples with levels that were told make no edge
+-- samples with levels that were reported make no edge
 known-drop : (told : Option Levels) (l : Levels) (xs ys : List Edge) → is_new told l ≡ false → AllHave l xs
     → changes_after told (last_at_each (xs ++ ys)) ≡ changes_after told (last_at_each ys)
 known-drop told l [] ys n h = refl

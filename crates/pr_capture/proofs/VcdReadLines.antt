@@ -85,7 +85,7 @@ coded code = record { code = Some (code ∷ []); bit = None; other = None }
 abbrev pub written : Codes
 written = record { atn = coded 65; clock = coded 67; second = nothing; line = coded 68 }
 
--- what a text tells that goes on here, among the changes
+-- what a text says that goes on here, among the changes
 abbrev pub told_here : Signals → (n : ℕ) → Seen → (text : List ℕ) → CaptureContents
 told_here s n seen text = piece_contents s (end_line n text) (Changes 1000000000 written seen) (pieces_behind Nothing (words_behind n [] text))
 
@@ -140,7 +140,7 @@ with_line seen l = record { time = seen.time; atn = seen.atn; clock = seen.clock
 abbrev sampled : Seen → List Edge
 sampled seen = listed (sample_in seen.time seen.atn seen.clock seen.line)
 
--- what is told after a change
+-- what is read after a change
 abbrev told_with : Signals → Seen → (n : ℕ) → (rest : List ℕ) → CaptureContents
 told_with s seen n rest = with_samples (sampled seen) (told_here s (n + 1) seen rest)
 
@@ -260,7 +260,7 @@ reads-behind s i b (e ∷ es) small h =
 
 -- The head.
 
--- what a text tells that goes on here
+-- what a text says that goes on here
 told_place : Signals → (n : ℕ) → Place → (text : List ℕ) → CaptureContents
 told_place s n p text = piece_contents s (end_line n text) p (pieces_behind Nothing (words_behind n [] text))
 

@@ -72,7 +72,7 @@ held-more old new bytes a b c d i = λ s text samples h. record {
       ∙ rw (a, b, c, d) refl)));
 }
 
--- what is told of white space, and of what follows
+-- what is read of white space, and of what follows
 space-told : (r : VcdReader) (b : ℕ) (more : List ℕ) → is_space b ≡ true
     → contents_left r (b ∷ more)
     ≡ word_contents r.signals (end_line (line_behind r.number b) more) r.progress (word_of r.number r.letters.items ++ words_behind (line_behind r.number b) [] more)
@@ -168,12 +168,12 @@ faulty-front old mid block len f some holds (inr faults) = inr (λ s text sample
 
 -- The end.
 
--- what is told of a text that ends here
+-- what is read of a text that ends here
 end-told : (r : VcdReader) (s : Signals) (text : List ℕ) (samples : List Edge) → HasReadDump s text samples r
     → vcd_contents s text ≡ with_samples samples (word_contents r.signals r.number r.progress (word_of r.number r.letters.items))
 end-told r s text samples h = ap (vcd_contents s) (sym (append-nil text)) ∙ h.told []
 
--- what is told of the last words
+-- what is read of the last words
 last-told : (s : Signals) (ws : List Word) (old new : VcdParser) (sample : Option Edge) → ReadsWords s ws old (Ok sample) new
     → (end : ℕ) → word_contents s end old ws ≡ with_samples (listed sample) (word_contents s end new [])
 last-told s ws old new sample r end = ap (λ v. word_contents s end old v) (sym (append-nil ws)) ∙ r end []

@@ -22,7 +22,7 @@ use Rattle.pr_capture.specs.declared.signals.Signals.{Signals}
 use Rattle.pr_capture.specs.Recording.{◌>>=◌, ended, is_framing, is_named, level_in, refused, second_name, with_samples, without_front, CaptureContents}
 use Rattle.pr_capture.specs.Words.{is_space}
 use Rattle.pr_capture.specs.Numbers.{behind_word}
-use Rattle.pr_capture.specs.TableTimes.{from_start, has_numbers, instant_in, is_sample_word, is_time_alone, no_remarks, rate_known, remarked, sample_in, scale_of, start_of, time_at_rate, time_or, time_unit}
+use Rattle.pr_capture.specs.TableTimes.{bare_unit, from_start, has_numbers, instant_in, is_counting, no_remarks, rate_known, remarked, sample_in, scale_of, start_of, time_at_rate, time_or, time_unit}
 
 -- Lines and fields.
 
@@ -44,7 +44,7 @@ is_silent line = is_remark (without_space line)
 abbrev pub is_in_front : (line : List ℕ) → Bool
 is_in_front line = is_silent line || is_some (behind_word (codes "METAsamplerate") line)
 
--- what separates fields: the first comma, semicolon or tab of the line of the names tells it
+-- what separates fields: the first comma, semicolon or tab of the line of the names shows it
 abbrev pub is_separator : ℕ → Bool
 is_separator b = b == 44 || b == 59 || b == 9
 
@@ -104,11 +104,10 @@ abbrev pub rate_or : (number : ℕ) → (rate : Option ℕ) → Result ℕ Captu
 rate_or number None = Err (NoTime number)
 rate_or number (Some rate) = Ok rate
 
--- the rate counts where the first column is another than one of times or of numbers. Beside a column that is called by a word
--- for these alone, but has none, only a rate that the caller gives counts
+-- the rate counts where the first column is another than one of times or of numbers
 abbrev pub rate_beside : Remarks → (first : Option (List ℕ)) → Option ℕ
 rate_beside r None = rate_known r
-rate_beside r (Some name) = if is_time_alone name || is_sample_word name then r.given else rate_known r
+rate_beside r (Some name) = if is_counting name then None else rate_known r
 
 -- a table without times: its first column has the numbers of samples, or it has a row a sample
 abbrev pub layout_beside : Signals → Remarks → (number separator : ℕ) → (numbers : Bool) → (fields : List (List ℕ)) → Result Layout CaptureFault
@@ -122,7 +121,8 @@ layout_beside s r number sep false fs =
 -- or with times in its first column, by their unit
 abbrev pub layout_by : Signals → Remarks → (number separator : ℕ) → (unit : Option ℕ) → (fields : List (List ℕ)) → Result Layout CaptureFault
 layout_by s r number sep (Some unit) fs =
-    columns_in s number 1 (drop 1 fs) >>= λ c. Ok (record { columns = c; separator = sep; scale = scale_of r unit })
+    columns_in s number 1 (drop 1 fs) >>= λ c.
+    Ok (record { columns = c; separator = sep; scale = scale_of r unit (field_at 0 fs) })
 layout_by s r number sep None fs = layout_beside s r number sep (has_numbers r.bare (field_at 0 fs)) fs
 
 -- the unit of the first column, if it is one of times
@@ -131,7 +131,7 @@ unit_in bare None = None
 unit_in bare (Some name) = time_unit bare name
 
 abbrev pub layout_in : Signals → Remarks → (number separator : ℕ) → (fields : List (List ℕ)) → Result Layout CaptureFault
-layout_in s r number sep fs = layout_by s r number sep (unit_in r.bare (field_at 0 fs)) fs
+layout_in s r number sep fs = layout_by s r number sep (unit_in (bare_unit r) (field_at 0 fs)) fs
 
 -- the layout that a line names
 abbrev pub layout_of : Signals → Remarks → (number : ℕ) → (line : List ℕ) → Result Layout CaptureFault
@@ -167,7 +167,7 @@ sample_of c inverted number fields t =
     level_or number inverted Data (field_at c.line fields) >>= λ line.
     Ok (edge_at t atn clock line)
 
--- the moment of the first row: no start is known, no time was told, and no sample comes before it
+-- the moment of the first row: no start is known, no time was given, and no sample comes before it
 abbrev pub first_moment : Moment
 first_moment = record { start = None; before = 0; count = 0 }
 
@@ -187,7 +187,7 @@ abbrev pub instant_of_row : (unit : ℕ) → (first : Option (List ℕ)) → Opt
 instant_of_row unit None = None
 instant_of_row unit (Some f) = instant_in unit (without_front f)
 
--- that of the sample whose number it has, so many times
+-- that of the sample whose number, multiplied by `step`, it spells
 abbrev pub instant_of_number : (step rate : ℕ) → (first : Option (List ℕ)) → Option Instant
 instant_of_number step rate None = None
 instant_of_number step rate (Some f) = sample_in step rate (without_front f)
@@ -197,13 +197,13 @@ moment_of (Timed unit) number m fields = moment_at number m (instant_of_row unit
 moment_of (Numbered step rate) number m fields = moment_at number m (instant_of_number step rate (field_at 0 fields))
 moment_of (Counted rate) number m fields = moment_next number m (time_at_rate rate m.count)
 
--- what a row tells: its sample, and the moment from which the next row goes on
+-- what a row says: its sample, and the moment from which the next row goes on
 abbrev pub row_of : Layout → (inverted : Bool) → (number : ℕ) → Moment → (fields : List (List ℕ)) → Result Row CaptureFault
 row_of y inverted number m fields =
     moment_of y.scale number m fields >>= λ next.
     sample_of y.columns inverted number fields next.before >>= λ e. Ok (record { sample = e; moment = next })
 
--- a row's sample, and what is told after it
+-- a row's sample, and what is read after it
 abbrev pub contents_after_row : Result Row CaptureFault → (Moment → CaptureContents) → CaptureContents
 contents_after_row (Err f) rest = refused f
 contents_after_row (Ok r) rest = with_samples (r.sample ∷ []) (rest r.moment)
@@ -217,7 +217,7 @@ row_contents y inverted number m (l ∷ ls) =
 
 -- The whole.
 
--- what is told after the line of the names
+-- what is read after the line of the names
 abbrev pub named_contents : Result Layout CaptureFault → (Layout → CaptureContents) → CaptureContents
 named_contents (Err f) rest = refused f
 named_contents (Ok y) rest = rest y

@@ -47,7 +47,7 @@ FaultsIn bytes old f =
     (s : Signals) (rate : Option ℕ) (text : List ℕ) (samples : List Edge) → HasReadTable s rate text samples old
     → (more : List ℕ) → csv_contents s rate ((text ++ bytes) ++ more) ≡ with_samples samples (refused f)
 
--- such a fault, or want of memory
+-- such a fault, or lack of memory
 abbrev pub RefusesTable : (bytes : List ℕ) → (old : CsvReader) → CaptureFault → Type 0
 RefusesTable bytes old f = (f ≡ NoMemory) ⊎ FaultsIn bytes old f
 

@@ -39,7 +39,7 @@ fields_left sep (Some l) = fields_of sep false l
 abbrev pub is_inner : ℕ → Bool
 is_inner b = not (b == 10)
 
--- what lines tell from a place on
+-- what lines say from a place on
 abbrev pub contents_from : Signals → RowPlace → (number : ℕ) → List (List ℕ) → CaptureContents
 contents_from s (First given) number ls = first_contents s given number ls
 contents_from s (Names r) number ls = line_contents s r number ls
@@ -162,12 +162,12 @@ pub record IsRepeat (inverted : Bool) (y : Layout) (number : ℕ) (m : Moment) (
   pub loud : is_silent line ≡ false
   pub reads : row_of y inverted number m (fields_of y.separator false line) ≡ Ok row
 
--- these bytes so many times, one after the other
+-- this many copies of these bytes, one after the other
 abbrev pub copies : ℕ → List ℕ → List ℕ
 copies zero bytes = []
 copies (suc n) bytes = bytes ++ copies n bytes
 
--- the moment after one row more at a rate, and after so many
+-- the moment after one row more at a rate, and after this many
 abbrev pub moment_beyond : (rate : ℕ) → Moment → Moment
 moment_beyond rate m = record { start = m.start; before = m.count * 1000000 / rate; count = m.count + 1 }
 
@@ -181,7 +181,7 @@ AreTimed rate m zero = Unit {0}
 AreTimed rate m (suc n) =
     (time_at_rate rate m.count ≡ Some (m.count * 1000000 / rate)) × (m.before ≤ m.count * 1000000 / rate) × AreTimed rate (moment_beyond rate m) n
 
--- these bytes are such rows with the levels of the last, so many, which makes this of a moment
+-- these bytes are such rows with the levels of the last, this many, and the last makes this of the moment
 abbrev pub IsRun : (inverted : Bool) → Layout → (number : ℕ) → Moment → (bytes : List ℕ) → (count : ℕ) → (last : Row) → Type 0
 IsRun inverted y number m bytes zero last = ⊥
 IsRun inverted y number m bytes (suc zero) last = IsRepeat inverted y number m bytes last
@@ -189,7 +189,7 @@ IsRun inverted y number m bytes (suc (suc n)) last =
     (first : Row) × (front : List ℕ) × (rest : List ℕ) × (bytes ≡ front ++ rest) × IsRepeat inverted y number m front first
     × (first.sample.levels ≡ last.sample.levels) × IsRun inverted y (number + 1) first.moment rest (suc n) last
 
--- what is told yet, if a text goes on so
+-- what is still to be read, if a text goes on so
 abbrev pub contents_left : CsvReader → (more : List ℕ) → CaptureContents
 contents_left r more = contents_from r.signals r.place r.number (lines_of (r.line.items ++ more))
 

@@ -16,12 +16,12 @@ abbrev pub edge_at_end : (held : Option Edge) → (told : Option Levels) → Opt
 edge_at_end None told = None
 edge_at_end (Some h) told = if is_new told h.levels then Some h else None
 
--- the levels that were told last
+-- the levels that were reported last
 abbrev pub told_with : (told : Option Levels) → Option Edge → Option Levels
 told_with told None = told
 told_with told (Some e) = Some e.levels
 
--- the levels of the sample held, if they were told already
+-- the levels of the sample held, if they were reported already
 abbrev pub settled_by : (held : Option Edge) → (told : Option Levels) → Option Levels
 settled_by None told = None
 settled_by (Some h) told = if is_new told h.levels then None else Some h.levels

@@ -1,5 +1,5 @@
 -- Trusted: times in a table: their unit, by the name of their column; the rate of samples, by a remark; and what a field spells.
-use Rattle.std.specs.Prelude.{ℕ, ◌+◌, ◌-◌, ◌*◌, ◌/◌, ◌%◌, ◌==◌, ◌&&◌, ◌||◌, Bool, true, false, not, List, [], ◌∷◌, codes, drop, length, nat_le, nat_lt, take, if◌then◌else◌, Option, Some, None, Result, Ok, Err}
+use Rattle.std.specs.Prelude.{ℕ, ◌+◌, ◌-◌, ◌*◌, ◌/◌, ◌%◌, ◌==◌, ◌&&◌, ◌||◌, Bool, true, false, not, List, [], ◌∷◌, codes, drop, is_some, length, nat_le, nat_lt, take, if◌then◌else◌, Option, Some, None, Result, Ok, Err}
 use Rattle.std.specs.List.{list_all}
 use Rattle.std.specs.Str.{bytes_eq}
 use Rattle.pr_base.specs.Digits.{is_digit}
@@ -45,11 +45,28 @@ time_unit bare l =
     (first_some (unit_behind bare (behind_word (codes "t") l))
     (unit_of l)))
 
--- a column is called by a word for time alone
-abbrev pub is_time_alone : (name : List ℕ) → Bool
-is_time_alone l = spells (codes "timestamp") l || spells (codes "time") l || spells (codes "t") l
+-- a name begins with a word
+abbrev pub begins : (word name : List ℕ) → Bool
+begins word l = is_some (behind_word word l)
 
--- or by one for the number of a sample
+-- a first column that is called so has times or numbers, never levels: Time (usec), Elapsed, Sample No., Row, n, or nothing
+abbrev pub is_counting : (name : List ℕ) → Bool
+is_counting l =
+    begins (codes "time") l || begins (codes "elapsed") l || begins (codes "relative") l || begins (codes "sample") l
+    || begins (codes "row") l || begins (codes "index") l || begins (codes "number") l || spells (codes "t") l
+    || spells (codes "n") l || spells (codes "nr") l || spells (codes "no") l || list_all is_sign l
+
+-- sigrok's own names for times: Time, or their unit in full
+abbrev pub is_sigrok_word : (name : List ℕ) → Bool
+is_sigrok_word l =
+    spells (codes "time") l || spells (codes "seconds") l || spells (codes "milliseconds") l
+    || spells (codes "microseconds") l || spells (codes "nanoseconds") l || spells (codes "picoseconds") l
+
+abbrev pub is_sigrok_name : (first : Option (List ℕ)) → Bool
+is_sigrok_name None = false
+is_sigrok_name (Some name) = is_sigrok_word name
+
+-- a column is called by a word for the number of a sample
 abbrev pub is_sample_word : (name : List ℕ) → Bool
 is_sample_word l =
     spells (codes "sample") l || spells (codes "samples") l || spells (codes "sampleindex") l || spells (codes "samplenumber") l || spells (codes "index") l
@@ -111,13 +128,19 @@ no_remarks given = record { given = given; rate = None; bare = Some 0 }
 abbrev pub rate_known : Remarks → Option ℕ
 rate_known r = first_some r.given r.rate
 
--- after a rate: a remark of sigrok's, whatever sign it begins with, tells the unit of a bare word for time too
+-- the unit of a bare word for time: none where a caller gives a rate and no remark does, since sigrok's units go by the
+-- rate, and other tools' are seconds
+abbrev pub bare_unit : Remarks → Option ℕ
+bare_unit r = if is_some r.given && not (is_some r.rate) then None else r.bare
+
+-- after a rate: a remark of sigrok's, whatever signs it begins with, gives the unit of a bare word for time too
 abbrev pub with_rate : Remarks → (line : List ℕ) → (text : Option (List ℕ)) → Remarks
 with_rate r line None = r
 with_rate r line (Some text) = record {
   given = r.given;
   rate = rate_in (without_signs text);
-  bare = if bytes_eq (take 12 (drop 1 line)) (codes " Samplerate:") then unit_by (rate_in (without_signs text)) else r.bare;
+  bare = if bytes_eq (take 11 (without_signs line)) (codes "Samplerate:")
+      then unit_by (rate_in (without_signs text)) else r.bare;
 }
 
 -- the line that sigrok-cli puts in front of what it writes before it knows the rate, so that all its times are 0
@@ -130,16 +153,17 @@ abbrev pub remarked : Remarks → (line : List ℕ) → Remarks
 remarked r line = with_meta r line (behind_word (codes "METAsamplerate") line)
 
 -- Columns of times: sigrok-cli adds up the time of one sample, in whole units, rounded down. Where that lacks a part, its times are taken
--- for what they are: numbers of samples, so many times.
+-- for what they are: numbers of samples, multiplied by that time.
 
 abbrev pub is_this : (unit : ℕ) → Option ℕ → Bool
 is_this unit None = false
 is_this unit (Some u) = u == unit
 
--- the rate of sigrok's remark, if this is the unit that it has for it
-abbrev pub own_rate : Remarks → (unit : ℕ) → (rate : Option ℕ) → Option ℕ
-own_rate r unit None = None
-own_rate r unit (Some n) = if is_this unit r.bare && is_this unit (unit_by (Some n)) then Some n else None
+-- the rate of sigrok's remark, if this is the unit that it has for it, and the first column has a name of sigrok's
+abbrev pub own_rate : Remarks → (unit : ℕ) → (first : Option (List ℕ)) → (rate : Option ℕ) → Option ℕ
+own_rate r unit first None = None
+own_rate r unit first (Some n) =
+    if is_sigrok_name first && is_this unit r.bare && is_this unit (unit_by (Some n)) then Some n else None
 
 -- a second has this many units
 abbrev pub scale_by : (unit rate : ℕ) → (second : Option ℕ) → Scale
@@ -151,8 +175,8 @@ scale_at unit None = Timed unit
 scale_at unit (Some rate) = scale_by unit rate (with_zeros unit 1)
 
 -- what the first column has, whose name is of times in this unit
-abbrev pub scale_of : Remarks → (unit : ℕ) → Scale
-scale_of r unit = scale_at unit (own_rate r unit r.rate)
+abbrev pub scale_of : Remarks → (unit : ℕ) → (first : Option (List ℕ)) → Scale
+scale_of r unit first = scale_at unit (own_rate r unit first r.rate)
 
 -- it has numbers of samples; but none after the line that sigrok-cli puts in front, since all are 0 then
 abbrev pub has_numbers : (bare : Option ℕ) → (first : Option (List ℕ)) → Bool
@@ -289,7 +313,7 @@ abbrev pub time_at_rate : (rate count : ℕ) → Option ℕ
 time_at_rate rate count =
     if not (rate == 0) && nat_lt (count + 1) 18446744073709551616 && nat_lt (count * 1000000 / rate) 18446744073709551616 then Some (count * 1000000 / rate) else None
 
--- A number of a sample, so many times: digits alone.
+-- The number of a sample, multiplied by `step`: digits alone.
 
 abbrev pub count_in : (text : List ℕ) → Option ℕ
 count_in l = if list_all is_framing (behind_digits l) then number_in l else None

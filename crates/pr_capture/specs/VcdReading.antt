@@ -133,7 +133,7 @@ one_bit None = None
 one_bit (Some bit) = Some (Some bit)
 
 -- whether a signal is wanted, by its path and its size; and which of its bits, where it has more than one, by how many
--- stand on its right
+-- are on its right
 abbrev pub bit_wanted : (wanted path size : List ℕ) → Option (Option ℕ)
 bit_wanted wanted path size =
     if bytes_eq size (codes "1") then (if has_path wanted path then Some None else None)
@@ -238,7 +238,7 @@ abbrev pub scale_or : (line : ℕ) → Option ℕ → Result ℕ CaptureFault
 scale_or line None = Err (NoTimescale line)
 scale_or line (Some scale) = Ok scale
 
--- a section `$timescale` has to tell one
+-- a section `$timescale` has to give one
 abbrev pub scale_told : (line : ℕ) → Option ℕ → Result ℕ CaptureFault
 scale_told line None = Err (BadTimescale line)
 scale_told line (Some scale) = Ok scale

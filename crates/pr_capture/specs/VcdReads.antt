@@ -18,7 +18,7 @@ ReadsMore bytes sample old new =
     (s : Signals) (text : List ℕ) (samples : List Edge) → HasReadDump s text samples old
     → HasReadDump s (text ++ bytes) (samples ++ listed sample) new
 
--- the fault of every text that begins with the bytes taken before and these, or want of memory
+-- the fault of every text that begins with the bytes taken before and these, or lack of memory
 abbrev pub RefusesDump : (bytes : List ℕ) → (old : VcdReader) → CaptureFault → Type 0
 RefusesDump bytes old f =
     (f ≡ NoMemory)

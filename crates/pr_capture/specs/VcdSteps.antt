@@ -67,7 +67,7 @@ abbrev pub ReadsPiece : Signals → Piece → (old : Place) → Result (Option E
 ReadsPiece s p old (Ok sample) new = (step s old p ≡ Ok new) × (sample ≡ sample_of new)
 ReadsPiece s p old (Err f) new = (f ≡ NoMemory) ⊎ (step s old p ≡ Err f)
 
--- what words tell from here on, in a text that ends on a line
+-- what words say from here on, in a text that ends on a line
 abbrev pub word_contents : Signals → (end : ℕ) → VcdParser → List Word → CaptureContents
 word_contents s end p ws = piece_contents s end (place_of p.known) (pieces_behind (begun_of p) ws)
 
@@ -90,7 +90,7 @@ MayEnd p = (s : Signals) (end : ℕ) → word_contents s end p [] ≡ ended
 abbrev pub is_letter : ℕ → Bool
 is_letter b = not (is_space b)
 
--- what is told yet, if a text goes on so
+-- what is still to be read, if a text goes on so
 abbrev pub contents_left : VcdReader → (more : List ℕ) → CaptureContents
 contents_left r more =
     word_contents r.signals (end_line r.number more) r.progress (words_behind r.number r.letters.items more)

@@ -1,7 +1,7 @@
 //! Reading tables of separated values, as logic analysers export them.
 //!
 //! The kit's crate `csv` does not fit: its reader owns its stream, while all three formats are read
-//! from the front of a block that somebody else has read (`take_front`), so that one loop serves
+//! from the front of a block that the caller has read (`take_front`), so that one loop serves
 //! them; its clauses do not say on which line a row is; and its quoted fields may hold line ends.
 
 ghost use Rattle.std.specs.Prelude.{◌≡◌, ◌+◌, ◌^◌, ◌<◌, ◌≤◌, ◌∷◌, [], false, true, None, Err, IfErr, IfOk, Ok, drop, length, option_copied, take, IfSome, Some};
@@ -16,7 +16,7 @@ use crate::entries::is_word;
 use crate::fault::{CaptureFault, Wire};
 use crate::last_row::LastRow;
 use crate::numbers::{behind_first, behind_word, first_of};
-use crate::remarks::{Remarks, has_numbers, is_sample_word, is_time_alone, scale_of, time_unit};
+use crate::remarks::{Remarks, has_numbers, is_counting, scale_of, time_unit};
 use crate::signals::{Signals, are_framing, is_named, is_space, level_in, without_front};
 use crate::times::{Instant, from_start, instant_in, sample_in, start_of, time_at_rate, time_or};
 use pr_wire::{Edge, Levels};
@@ -53,7 +53,7 @@ pub struct Layout {
 /// Where the next row is in time.
 #[derive(Clone, Copy)]
 pub struct Moment {
-    /// How long before moment 0 the table starts, in microseconds, once a row has told it.
+    /// How long before moment 0 the table starts, in microseconds, once a row has shown it.
     pub start: Option<u64>,
     /// The time of the last row, in microseconds from the start on.
     pub before: u64,
@@ -238,16 +238,15 @@ fn columns_in(
     Ok(Columns { atn, clock, line })
 }
 
-/// The rate of samples, where the first column is another than one of times or of numbers of samples, or has
-/// the name of one but none of them.
+/// The rate of samples, where the first column is another than one of times or of numbers.
 fn rate_beside(remarks: Remarks, first: Option<&[u8]>) -> Option<u64>
     ensures { result ≡ rate_beside remarks (option_copied first.entry) }
 {
     match first {
         None => remarks.rate_known(),
         Some(name) => {
-            if is_time_alone(name) || is_sample_word(name) {
-                remarks.given
+            if is_counting(name) {
+                None
             } else {
                 remarks.rate_known()
             }
@@ -318,7 +317,7 @@ fn layout_by(
             Ok(Layout {
                 columns,
                 separator,
-                scale: scale_of(remarks, unit),
+                scale: scale_of(remarks, unit, field_at(separator, line, 0)),
             })
         }
         None => {
@@ -340,7 +339,7 @@ fn layout_of(
 {
     let separator = separator_of(line);
     let (first, more) = split_field(separator, line);
-    let unit = time_unit(remarks.bare, first);
+    let unit = time_unit(remarks.bare_unit(), first);
     layout_by(signals, remarks, number, separator, unit, line, more)
 }
 
@@ -437,7 +436,7 @@ fn sample_of(
     Ok(Edge { time, levels })
 }
 
-/// How many rows there were after so many more.
+/// How many rows there were after `rows` more.
 fn with_rows(count: u64, rows: usize) -> Option<u64>
     ensures { IfSome result (λ n. n ≡ count + rows) }
 {
@@ -490,7 +489,7 @@ impl Moment {
         })
     }
 
-    /// That of the row after so many more at a rate, if each of them has a time.
+    /// That of the row after `rows` more at a rate, if each of them has a time.
     pub fn skip(self, rate: u64, rows: usize) -> Option<Moment>
         ensures after { IfSome result (λ m. m ≡ moment_after rate self rows) }
         ensures timed { IfSome result (λ m. AreTimed rate self rows) }
@@ -527,7 +526,7 @@ impl Moment {
     }
 }
 
-/// What a row tells.
+/// What a row says.
 #[derive(Clone, Copy)]
 pub struct Row {
     pub sample: Edge,
@@ -535,7 +534,7 @@ pub struct Row {
     pub moment: Moment,
 }
 
-/// What a row after a moment tells.
+/// What a row after a moment says.
 fn row_of(
     layout: Layout,
     is_inverted: bool,
@@ -688,8 +687,8 @@ pub struct CsvReader<'a> {
 
 impl<'a> CsvReader<'a> {
     /// Makes a reader that has taken nothing of a text, with the rate of samples, in samples a second, that
-    /// the caller gives: a table whose first column has no times is read at it, whatever its remarks say. It
-    /// takes no memory.
+    /// the caller gives: a table whose first column has neither times nor other counts by its name is read at it,
+    /// whatever its remarks say. It takes no memory.
     pub fn new(alloc: Global, signals: Signals<'a>, rate: Option<u64>) -> CsvReader<'a>
         ensures read { HasReadTable signals.entry rate [] [] result }
         ensures number { line_number result ≡ 1 }

@@ -18,7 +18,7 @@ pub struct EdgeDetector {
     told: Option<Levels>,
 }
 
-/// Whether levels differ from those told last, if any were.
+/// Whether levels differ from those reported last, if any were.
 fn is_new(told: Option<Levels>, levels: Levels) -> bool
     ensures { result ≡ is_new told levels }
 {
@@ -72,7 +72,7 @@ fn edge_at_end(held: Option<Edge>, told: Option<Levels>) -> Option<Edge>
     }
 }
 
-/// The levels told last, once an edge has told its own, if there is one.
+/// The levels reported last, once an edge has reported its own, if there is one.
 fn told_with(told: Option<Levels>, edge: Option<Edge>) -> Option<Levels>
     ensures { result ≡ told_with told edge }
 {

@@ -23,7 +23,8 @@ pub enum CaptureFault {
     /// No signal has the wire's name.
     #[error("line {0}: no signal {1}")]
     NoSignal(usize, Wire),
-    /// The first column of a table is not one of times, and no remark tells the rate of its samples.
+    /// The first column of a table is not one of times in a known unit: it has other counts by its name, or no rate of
+    /// samples is known.
     #[error("line {0}: no time")]
     NoTime(usize),
     /// A word that can not be here.
@@ -50,7 +51,7 @@ pub enum CaptureFault {
     /// A time before an earlier one; times are compared in whole microseconds.
     #[error("line {0}: time goes back")]
     GoesBack(usize),
-    /// The row has no level of the wire, or the dump that ends on the line has told none that is still known.
+    /// The row has no level of the wire, or the dump that ends on the line has given none that is still known.
     #[error("line {0}: no level of {1}")]
     NoLevel(usize, Wire),
     /// The wire's level is not known.
@@ -59,7 +60,7 @@ pub enum CaptureFault {
     /// Nobody drives the wire.
     #[error("line {0}: level z")]
     Floating(usize),
-    /// A level that is none of 0, 1, L, H, x and z.
+    /// A level that is not one of 0, 1, L, H, x and z.
     #[error("line {0}: bad level")]
     BadLevel(usize),
     /// The text has 16 bits a letter, as that of UTF-16.

@@ -22,7 +22,7 @@ pub enum Source {
     Csv,
 }
 
-/// The trace that is checked, and how it is to be read.
+/// The trace that is checked, and how to read it.
 #[derive(Clone, Copy)]
 pub struct TraceInput<'a> {
     pub source: Source,

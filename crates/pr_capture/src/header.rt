@@ -207,7 +207,7 @@ impl WireCode {
         Ok(())
     }
 
-    /// Notes the signal on a line, if it has the wire's name and these words tell its code.
+    /// Notes the signal on a line, if it has the wire's name and these words give its code.
     fn note(
         &mut self,
         alloc: Global,

@@ -290,7 +290,7 @@ impl Known {
         }
     }
 
-    /// Goes on after a word that is none of these.
+    /// Goes on after any other word.
     pub fn take_stray(
         &mut self,
         signals: &Signals<'_>,

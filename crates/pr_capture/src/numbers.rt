@@ -32,7 +32,7 @@ pub fn with_zeros(count: usize, front: u64) -> Option<u64>
     Some(number)
 }
 
-/// The first so many bytes, or all where they are fewer.
+/// The first `count` bytes, or all where they are fewer.
 pub fn first_of(bytes: &[u8], count: usize) -> &[u8]
     ensures { result.now ≡ take count bytes.now }
 {
@@ -43,7 +43,7 @@ pub fn first_of(bytes: &[u8], count: usize) -> &[u8]
     }
 }
 
-/// What follows the first so many bytes.
+/// What follows the first `count` bytes.
 pub fn behind_first(bytes: &[u8], count: usize) -> &[u8]
     ensures behind { result.now ≡ drop count bytes.now }
     ensures within { length result.now ≤ length bytes.now }
@@ -55,7 +55,7 @@ pub fn behind_first(bytes: &[u8], count: usize) -> &[u8]
     }
 }
 
-/// The number that the first so many of digits spell, after those that spell another; those that lack
+/// The number that the first `count` digits spell, after those that spell another; those that lack
 /// are zeros.
 pub fn number_of_first(front: u64, count: usize, digits: &[u8]) -> Option<u64>
     ensures { result ≡ number_of_first front count digits.now }

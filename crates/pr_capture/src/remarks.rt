@@ -1,7 +1,7 @@
 //! What the name of a table's first column and its remarks say of time.
 
 ghost use Rattle.std.specs.Prelude.{◌≡◌, ◌∷◌, [], option_copied};
-ghost use Rattle.pr_capture.specs.TableTimes.{behind_fraction, has_numbers, is_micro, is_sample_word, is_this, is_time_alone, is_unit, is_whole, no_remarks, own_rate, scale_by, scale_of, rate_by, rate_given, rate_in, rate_known, rate_unit, remarked, time_unit, unit_behind, unit_by, unit_of, with_rate};
+ghost use Rattle.pr_capture.specs.TableTimes.{bare_unit, begins, behind_fraction, has_numbers, is_counting, is_micro, is_sample_word, is_sigrok_name, is_sigrok_word, is_this, is_unit, is_whole, no_remarks, own_rate, scale_by, scale_of, rate_by, rate_given, rate_in, rate_known, rate_unit, remarked, time_unit, unit_behind, unit_by, unit_of, with_rate};
 
 use crate::csv::Scale;
 use crate::entries::is_word;
@@ -82,15 +82,55 @@ pub fn time_unit(bare: Option<u8>, name: &[u8]) -> Option<u8>
     unit_of(name)
 }
 
-/// Whether a column is called by a word for time alone.
-pub fn is_time_alone(name: &[u8]) -> bool
-    ensures { result ≡ is_time_alone name.now }
+/// Whether a name begins with a word.
+fn begins(word: &[u8], name: &[u8]) -> bool
+    ensures { result ≡ begins word.now name.now }
 {
-    spells(b"timestamp", name) || spells(b"time", name) || spells(b"t", name)
+    behind_word(word, name).is_some()
+}
+
+/// Whether a first column has times or numbers, never levels, by its name.
+pub fn is_counting(name: &[u8]) -> bool
+    ensures { result ≡ is_counting name.now }
+{
+    begins(b"time", name)
+        || begins(b"elapsed", name)
+        || begins(b"relative", name)
+        || begins(b"sample", name)
+        || begins(b"row", name)
+        || begins(b"index", name)
+        || begins(b"number", name)
+        || spells(b"t", name)
+        || spells(b"n", name)
+        || spells(b"nr", name)
+        || spells(b"no", name)
+        || are_signs(name)
+}
+
+/// Whether a name is one that sigrok gives to times: Time, or their unit in full.
+fn is_sigrok_word(name: &[u8]) -> bool
+    ensures { result ≡ is_sigrok_word name.now }
+{
+    spells(b"time", name)
+        || spells(b"seconds", name)
+        || spells(b"milliseconds", name)
+        || spells(b"microseconds", name)
+        || spells(b"nanoseconds", name)
+        || spells(b"picoseconds", name)
+}
+
+/// The same of a first column, if there is one.
+fn is_sigrok_name(first: Option<&[u8]>) -> bool
+    ensures { result ≡ is_sigrok_name (option_copied first.entry) }
+{
+    match first {
+        None => false,
+        Some(name) => is_sigrok_word(name),
+    }
 }
 
 /// Whether a column is called by a word for the number of a sample.
-pub fn is_sample_word(name: &[u8]) -> bool
+fn is_sample_word(name: &[u8]) -> bool
     ensures { result ≡ is_sample_word name.now }
 {
     spells(b"sample", name)
@@ -225,10 +265,10 @@ fn scale_by(unit: u8, rate: u64, second: Option<u64>) -> Scale
 }
 
 /// What a first column has whose name is of times in this unit.
-pub fn scale_of(remarks: Remarks, unit: u8) -> Scale
-    ensures { result ≡ scale_of remarks unit }
+pub fn scale_of(remarks: Remarks, unit: u8, first: Option<&[u8]>) -> Scale
+    ensures { result ≡ scale_of remarks unit (option_copied first.entry) }
 {
-    match remarks.own_rate(unit) {
+    match remarks.own_rate(unit, first) {
         None => Scale::Timed(unit),
         Some(rate) => scale_by(unit, rate, with_zeros(usize::from(unit), 1)),
     }
@@ -267,12 +307,25 @@ impl Remarks {
         }
     }
 
-    /// The rate of sigrok's remark, if this is the unit that it has for it.
-    fn own_rate(self, unit: u8) -> Option<u64>
-        ensures { result ≡ own_rate self unit self.rate }
+    /// The unit of a column that is called Time alone, if it is known: where the caller gives a rate, no remark
+    /// does and so it may be sigrok's or not, it is not.
+    pub fn bare_unit(self) -> Option<u8>
+        ensures { result ≡ bare_unit self }
+    {
+        if self.given.is_some() && self.rate.is_none() {
+            None
+        } else {
+            self.bare
+        }
+    }
+
+    /// The rate of sigrok's remark, if this is the unit that it has for it, and the first column has a name of
+    /// sigrok's.
+    fn own_rate(self, unit: u8, first: Option<&[u8]>) -> Option<u64>
+        ensures { result ≡ own_rate self unit (option_copied first.entry) self.rate }
     {
         let rate = self.rate?;
-        if is_this(unit, self.bare) && is_this(unit, unit_by(Some(rate))) {
+        if is_sigrok_name(first) && is_this(unit, self.bare) && is_this(unit, unit_by(Some(rate))) {
             Some(rate)
         } else {
             None
@@ -287,7 +340,7 @@ impl Remarks {
             return self;
         };
         let rate = rate_in(without_signs(text));
-        let bare = if is_word(first_of(behind_first(line, 1), 12), b" Samplerate:") {
+        let bare = if is_word(first_of(without_signs(line), 11), b"Samplerate:") {
             unit_by(rate)
         } else {
             self.bare

@@ -34,7 +34,7 @@ pub fn is_framing(b: u8) -> bool
     b == b' ' || b == b'"' || (b >= 9 && b <= 13)
 }
 
-/// Whether nothing but white space and quotation marks is here.
+/// Whether only white space and quotation marks are here.
 pub fn are_framing(bytes: &[u8]) -> bool
     ensures { result ≡ list_all is_framing bytes.now }
 {

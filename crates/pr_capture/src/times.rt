@@ -16,7 +16,7 @@ use pr_base::{digit_count, is_digit};
 /// A moment of a table, in whole microseconds before or after its moment 0.
 #[derive(Clone, Copy)]
 pub struct Instant {
-    /// Whether it lies before.
+    /// Whether it is before.
     pub is_negative: bool,
     pub micros: u64,
 }

@@ -16,14 +16,14 @@ later_first true false m n = refl
 later_first false true m n = refl
 later_first false false m n = refl
 
--- two answers in turn, told by both parts at once
+-- two answers in turn, given by both parts at once
 after_two : LackingInTwoParts → (present : Present) (xs ys zs : List Item) (m n : ℕ)
     → cond (is_lacking present (length (xs ++ ys)) ((xs ++ ys) ++ zs)) m (cond (is_lacking present (length xs) (xs ++ ys)) m n) ≡ cond (is_lacking present (length xs) ((xs ++ ys) ++ zs)) m n
 after_two two_parts present xs ys zs m n =
     later_first (is_lacking present (length xs) (xs ++ ys)) (is_lacking present (length (xs ++ ys)) ((xs ++ ys) ++ zs)) m n
     ∙ ap (λ b. cond b m n) (sym (two_parts present xs ys zs))
 
--- channels with other items, elements and status are told by these
+-- channels with other items, elements and status are determined by these
 same_adding : (old : Seen) (sent sent' : List Item) (elements elements' : List Element) (status status' : ℕ) → sent ≡ sent' → elements ≡ elements' → status ≡ status'
     → record old { sent = sent; elements = elements; status = status } ≡ record old { sent = sent'; elements = elements'; status = status' }
 same_adding old sent sent' elements elements' status status' same_sent same_elements same_status =

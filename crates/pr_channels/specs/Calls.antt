@@ -39,7 +39,7 @@ chrout_of b old = if nat_lt 3 old.output then adding (Byte b ∷ []) old else re
 abbrev pub clrchn_of : Seen → Seen
 clrchn_of old = record (if nat_lt 3 old.output then adding (unlisten ∷ []) old else old) { output = 3 }
 
--- the file goes out of the table, and its secondary address is told so
+-- the file goes out of the table, and the device of its secondary address is notified
 abbrev pub close_of : ℕ → Seen → Seen
 close_of number old = record (adding (closing (file_at old.files number)) old) { files = without_file number old.files }
 

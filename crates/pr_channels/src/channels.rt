@@ -30,7 +30,7 @@ const SCREEN: u8 = 3;
 ///
 /// A call that reaches the bus asks for room for 3 items: that `items()` of the bus and 3 are at
 /// most 2^32. These are `chkout` of an open file, `chrout` and `clrchn` to a device of the bus, and
-/// `close_file` of a file with a secondary address. Once the bus has refused a call for want of
+/// `close_file` of a file with a secondary address. Once the bus has refused a call for lack of
 /// memory, each later call that reaches it answers [`NoMemory`], and nothing else is said of the
 /// state.
 #[derive(Drop)]
@@ -207,7 +207,7 @@ impl<S: Serial> Channels<S> {
         Ok(())
     }
 
-    /// Tells the device of an open file with a secondary address that the file is closed.
+    /// Notifies the device of an open file with a secondary address that the file is closed.
     fn tell_closed(&mut self, file: u8) -> Result<(), NoMemory>
         // the caller's part
         requires room { closing (file_at self.old.files file) ≢ [] → length self.old.sent + 3 ≤ 2 ^ 32 }

@@ -204,7 +204,7 @@ impl<S: Serial> Sender<S> {
         self.attention(UNLISTEN, None)
     }
 
-    /// Tells a device that the channel of a secondary address is closed, and sends UNLISTEN.
+    /// Informs a device that the channel of a secondary address is closed, and sends UNLISTEN.
     pub fn close_channel(&mut self, device: u8, second: u8) -> Result<(), NoMemory>
         // the caller's part
         requires device { device ≤ 30 }
@@ -261,7 +261,7 @@ impl<S: Serial> Sender<S> {
         &self.bus
     }
 
-    /// The bus, in place of the sender.
+    /// Gives the bus back; the sender is gone.
     pub fn into_bus(self) -> S
         // the bus that the sender was seen with
         ensures present { S.printers result ≡ self.present }

@@ -1,4 +1,4 @@
--- Laws: what a file of characters tells. src/laws.rt proves it.
+-- Laws: what a file of characters says. src/laws.rt proves it.
 use Rattle.std.specs.Prelude.{◌≡◌, ℕ, List, Result}
 use Rattle.pr_dots.specs.declared.character_sets.Shapes.{Shapes}
 use Rattle.pr_characters.specs.declared.fault.CharactersFault.{CharactersFault}

@@ -1,4 +1,4 @@
--- A trace text checked as it is read: the bytes that came, and the lines told of them.
+-- A trace text checked as it is read: the bytes that came, and the lines written of them.
 use Rattle.std.proofs.Common.{◌≡◌, ℕ, ◌+◌, ◌-◌, ◌≤◌, List, [], ◌∷◌, ◌++◌, length, ap, sym, ◌∙◌, arith, append-nil, length-append, Option, Some, None, Result, Ok, Err, take, drop, take-append-drop, append_assoc, subst}
 use Rattle.std.specs.Prelude.{flat_map, codes, IsErrAnd, Vec}
 use Rattle.std.specs.Global.{Global}
@@ -24,7 +24,7 @@ one_line_more frames None lines h = append-nil lines ∙ h
 one_line_more frames (Some f) lines h =
     ap (λ l. l ++ frame_line f) h ∙ (ap (λ l. flat_map frame_line frames ++ l) (sym (append-nil (frame_line f))) ∙ sym (flat_map-append frame_line frames (f ∷ [])))
 
--- the bytes that came from a reader, with the lines told of them, and how many more may come
+-- the bytes that came from a reader, with the lines written of them, and how many more may come
 pub record HasRead (limit : ℕ) (before after : Option (List ℕ)) (lines : List ℕ) (c : Checker) (left : ℕ) : Type 0 where
   pub text : List ℕ
   pub taken : Consumes before after text
@@ -55,7 +55,7 @@ read_more limit a b d lines all c e left n block r k l w f = record {
   room = omega (arith, length-append r.text block, r.room);
 }
 
--- a front of a block was taken, and its lines told
+-- a front of a block was taken, and its lines written
 pub record TellsFront (block rest old : List ℕ) (c : Checker) (new : List ℕ) (d : Checker) : Type 0 where
   pub front : List ℕ
   pub whole : block ≡ front ++ rest

@@ -20,7 +20,7 @@ use Rattle.pr_cli.specs.declared.fault.CliFault.{CliFault}
 use Rattle.pr_cli.specs.declared.fault.CliFault.TheVariants.{NoMemory}
 use Rattle.pr_cli.proofs.KnownSteps.{too_many}
 
--- a fault that is no want of memory is the input's own
+-- a fault that is no lack of memory is the input's own
 own_is : (P Q : Type 0) (f : CliFault) → (f ≡ NoMemory → ⊥) → (f ≡ NoMemory) ⊎ (P × Q) → P × Q
 own_is P Q f n (inl m) = absurd (n m)
 own_is P Q f n (inr o) = o

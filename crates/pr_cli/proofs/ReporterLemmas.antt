@@ -71,7 +71,7 @@ told_more edges given e f old new None None n m told t = told edges given t
 told_more edges given e f old new None (Some w) n m told t = absurd (cc)
 told_more edges given e f old new (Some w) b n m told t = absurd (cc)
 
--- no fault is no want of memory
+-- no fault is no lack of memory
 no_memory : (a : Option WaveFault) → a ≡ None → a ≡ Some wave.NoMemory → ⊥
 no_memory None e k = absurd (cc)
 no_memory (Some w) e k = absurd (cc)

@@ -68,7 +68,7 @@ in_format : (input : TraceInput) (s : Source) (t : List ℕ) (samples : List Edg
     → SaysSamples input input.source t samples fault
 in_format input s t samples fault is h = let P : Source → Type 0 = λ v. SaysSamples input v t samples fault in subst P (sym is) h
 
--- a recording's fault is want of memory, or one of its own
+-- a recording's fault is lack of memory, or one of its own
 own_fault : (f : CaptureFault) → (fault_of_capture f ≡ NoMemory) ⊎ (IsOwnFault (fault_of_capture f) × (Capture f ≡ fault_of_capture f))
 own_fault (capture.NoSignal n w) = inr (tt, refl)
 own_fault (capture.BadWord n) = inr (tt, refl)
@@ -88,11 +88,11 @@ own_fault (capture.Floating n) = inr (tt, refl)
 own_fault (capture.BadLevel n) = inr (tt, refl)
 own_fault capture.NoMemory = inl refl
 
--- what was told up to a fault
+-- what was reported up to a fault
 told_refused : (told : CaptureContents) (samples : List Edge) (f : CaptureFault) (g : CliFault) → told ≡ with_samples samples (refused f) → Capture f ≡ g → IsTold told samples (Some g)
 told_refused told samples f g is same = rw is (append-nil samples, ap (λ (x : CliFault). Some x) same)
 
--- and all that was told
+-- and all that was reported
 told_whole : (told : CaptureContents) (samples : List Edge) (e : Option Edge) → told ≡ with_samples (samples ++ listed e) ended → IsTold told (samples ++ option_to_list e) None
 told_whole told samples e is = rw is (append-nil (samples ++ listed e) ∙ ap (λ l. samples ++ l) (listed_is e), refl)
 

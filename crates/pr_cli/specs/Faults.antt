@@ -1,4 +1,4 @@
--- Words of calls: what a fault of a part is to the program; want of memory is its own. Who uses these `From` by themselves believes them;
+-- Words of calls: what a fault of a part is to the program; lack of memory is its own. Who uses these `From` by themselves believes them;
 -- no claim rests on them.
 use Rattle.pr_wire.specs.declared.checker.CheckFault.{CheckFault}
 use Rattle.pr_wire.specs.declared.checker.CheckFault.TheVariants.{BadLine, Unlawful}

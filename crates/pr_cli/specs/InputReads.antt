@@ -30,7 +30,7 @@ GivesRepeats bytes last old new = (input : TraceInput) (t : List ℕ) (samples :
     → (between : List Edge) × AllHave last.levels between
     × HasGiven input (t ++ bytes) ((samples ++ between) ++ last ∷ []) new
 
--- a fault is want of memory, or that of every input that goes on so
+-- a fault is lack of memory, or that of every input that goes on so
 abbrev pub RefusesInput : (bytes : List ℕ) → (old : SourceReader) → CliFault → Type 0
 RefusesInput bytes old f = (f ≡ NoMemory) ⊎ (IsOwnFault f
     × ((input : TraceInput) (t : List ℕ) (samples : List Edge) → HasGiven input t samples old

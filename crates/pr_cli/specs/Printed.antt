@@ -29,7 +29,7 @@ abbrev pub HasReadAll : Option (List ℕ) → Result Paper CliFault → Type 0
 HasReadAll left (Ok paper) = IsAtEnd left
 HasReadAll left (Err fault) = Unit {0}
 
--- a fault of reading, or want of memory
+-- a fault of reading, or lack of memory
 abbrev pub IsReadingFault : CliFault → Type 0
 IsReadingFault TooLarge = Unit {0}
 IsReadingFault NoMemory = Unit {0}

@@ -72,7 +72,7 @@ IsOwnFault (Capture capture.NoMemory) = ⊥
 IsOwnFault (Capture fault) = Unit {0}
 IsOwnFault _ = ⊥
 
--- a fault of reading, or want of memory
+-- a fault of reading, or lack of memory
 abbrev pub IsNoReading : CliFault → Type 0
 IsNoReading TooLarge = Unit {0}
 IsNoReading NoMemory = Unit {0}
@@ -169,7 +169,7 @@ ReadsAll r left (Err (Wave fault)) = IsAtEnd left
 ReadsAll report.Frames left (Err WriteFailed) = IsAtEnd left
 ReadsAll r left (Err _) = Unit {0}
 
--- a fault of an input: never one of a script; want of memory is always `NoMemory` itself
+-- a fault of an input: never one of a script; lack of memory is always `NoMemory` itself
 abbrev pub IsReportFault : CliFault → Type 0
 IsReportFault (Script fault) = ⊥
 IsReportFault (Picture fault) = ⊥

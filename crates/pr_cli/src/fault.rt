@@ -23,7 +23,7 @@ pub enum PictureFault {
 /// Why a run of the program wrote no text, or not all of it.
 #[derive(Clone, Copy, Debug, PartialEq, Eq, Error)]
 pub enum CliFault {
-    /// The script is refused, with its first fault and that fault's line. It is never want of
+    /// The script is refused, with its first fault and that fault's line. It is never lack of
     /// memory.
     #[error(transparent)]
     Script(ScriptFault),
@@ -33,7 +33,7 @@ pub enum CliFault {
     /// The edges are no lawful trace.
     #[error(transparent)]
     Wave(WaveFault),
-    /// The recording can not be read, with the line where. It is never want of memory.
+    /// The recording can not be read, with the line where. It is never lack of memory.
     #[error(transparent)]
     Capture(CaptureFault),
     /// The pages can not be shown in this format.

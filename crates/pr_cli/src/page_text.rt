@@ -23,7 +23,7 @@ const BLOCK_MARKS: usize = 32;
 /// Room for the lines of these marks, each of at most two short texts.
 const BLOCK: usize = 1024;
 
-/// The most marks and numbers that are written without tables: to make the tables takes longer than to write so many.
+/// The most marks and numbers that are written without tables: to make the tables takes longer than to write these.
 const FEW: usize = 1000;
 
 /// The short texts of a page text. What is in no table is made anew; the tables of short pages are empty.
@@ -257,7 +257,7 @@ impl Texts {
         self.push_held(text, paper.held.as_slice())
     }
 
-    /// Adds the lines of rows, and lets go each row whose lines are there.
+    /// Adds the lines of rows, and frees each row whose lines are there.
     fn move_rows(&self, text: &mut Text, rows: Vec<Row>) -> Result<(), AllocError>
         ensures { OnOk result (text.new ≡ text.old ++ flat_map row_text rows.items) }
     {
@@ -267,7 +267,7 @@ impl Texts {
         Ok(())
     }
 
-    /// Adds the part of a printer, and lets go what it was made of.
+    /// Adds the part of a printer, and frees what it was made of.
     #[tactic(auto, unfolding(crate::specs::PageText::paper_text))]
     fn move_paper(&self, text: &mut Text, device: u8, paper: Paper) -> Result<(), AllocError>
         ensures { OnOk result (text.new ≡ text.old ++ paper_text device paper) }
@@ -363,7 +363,7 @@ pub fn pages_text(alloc: Global, outcome: &Outcome) -> Result<Vec<u8>, NoMemory>
     text.into_vec()
 }
 
-/// The page text of an outcome, in blocks. Each row is let go when its lines are there, so the
+/// The page text of an outcome, in blocks. Each row is freed when its lines are there, so the
 /// text takes the place of the marks.
 #[tactic(auto, unfolding(crate::specs::PageText::page_text))]
 pub(crate) fn text_from(alloc: Global, outcome: Outcome) -> Result<Text, NoMemory>

@@ -96,7 +96,7 @@ fn outcome_with(alloc: Global, paper: Paper) -> Outcome
 ///
 /// # Errors
 ///
-/// Those of [`raw_over`] but a failed write, with `limit` in place of [`RAW_LIMIT`]. This call
+/// Those of [`raw_over`] but a failed write, with `limit` instead of [`RAW_LIMIT`]. This call
 /// writes nothing.
 pub fn print_input<R: Read>(
     alloc: Global,

@@ -67,7 +67,7 @@ pub fn check_as_over<R: Read, W: Write>(
     write_report(output, text)
 }
 
-/// The report, but of frames where the trace is refused: then nothing is written.
+/// The report; frames of a refused trace are withheld: then nothing is written.
 fn unless_withheld(report: Report, text: ReportText) -> Result<ReportText, CliFault>
     ensures same { IfOk result (λ t. t ≡ text) }
     ensures told { OnOk result (report ≡ Report.Frames → text.refused ≡ None) }
@@ -105,7 +105,7 @@ fn write_report<W: Write>(output: &mut Watched<W>, text: ReportText) -> Result<(
 ///
 /// # Errors
 ///
-/// Those of [`check_as_over`] but a failed write, with `limit` in place of
+/// Those of [`check_as_over`] but a failed write, with `limit` instead of
 /// [`CHECK_LIMIT`](crate::CHECK_LIMIT). A trace that is refused with lines before its fault is no error here: the
 /// report has the lines and the fault. This call writes nothing.
 pub fn report_input<R: Read>(

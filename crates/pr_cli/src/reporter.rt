@@ -59,7 +59,7 @@ impl FrameReporter {
         Ok(())
     }
 
-    /// Takes the next edge, and adds the lines of the frame that it ends. Behind a fault it takes no
+    /// Takes the next edge, and adds the lines of the frame that it ends. After a fault it takes no
     /// edge.
     pub fn take(&mut self, edge: Edge) -> Result<(), AllocError>
         requires few { edges_taken self.old + 1 < 2 ^ 64 }

@@ -1,7 +1,7 @@
 //! A text in blocks.
 //!
 //! A text that is in one piece has to be moved, or to have room for twice its bytes, as it
-//! grows. A block stays where it is, and takes the place of what was let go before.
+//! grows. A block stays where it is, and takes the place of what was freed before.
 //!
 //! Only the page text, the default and the longest, is made in blocks; lines and picture are one
 //! piece.
@@ -124,7 +124,7 @@ impl Text {
         Ok(())
     }
 
-    /// Turns the text into one piece. The blocks are let go, each when it was copied.
+    /// Turns the text into one piece. Each block is freed once it is copied.
     ///
     /// # Errors
     ///

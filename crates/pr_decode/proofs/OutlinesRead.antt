@@ -73,7 +73,7 @@ late-joined t (x ∷ xs) e = by (is_late t x) (late-joined t xs e)
     by true h = refl
     by false h = h
 
--- what an outline tells, where CLOCK is released
+-- what an outline says, where CLOCK is released
 abbrev level_in : Option Released → Bool
 level_in None = false
 level_in (Some r) = r.level

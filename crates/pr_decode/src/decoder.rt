@@ -108,7 +108,7 @@ fn end(transfer: &mut Option<Transfer>, ending: Ending) -> Option<Reading>
     })
 }
 
-/// An edge has ended a stretch: the byte that has begun goes on, or one begins. Behind ATN's pull there is
+/// An edge has ended a stretch: the byte that has begun goes on, or one begins. After ATN's pull there is
 /// none.
 #[inline(always)]
 fn advance(transfer: &mut Option<Transfer>, stretch: &ClockPhase, edge: Edge)
@@ -174,7 +174,7 @@ fn is_bit(last: Edge, up: Edge, down: Edge) -> bool
 }
 
 /// Takes whole bits from the front of some edges, after an edge with CLOCK pulled, as many as the byte lacks at
-/// most. Gives how many edges they are, and their last one in place of the edge before them.
+/// most. Gives how many edges they are, and puts their last one where the edge before them was.
 #[inline(always)]
 fn push_bits(transfer: &mut Transfer, last: &mut Edge, edges: &[Edge]) -> usize
     ensures passes { (stretch : ClockPhase) → stretch.first.levels.clock ≡ false → stretch.last ≡ last.old →

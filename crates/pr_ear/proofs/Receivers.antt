@@ -206,7 +206,7 @@ what-is-heard pieces spelled = λ device edges numbers h.
     ap acknowledged_frames said ∙ all-acknowledged h.2.0 ∙ sym (ap frames_in said) ∙ spelled all h.0 h.2 in
     h.3 ∙ ap (λ is. map number_of is) (sym (what-is-printed device edges ∙ ap (heard_of device) frames))
 
--- an edge that goes back is told as that
+-- an edge that goes back is reported as that
 pub still-back : (device : ℕ) (edges : List WireEdge) (e : WireEdge) (v : Result (Option Received) GoesBack) (b : GoesBack) → IsErrAnd v (λ x. x ≡ b)
     → StandsBefore e.time (last_moment edges) → TellsReceived device edges e v
 still-back device edges e (Ok r) b h p = absurd h

@@ -1,4 +1,4 @@
--- Strict receivers: what they hold, and what they tell.
+-- Strict receivers: what they hold, and what they report.
 use Rattle.std.proofs.Common.{◌≡◌, ℕ, List, [], ◌∷◌, ◌++◌, map, Option, Some, Result, Ok, Err, ◌≤◌, refl, sym, subst, ap, ◌∙◌}
 use Rattle.std.proofs.lemmas.List.{map-append}
 use Rattle.std.specs.List.{flat_map}

@@ -157,7 +157,7 @@ decoder_by w = record { stretch = stretch_by w; transfer = transfer_by w }
 abbrev pub DecodersComeBack : Type 0
 DecodersComeBack = (decoder : Decoder) → decoder_by (stored decoder) ≡ decoder
 
--- these edges were taken and these readings told, and the numbers hold the decoder that they have left
+-- these edges were taken and these readings given, and the numbers hold the decoder that they have left
 pub record HasDecoded (edges : List WireEdge) (given : List Reading) (w : WireDecoder) : Type 0 where
   pub decoder : Decoder
   pub read : HasReadings (map edge_of edges) given decoder

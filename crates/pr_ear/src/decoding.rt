@@ -49,7 +49,7 @@ pub fn end_decoder(decoder: &WireDecoder) -> Option<Reading>
     restore(decoder).finish()
 }
 
-/// How many readings there are, as the answer of a call that did what it is for.
+/// How many readings there are, as the answer of a call that succeeded.
 fn settled(reading: Option<Reading>) -> Answer
     ensures { result ≡ settled_answer reading }
 {
@@ -74,7 +74,7 @@ fn answer(told: Result<Option<Reading>, GoesBack>) -> Answer
     }
 }
 
-/// The reading that is told, as numbers.
+/// The reading that an edge settles, as numbers.
 fn reading(told: Result<Option<Reading>, GoesBack>) -> WireReading
     ensures { result ≡ reading_of told }
 {
@@ -93,7 +93,7 @@ pub extern "C" fn print1525_decode_begin(decoder: &mut WireDecoder)
 }
 
 /// Gives a decoder the next edge of a recording, and puts the reading that it settles into `out`,
-/// if it settles one. `told` is what [`decode_edge`] answers, in plain numbers. Whatever numbers
+/// if it settles one. `told` gets what [`decode_edge`] answers, in plain numbers. Whatever numbers
 /// the decoder has, they mean some decoder. It takes no memory.
 #[unsafe(no_mangle)]
 pub extern "C" fn print1525_decode_edge(
@@ -114,7 +114,7 @@ pub extern "C" fn print1525_decode_edge(
     *told = answer(said);
 }
 
-/// Puts the reading that the end of a recording cuts into `out`, if it cuts one. `told` is how many
+/// Puts the reading that the end of a recording cuts into `out`, if it cuts one. `told` gets how many
 /// there are, 0 or 1. Whatever numbers the decoder has, they mean some decoder. It takes no memory.
 #[unsafe(no_mangle)]
 pub extern "C" fn print1525_decode_end(

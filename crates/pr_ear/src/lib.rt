@@ -1,13 +1,13 @@
 //! What a device hears of a bus, and what a printer makes of each byte, for C programs: over the caller's memory alone.
 //!
-//! A [`WireReceiver`] takes the edges of any bus as they come, and lies in the caller's memory between
+//! A [`WireReceiver`] takes the edges of any bus as they come, and is in the caller's memory between
 //! two edges; the headline is on [`print1525_receiver_edge`]. [`print1525_receive`] takes a whole
 //! lawful trace, and a [`StrictReceiver`] takes one edge by edge and refuses its first fault. Nothing
 //! here takes memory, and no pointer is kept. Each slice is a pointer and then a length.
 //!
 //! - This file goes over a list of edges twice: once to count what is heard, so that a buffer that is too
 //!   small stays as it was, and once to put it there.
-//! - `decoding` is a decoder of recordings edge by edge. Between two calls it lies in the numbers of
+//! - `decoding` is a decoder of recordings edge by edge. Between two calls it is held in the numbers of
 //!   `decoder_numbers`, since no enum crosses to C. `receiving` is a device over it.
 //! - `strict` is a device on a bus that is lawful by the profile; `numbers` stores and restores its
 //!   `standing`.
@@ -213,7 +213,7 @@ fn receive_twice(device: u8, edges: &[WireEdge], out: &mut [u16]) -> Told
 /// the selection of the graphic/upper case set as 256, that of the lower/upper case set as 257. The
 /// rest of the buffer is left as it was. It takes no memory.
 ///
-/// It is refused where the device is none of 4 to 30; with the first fault of the edges, where they
+/// It is refused where the device is not one of 4 to 30; with the first fault of the edges, where they
 /// are not lawful; and where there are more inputs than the buffer has room for, with their number.
 /// All of the buffer is then as it was.
 pub fn receive(device: u8, edges: &[WireEdge], out: &mut [u16]) -> Told

@@ -127,7 +127,7 @@ fn listener_for(receiver: &WireReceiver) -> Listener
 ///
 /// # Errors
 ///
-/// [`NoSuchDevice`] exactly where the device is none of 4 to 30. The receiver is then as it was.
+/// [`NoSuchDevice`] exactly where the device is not one of 4 to 30. The receiver is then as it was.
 pub fn begin_receiver(receiver: &mut WireReceiver, device: u8) -> Result<(), NoSuchDevice>
     ensures begun { OnOk result (HasReceived device [] receiver.new) }
     ensures device { IsOk result ↔ IsDevice device }
@@ -194,7 +194,7 @@ fn numbers_of_received(received: Option<Received>) -> WireReceived
     WireReceived { kind, byte, eoi }
 }
 
-/// Whether something came, as the answer of a call that did what it is for.
+/// Whether something came, as the answer of a call that succeeded.
 fn came(received: Option<Received>) -> Answer
     ensures { result ≡ came_answer received }
 {

@@ -25,7 +25,7 @@ use pr_wire::{WaveFault, allowed_traces};
 ///
 /// # Errors
 ///
-/// [`NoSuchDevice`] exactly where the device is none of 4 to 30. The receiver is then as it was.
+/// [`NoSuchDevice`] exactly where the device is not one of 4 to 30. The receiver is then as it was.
 pub fn begin_strict(receiver: &mut StrictReceiver, device: u8) -> Result<(), NoSuchDevice>
     ensures begun { OnOk result (HasTaken device [] receiver.new) }
     ensures device { IsOk result ↔ IsDevice device }

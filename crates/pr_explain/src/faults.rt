@@ -46,7 +46,7 @@ fn line_of(fault: CliFault) -> Option<usize>
     }
 }
 
-/// The line of a recording's fault, from 1. Want of memory has none; a file of another kind shows it on
+/// The line of a recording's fault, from 1. Lack of memory has none; a file of another kind shows it on
 /// its first line.
 fn line_of_capture(fault: CaptureFault) -> Option<usize>
     ensures { result ≡ capture_line fault }
@@ -82,7 +82,7 @@ pub fn own_line(fault: CliFault) -> usize
     }
 }
 
-/// What is to be done with an input that is no text, by its first bytes. None of others.
+/// What to do with an input that is no text, by its first bytes. None for others.
 fn rule_of_file(bytes: &[u8]) -> Option<&'static str> {
     if bytes.starts_with(&[255, 254]) || bytes.starts_with(&[254, 255]) {
         Some(WIDE)
@@ -230,12 +230,12 @@ fn rule_of_tables(fault: CaptureFault) -> &'static str {
 fn rule_of_times(line: &[u8]) -> &'static str {
     let name = first_field(separator_of(line).unwrap_or(b','), line);
     if is_time_alone(name) {
-        "sigrok-cli writes 0 for all of these times: give the sample rate with --rate, such as --rate 4M, \
-         unless dedup=true left out rows"
+        "the unit of these times is not known, or sigrok-cli wrote 0 for all of them: write the table from \
+         a .sr file with sigrok's remarks and without --rate, or with a unit in this name, such as Time [s]"
     } else {
-        "expected a first column of times, such as Time [s] or microseconds; for a table without times \
-         give the sample rate with --rate, such as --rate 4M, or in a remark such as \
-         ; Samplerate: 4 MHz"
+        "expected a first column of times, such as Time [s] or microseconds; for one of numbers named \
+         Sample, or a table without either, give the sample rate with --rate, such as --rate 4M, or in a \
+         remark such as ; Samplerate: 4 MHz"
     }
 }
 
@@ -274,7 +274,7 @@ fn push_text_rule(text: &mut String, line: &[u8]) -> Result<(), NoMemory> {
     }
 }
 
-/// Which format a line looks like that is none of a trace text's.
+/// Which format a line looks like that is not one of a trace text.
 fn hint_of(line: &[u8]) -> Option<&'static str> {
     if line.starts_with(b"$") {
         Some(LIKE_DUMP)

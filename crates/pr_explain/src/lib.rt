@@ -4,7 +4,7 @@
 //! people and is only tested. [`explain_trace`] gives for a trace in any format the line that
 //! cannot be read and where its edges stop being lawful, with the edges that may follow there and
 //! by how much the interval was missed. [`explain_reading`] gives where a recording cannot be read
-//! on, [`explain_script`] the line and the column of a script's first fault, and [`explain_stop`]
+//! further, [`explain_script`] the line and the column of a script's first fault, and [`explain_stop`]
 //! the line and the device of a statement at which a BASIC error stopped a run. [`rows_from`] gives
 //! the rows of the table of lawful traces at a place: an edge is taken there exactly if one of them
 //! has its levels and its time. [`rows_behind`] gives those that an edge after the last one can
@@ -49,7 +49,7 @@ pub use stops::{StopCause, StopPlace, explain_stop};
 pub use traces::{ReadingPlace, TracePlace, explain_reading, explain_trace};
 
 /// What there is to say of a refusal, or of an error. Where nothing is refused the place is none
-/// and the text empty, in place of an `Option` around both.
+/// and the text empty, instead of an `Option` around both.
 #[derive(Debug, Drop)]
 pub struct Explanation<P> {
     /// Where it is.

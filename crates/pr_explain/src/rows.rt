@@ -323,7 +323,7 @@ fn after_released(since: u64, unlistened: bool) -> [Option<Row>; 3]
 }
 
 /// Returns the rows of the table of lawful traces at a place: at most three edges may follow there.
-/// An edge is taken at the place exactly if one of the rows has its levels and its moment lies
+/// An edge is taken at the place exactly if one of the rows has its levels and its moment is
 /// within. Each row has a moment: its earliest is no later than its latest. No two rows have the
 /// same levels. It takes no memory.
 pub fn rows_from(place: &BusState) -> [Option<Row>; 3]

@@ -126,7 +126,7 @@ fn cause_of(stop: Stop, present: Present, device: Option<u8>) -> StopCause
     }
 }
 
-/// Whether a device is none of the printers that are there.
+/// Whether a device is not one of the printers that are there.
 fn is_absent(present: Present, device: Option<u8>) -> bool
     ensures { result ≡ is_absent present device }
 {

@@ -13,7 +13,7 @@ const FIRST: &str = "0 111, all lines released at time 0";
 /// The line before times with the recording's own in brackets.
 pub const BRACKETS: &str = "[in brackets: the recording's own time, in microseconds]";
 
-/// What a trace and its edges are told from.
+/// What a trace and its edges are described from.
 #[derive(Clone, Copy)]
 pub struct TraceSaid<'a> {
     /// How the trace is read.

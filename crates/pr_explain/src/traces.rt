@@ -29,7 +29,7 @@ pub struct TracePlace {
     pub edge: Option<EdgePlace>,
 }
 
-/// Where a recording cannot be read on. It is one or the other: `decode` stops at the first edge
+/// Where a recording cannot be read further. It is one or the other: `decode` stops at the first edge
 /// with which time goes back.
 #[derive(Clone, Copy, Debug, PartialEq, Eq)]
 pub enum ReadingPlace {

@@ -5,7 +5,7 @@ ghost use Rattle.std.specs.Prelude.{◌≡◌};
 use std::alloc::AllocError;
 use thiserror::Error;
 
-/// Why a listing is refused, before its statements are read; or want of memory. Lines and columns
+/// Why a listing is refused, before its statements are read; or lack of memory. Lines and columns
 /// are counted from 1.
 #[derive(Clone, Copy, Debug, PartialEq, Eq, Error)]
 pub enum ListingFault {

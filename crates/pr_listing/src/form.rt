@@ -64,7 +64,7 @@ pub fn script_text(
 /// - [`Refusal::Listing`]: the listing has no text.
 /// - [`Refusal::Script`]: the text has this first fault; its line is the listing's.
 ///
-/// Either may be want of memory.
+/// Either may be lack of memory.
 pub fn read_listing(
     alloc: Global,
     form: ListingForm,

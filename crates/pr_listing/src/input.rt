@@ -16,7 +16,7 @@ use thiserror::Error;
 /// Why the text of a listing cannot be had from a reader.
 #[derive(Clone, Copy, Debug, PartialEq, Eq, Error)]
 pub enum TextFault {
-    /// The listing has no text of a script. Never want of memory.
+    /// The listing has no text of a script. Never lack of memory.
     #[error("{0}")]
     Listing(ListingFault),
     /// The listing has more bytes than the limit.
@@ -35,7 +35,7 @@ pub enum TextFault {
 ///
 /// # Errors
 ///
-/// - [`TextFault::Listing`]: the fault of [`script_text`], but for want of memory.
+/// - [`TextFault::Listing`]: the fault of [`script_text`], but for lack of memory.
 /// - [`TextFault::TooLarge`]: only if the reader had more than `limit` bytes left.
 /// - [`TextFault::ReadFailed`] exactly if a read failed.
 /// - [`TextFault::NoMemory`]: memory was refused.

@@ -13,7 +13,7 @@
 //! PRINT#). A letter that is no token is followed by a space too, so that letters make no keyword;
 //! what no text holds there is written as `?`. Neither begins anything in a script. A remark's
 //! bytes count for nothing. Each line begins with its number and ends with byte 10, so a fault of the
-//! text is told with the line of the program.
+//! text is reported with the line of the program.
 //!
 //! `specs/Program.antt` says which lines the bytes of a saved program hold, and where it is cut off;
 //! `specs/Listing.antt` says the text of lines.

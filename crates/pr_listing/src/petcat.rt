@@ -125,7 +125,7 @@ fn add_one(text: &mut Vec<u8>, b: u8) -> Result<(), PieceFault>
 }
 
 /// Adds the piece at the front of some bytes of a line. Returns the bytes after it, and whether they
-/// stand in a string.
+/// are in a string.
 fn add_piece<'a>(
     text: &mut Vec<u8>,
     quoted: bool,

@@ -84,7 +84,7 @@ text_is o d f id r e h = rw e (text_of o d ∙ ap (λ t. unwrap_or t d.now) (h �
     text_of None d = refl
     text_of (Some s) d = refl
 
--- where a value comes from is told of the rows too
+-- where a value comes from is known of the rows too
 pub given_is : (f : Found) (id : Text) (r : Option ValueSource) → r ≡ option_and_then (λ a. a.source) (matched_of f id) → is_of_words r ≡ is_given id (rows_of f)
 given_is f id r e =
     ap is_of_words e ∙ (by (find (λ e. bytes_eq e.0.now id) f.entries.items) ∙ ap (λ o. option_map_or (λ row. is_of_words row.source) o false) (sym (find_row f.entries.items id)))

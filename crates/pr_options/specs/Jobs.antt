@@ -121,7 +121,7 @@ abbrev pub read_if_given : {A : Type 0} → ValueOption → (Text → Option A) 
 read_if_given option meaning bad rows =
     if is_given option.name rows then (read option meaning bad rows >>= λ value. Ok (Some value)) else Ok None
 
--- how a script is to be run
+-- how to run a script
 abbrev pub wanted_run : List Row → Result RunView JobFault
 wanted_run rows =
     read option.present present_of fault.BadPresent rows >>= λ present.
@@ -145,7 +145,7 @@ fitting source.Text rows = if wants_recording rows then Err fault.NoRecording
 fitting source.Vcd rows = if wants_table rows then Err fault.NoTable else Ok tt
 fitting source.Csv rows = Ok tt
 
--- how a trace or a recording in this format is to be read
+-- how to read a trace or a recording in this format
 abbrev pub wanted_input : Source → List Row → Result InputView JobFault
 wanted_input source rows =
     read option.names names_of fault.BadNames rows >>= λ names.
@@ -235,7 +235,7 @@ wanted_check rows =
 abbrev pub unless_found : List Row → Source
 unless_found rows = if wants_recording rows || wants_table rows then source.Csv else source.Text
 
--- the first part of a job of `decode` says whether the format is to be found by the first bytes
+-- the first part of a job of `decode` says whether the first bytes show the format
 abbrev pub wanted_decode : List Row → Result JobView JobFault
 wanted_decode rows =
     read option.reading_from reading_source_of fault.BadReadingFrom rows >>= λ source.
@@ -291,7 +291,7 @@ wanted_task name rows =
 abbrev pub asked : List Text → Option (Result TaskView JobFault)
 asked words = option_map (λ met. wanted_task met.0 met.1) (subcommand_of print1525 words)
 
--- why words ask for no job: clap refuses them, for one of the reasons that it has and not for want
+-- why words ask for no job: clap refuses them, for one of the reasons that it has and not for lack
 -- of memory; or memory was refused; or clap takes them, and this is their first bad value
 abbrev pub IsRefused : List Text → JobFault → Type 0
 IsRefused words (fault.Line e) = (kind_of e ≢ OutOfMemory)

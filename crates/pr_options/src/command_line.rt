@@ -485,7 +485,7 @@ fn job_of<'a>(alloc: Global, name: &str, options: &ArgMatches<'a>) -> Result<Job
     }
 }
 
-/// How a script is to be run.
+/// How to run a script.
 fn run_of(alloc: Global, options: &ArgMatches<'_>) -> Result<Run, JobFault>
     ensures ok { IfOk result (λ run. wanted_run (rows_of (found_of options.now)) ≡ Ok (run_view run)) }
     ensures bad { IfErr result (IsFaultIn (wanted_run (rows_of (found_of options.now)))) }
@@ -500,7 +500,7 @@ fn run_of(alloc: Global, options: &ArgMatches<'_>) -> Result<Run, JobFault>
     })
 }
 
-/// How a trace or a recording in this format is to be read. Whether the options go with the format is judged when
+/// How to read a trace or a recording in this format. Whether the options go with the format is judged when
 /// all their values are good.
 fn input_of<'a>(source: Source, options: &ArgMatches<'a>) -> Result<TraceInput<'a>, JobFault>
     ensures ok { IfOk result (λ input. wanted_input source (rows_of (found_of options.now)) ≡ Ok (input_view input)) }
@@ -571,7 +571,7 @@ fn pages_job<'a>(run: Run, options: &ArgMatches<'_>) -> Result<Job<'a>, JobFault
     Ok(Job::Pages(form, run.present, run.delays, run.mode, output))
 }
 
-/// A refusal by clap. Its want of memory is the program's own.
+/// A refusal by clap. Where clap has no memory, the fault is the program's own `NoMemory`.
 fn refused_by_clap(error: clap::Error) -> JobFault
     ensures { IsOfClap error result }
 {

@@ -1,7 +1,7 @@
 //! What the help of the program and of its subcommands says, in lines of at most 80
 //! columns.
 
-/// What the help of a command says beside its subcommands and options.
+/// What the help of a command says besides its subcommands and options.
 #[derive(Clone, Copy)]
 pub struct HelpText {
     /// What it does, in a line.

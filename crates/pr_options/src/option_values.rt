@@ -283,7 +283,7 @@ fn differ(a: &str, b: &str) -> bool
     !a.eq_ignore_ascii_case(b) && !is_clock_twice(a, b) && !is_clock_twice(b, a)
 }
 
-/// Whether the one name is CLOCK and the other CLK, by which CLOCK may be found too, capitals or not.
+/// Whether the one name is CLOCK and the other CLK, which also finds CLOCK, capitals or not.
 fn is_clock_twice(a: &str, b: &str) -> bool
     ensures { result ≡ is_clock_twice a.now b.now }
 {

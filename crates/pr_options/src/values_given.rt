@@ -443,7 +443,7 @@ fn has_ending(name: &str, ending: &str) -> bool
     is_same(&bytes[bytes.len() - ending.len()..], ending.as_bytes())
 }
 
-/// Whether two texts differ in nothing but capitals and small letters.
+/// Whether two texts differ only in capitals and small letters.
 fn is_same(a: &[u8], b: &[u8]) -> bool
     ensures { result ≡ str_eq_ignore_ascii_case a.now b.now }
 {

@@ -14,7 +14,7 @@ use crate::sheet::Sheet;
 use crate::work::Work;
 use std::alloc::{AllocError, Global};
 
-/// All that the inputs taken have left behind.
+/// All that the inputs taken have left.
 #[derive(Drop)]
 pub struct PrinterState {
     pub settings: Settings,

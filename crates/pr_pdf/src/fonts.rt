@@ -78,7 +78,7 @@ fn push_utf_16(text: &mut Vec<u8>, character: char) -> Result<(), AllocError>
     push_hex_4(text, (56320 + u % 1024) as u16)
 }
 
-/// The character of a code in a set, or a space in place of a column of dots.
+/// The character of a code in a set, or a space instead of a column of dots.
 fn set_character(set: u64, code: u8) -> char
     ensures { result ≡ set_character set code }
 {

@@ -1,4 +1,4 @@
--- Laws: what the pixels of a paper tell. src/laws.rt proves it.
+-- Laws: what the pixels of a paper determine. src/laws.rt proves it.
 use Rattle.std.specs.Prelude.{◌≡◌, ⊤, ℕ, ◌+◌, ◌≤◌, List, [], ◌∷◌}
 use Rattle.pr_page.specs.declared.paper.Row.{Row}
 use Rattle.pr_page.specs.declared.paper.Paper.{Paper}

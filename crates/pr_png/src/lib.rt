@@ -3,7 +3,7 @@
 //! - `checksums` has CRC-32 and Adler-32.
 //! - `marking` puts the dots of a paper on a sheet, `packing` makes lines of pixels of it.
 //! - `file` puts them into a file.
-//! - `laws` says that the pixels tell the dots.
+//! - `laws` says that the pixels determine the dots.
 #![tactic(auto)]
 
 mod checksums;

@@ -1,4 +1,4 @@
--- What is answered for an input, by what was told of it.
+-- What is answered for an input, by what was reported of it.
 use Rattle.std.proofs.Common.{◌≡◌, ◌≤◌, ℕ, ◌<◌, Bool, true, false, List, [], ◌++◌, length, refl, ap, sym, subst, ◌∙◌, append-nil, Option, Some, None, Result, Ok, Err}
 use Rattle.std.specs.Prelude.{◌↔◌, IfErr, IfOk, OnOk, IfSome, IsErrAnd, IsErrOf, option_map}
 use Rattle.std.specs.Io.KnownBytes.{Appends, IsAtEnd}
@@ -39,7 +39,7 @@ use Rattle.pr_recording.proofs.Coming.{Laws, coming}
 use Rattle.pr_recording.proofs.Judging.{no_memory}
 use Rattle.pr_recording.proofs.Writing.{front_behind, front_none, whole_behind}
 
--- these edges were told, and what was given up was written
+-- these edges were reported, and what was given up was written
 pub record HasWritten (s : Source) (w : Wording) (old now : Option (List ℕ)) (n : DecodeReport) (edges : List Edge) : Type 0 where
   pub written : List ℕ
   pub narrated : HasNarrated s w edges written n
@@ -55,7 +55,7 @@ pub told_before : (w : Wording) (limit : ℕ) (start a b old now : Option (List 
     → HasTakenBefore limit start b input s (HasWritten input.source w old now n)
 told_before w limit start a b old now input r s n h reads = record { given = h.given ++ edges_read r; read = reads limit start input h.given h.read; taken = h.taken }
 
--- its edges were told
+-- its edges were reported
 pub told_all : (w : Wording) (limit : ℕ) (start now old out : Option (List ℕ)) (input : TraceInput) (r : InputReader) (n m : DecodeReport) → HasTakenBefore limit start now input r (HasWritten input.source w old out n)
     → NarratesMore (edges_read r) n m → HasTakenAll limit start now input r (HasWritten input.source w old out m)
 told_all w limit start now old out input r n m h narrates = record {
@@ -77,7 +77,7 @@ told_written w limit start a old now new input r n m h k up = record {
   };
 }
 
--- a beginning was written of what is told of edges that come first
+-- a beginning was written of what is reported of edges that come first
 begins : Laws → (w : Wording) (limit : ℕ) (checked : Bool) (input : TraceInput) (text : List ℕ) (edges : List Edge) (n : DecodeReport) (old now new : Option (List ℕ)) (v : CliFault) → SaysFirst input text edges
     → HasWritten input.source w old now n edges → AppendsFront now new (lines_in n) → ((stop : Option CliFault) (told : List ℕ) → AppendsFront old new told → Leaves limit (length text) stop told old new (Err v))
     → AnswersTold limit w checked input text old new (Err v)

@@ -1,4 +1,4 @@
--- What was told so far comes first in what is told of all edges, whatever follows.
+-- What was reported so far comes first in what is reported of all edges, whatever follows.
 use Rattle.std.proofs.Common.{◌≡◌, ℕ, List, [], ◌++◌, refl, ap, sym, ◌∙◌, append-nil, append_assoc, Option, Some, None}
 use Rattle.std.specs.Option.{option_to_list}
 use Rattle.pr_wire.specs.declared.Edge.{Edge}
@@ -23,7 +23,7 @@ pub record Laws : Type 0 where
   pub cut : OnlyTheLastIsCut
   pub given : GivenAreSettled
 
--- what is told of edges begins with the lines of what those in front settle
+-- what is reported of edges begins with the lines of what those in front settle
 told_begins : (input : TraceInput) (w : Wording) → OnlyTheLastIsCut → (edges : List Edge) (own : Option CliFault) → (rest : List ℕ) × (told_of w input (stop_at (back_in edges) own) edges ≡ readings_text w (settled_of (in_front (back_in edges) edges)) ++ rest)
 told_begins input w cut edges own = by (back_in edges) refl own
   where
@@ -47,7 +47,7 @@ given_begins laws before all given later is has =
     let m = laws.more (in_front (back_in before) before) f.0 in
     (m.0, ap (λ l. settled_of (in_front (back_in l) l)) is ∙ (ap settled_of f.1 ∙ (m.1 ∙ ap (λ rs. rs ++ m.0) has)))
 
--- what was told so far of edges comes first in what is told of them and more
+-- what was reported so far of edges comes first in what is reported of them and more
 pub coming : Laws → (input : TraceInput) (w : Wording) (edges later : List Edge) (written : List ℕ) (n : DecodeReport) (own : Option CliFault) → HasNarrated input.source w edges written n
     → (rest : List ℕ) × (told_of w input (stop_at (back_in (edges ++ later)) own) (edges ++ later) ≡ (written ++ lines_in n) ++ rest)
 coming laws input w edges later written n own h =

@@ -1,4 +1,4 @@
--- The first fault of edges is never want of memory.
+-- The first fault of edges is never lack of memory.
 use Rattle.std.proofs.Common.{◌≡◌, ℕ, ◌+◌, Bool, true, false, List, [], ◌∷◌, Some, None, Result, Ok, Err}
 use Rattle.std.specs.Prelude.{if◌then◌else◌}
 use Rattle.pr_wire.specs.declared.Edge.{Edge}

@@ -112,7 +112,7 @@ abbrev pub ReadsAll : Option (List ℕ) → Result (Unit {0}) CliFault → Type 
 ReadsAll left (Ok _) = IsAtEnd left
 ReadsAll left (Err fault) = Unit {0}
 
--- a fault of a recording: of its edges only that time goes back; want of memory is always `NoMemory` itself
+-- a fault of a recording: of its edges only that time goes back; lack of memory is always `NoMemory` itself
 abbrev pub IsDecodeFault : CliFault → Type 0
 IsDecodeFault (Script fault) = ⊥
 IsDecodeFault (Picture fault) = ⊥

@@ -140,7 +140,7 @@ GivesUp old new =
     (s : Source) (w : Wording) (edges : List Edge) (written : List ℕ) → HasNarrated s w edges written old
     → HasNarrated s w edges (written ++ lines_in old) new
 
--- the end of an input of which the edges before the last block were told
+-- the end of an input of which the edges before the last block were reported
 abbrev pub EndsNarrated : TraceInput → (checked : Bool) → InputReader → DecodeReport → Ended → Type 0
 EndsNarrated input c r n e =
     (w : Wording) (written : List ℕ)
@@ -154,7 +154,7 @@ abbrev pub IsRefusal : (checked : Bool) → CliFault → Type 0
 IsRefusal true fault = IsReportFault fault
 IsRefusal false fault = IsDecodeFault fault
 
--- why no more is told of an input: time goes back, or it has a fault of its own
+-- why no more is reported of an input: time goes back, or it has a fault of its own
 abbrev pub IsStop : CliFault → Type 0
 IsStop (Wave (wave.Order n)) = Unit {0}
 IsStop fault = IsOwnFault fault

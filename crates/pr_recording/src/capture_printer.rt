@@ -64,7 +64,7 @@ impl CapturePrinter {
         }
     }
 
-    /// Takes the next edge. Preceding one at which time goes back it takes none.
+    /// Takes the next edge. After one at which time goes back it takes none.
     fn take(&mut self, edge: Edge) -> Result<(), NoMemory>
         requires room { inputs_printed self.old < 2 ^ 32 }
         requires few { edges_copied self.old + 1 < 2 ^ 64 }

@@ -28,7 +28,7 @@ use std::io::{Read, Write};
 ///
 /// With the first three the same lines have been written as by [`crate::decode_over`]: where time goes back at no edge and
 /// the input has no fault, all of them, with the line that says that the trace is not lawful; else those of all that is
-/// settled before. With every other error a beginning of what was to be written has been.
+/// settled before. With every other error a beginning of the whole text has been written.
 pub fn check_json_over<R: Read, W: Write>(
     alloc: Global,
     input: &mut Watched<R>,

@@ -43,7 +43,7 @@ use std::io::{Read, Write};
 /// - [`CliFault::NoMemory`]: memory was refused.
 ///
 /// With the first three the lines of all that is settled before the fault have been written. With every
-/// other error a beginning of what was to be written has been.
+/// other error a beginning of the whole text has been written.
 pub fn decode_over<R: Read, W: Write>(
     alloc: Global,
     input: &mut Watched<R>,
@@ -73,7 +73,7 @@ pub fn decode_over<R: Read, W: Write>(
 ///
 /// # Errors
 ///
-/// Those of [`decode_over`], with `limit` in place of [`CHECK_LIMIT`](pr_cli::CHECK_LIMIT), and
+/// Those of [`decode_over`], with `limit` instead of [`CHECK_LIMIT`](pr_cli::CHECK_LIMIT), and
 /// what they leave is the same.
 pub fn decode_input<R: Read, W: Write>(
     alloc: Global,
@@ -184,7 +184,7 @@ pub(crate) fn tell_input<R: Read, W: Write>(
     }
 }
 
-/// Ends an input, and gives the last of what is told of it.
+/// Ends an input, and gives the last of what is written of it.
 fn end_input(
     reader: InputReader<'_>,
     mut report: DecodeReport,
@@ -222,7 +222,7 @@ fn write_lines<W: Write>(output: &mut Watched<W>, report: &mut DecodeReport) -> 
     }
 }
 
-/// Writes the last of what is told, and answers what is odd, or why the recording is refused, if it is.
+/// Writes the last of the output, and answers what is odd, or why the recording is refused, if it is.
 fn write_end<W: Write>(output: &mut Watched<W>, ended: Ended) -> Result<Oddities, CliFault>
     requires fresh { has_failed output.old ≡ false }
     requires refused { ended.refused ≢ Some CliFault.WriteFailed }

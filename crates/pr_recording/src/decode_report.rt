@@ -1,4 +1,4 @@
-//! What is told of edges that come one by one.
+//! What is reported of edges that come one by one.
 
 ghost use Rattle.std.specs.Prelude.{◌≡◌, ◌+◌, ◌*◌, ◌^◌, ◌<◌, ◌≤◌, [], List, ℕ, drop, length, take, IfOk, OnOk};
 ghost use Rattle.pr_wire.specs.declared.Edge.{Edge};
@@ -19,7 +19,7 @@ use pr_report::{LinesSeen, Oddities};
 use pr_wire::{Edge, WaveFault};
 use std::alloc::{AllocError, Global};
 
-/// The last of what is told of a recording, and why it is refused, if it is.
+/// The last of what is reported of a recording, and why it is refused, if it is.
 #[derive(Drop)]
 pub struct Ended {
     pub lines: Vec<u8>,
@@ -95,7 +95,7 @@ impl DecodeReport {
     }
 
     /// Ends the edges of an input with this fault, if it has one. Where nothing stops them, what the end
-    /// cuts, the summary, the verdict and what is odd are told. What is checked is refused unless it is lawful,
+    /// cuts, the summary, the verdict and what is odd are given. What is checked is refused unless it is lawful,
     /// anything else only where it stops.
     pub fn finish(
         mut self,
@@ -183,7 +183,7 @@ fn read_edges(
     Ok(len)
 }
 
-/// Why no more is told of edges: time goes back at one of them, or else their input has a fault.
+/// Why no more is reported of edges: time goes back at one of them, or else their input has a fault.
 pub fn stop_at(back: Option<usize>, own: Option<CliFault>) -> Option<CliFault>
     ensures { result ≡ stop_at back own }
 {

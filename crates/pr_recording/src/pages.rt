@@ -83,7 +83,7 @@ pub fn reprint_over<R: Read, W: Write>(
 ///
 /// # Errors
 ///
-/// Those of [`reprint_over`] but a failed write, with `limit` in place of [`PRINT_LIMIT`]. A fault
+/// Those of [`reprint_over`] but a failed write, with `limit` instead of [`PRINT_LIMIT`]. A fault
 /// of the recording is no error here: the answer has the pages of what is settled before it, and
 /// the fault.
 pub fn print_input<R: Read>(

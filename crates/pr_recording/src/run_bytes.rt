@@ -151,7 +151,7 @@ fn follow_run(
     let mut log = RunLog::new(alloc, device);
     log.take_all(running.edges())?;
     let ending = follow_steps(running, &mut log, statements)?;
-    // For the prover alone: the law behind `edges` says what the trace spells.
+    // For the prover alone: the law of `edges` says what the trace spells.
     let _edges = running.edges();
     let heard = log.finish()?;
     Ok(HeardRun { ending, heard })

@@ -30,14 +30,14 @@ others : (defined : List Bool) (n k : ℕ) → n < length defined
     → cond (not (n == k)) (not (slice_index_or defined k false)) false ≡ not (slice_index_or (slice_set defined n true) k false)
 others defined n k within = grind (arith, common_steps)
 
--- a mark that has been defined wants no definition
+-- a mark that has been defined needs no definition
 pub defined_already : (shapes : Shapes) (defined : List Bool) (mark : Mark) (rest : List Mark) → slice_index_or defined (number_of mark) false ≡ true
     → new_definitions shapes defined (mark ∷ rest) ≡ new_definitions shapes defined rest
 defined_already shapes defined mark rest is =
     rw is (ap (flat_map (definition_svg shapes)) (filter-both (is_new defined) (differ mark) (is_new defined)
     (λ x. known defined (number_of mark) (number_of x) is) (each_once rest)))
 
--- a mark that is new wants one
+-- a mark that is new needs one
 pub defined_now : (shapes : Shapes) (defined : List Bool) (mark : Mark) (rest : List Mark) → number_of mark < length defined
     → slice_index_or defined (number_of mark) false ≡ false
     → new_definitions shapes defined (mark ∷ rest) ≡ definition_svg shapes mark ++ new_definitions shapes (slice_set defined (number_of mark) true) rest
@@ -62,7 +62,7 @@ defined_next shapes defined view mark number rest text new_text at is within non
     ∙ (append_assoc text (definition_svg shapes mark) (new_definitions shapes (slice_set defined number true) rest)
     ∙ ap (λ t. text ++ t) (sym step))
 
--- at first each mark wants one
+-- at first each mark needs one
 none-defined : (shapes : Shapes) (marks : List Mark) → new_definitions shapes (replicate 2304 false) marks ≡ flat_map (definition_svg shapes) (each_once marks)
 none-defined shapes marks = ap (flat_map (definition_svg shapes)) (filter-all (is_new (replicate 2304 false)) (λ x. at-first 2304 (number_of x)) (each_once marks))
   where

@@ -286,7 +286,7 @@ single-tell s t m n rs ss f g is =
     let rows : flat_map row_svg rs ++ (sheet_end ++ single_end) ≡ flat_map row_svg ss ++ (sheet_end ++ single_end) = sym (ink-begin-skip _) ∙ (ap after_line inks ∙ ink-begin-skip _) in
     (rows-split rs ss (sheet_end ++ single_end) (sheet_end ++ single_end) f g sheet-closes sheet-closes rows).0
 
--- the document of a sheet tells the rows on it
+-- the document of a sheet determines the rows on it
 pub sheets-tell : SheetsTellRows
 sheets-tell shapes other this that sheet again f g is =
     single-tell shapes other (single_top sheet) (single_top again) (rows_on sheet this.rows) (rows_on again that.rows) f g is

@@ -166,7 +166,7 @@ drawn-tell shapes other these those drawn kept e f g h is =
     (sheets-fit these drawn.four drawn.five e f) (sheets-fit those kept.four kept.five g h) (notes-follow these) (notes-follow those) sheets in
     sym (sheets-papers these drawn.four drawn.five) ∙ (told ∙ sheets-papers those kept.four kept.five)
 
--- pictures tell their papers
+-- pictures determine their papers
 pub pictures-tell : PicturesTellPapers
 pictures-tell shapes other these those present around e f g h is =
     drawn-tell shapes other these those (drawn_of these present) (drawn_of those around) e f g h is

@@ -201,7 +201,7 @@ row-some : (s : Row) (b : List ℕ) → [] ≡ row_svg s ++ b → ⊥
 unfolding row_svg row_begin
 row-some s b is = absurd (cc is)
 
--- rows are told by their elements
+-- rows are determined by their elements
 pub rows-tell : (these those : List Row) → list_all is_row these ≡ true → list_all is_row those ≡ true → flat_map row_svg these ≡ flat_map row_svg those → these ≡ those
 rows-tell [] [] f g is = refl
 rows-tell [] (s ∷ ss) f g is = absurd (row-some s (flat_map row_svg ss) (is ∙ flat_map-cons row_svg s ss))

@@ -10,7 +10,7 @@ use Rattle.pr_render.specs.Svg.{definition_svg, each_once, number_of}
 abbrev pub is_new : List Bool → Mark → Bool
 is_new defined mark = not (slice_index_or defined (number_of mark) false)
 
--- the definitions that marks still want
+-- the definitions that marks still need
 abbrev pub new_definitions : Shapes → List Bool → List Mark → List ℕ
 new_definitions shapes defined marks = flat_map (definition_svg shapes) (filter (is_new defined) (each_once marks))
 

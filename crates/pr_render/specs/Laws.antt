@@ -62,8 +62,8 @@ is_drawn p = is_of_bytes p.mark && nat_lt p.x 480
 abbrev pub is_row : Row → Bool
 is_row r = nat_lt r.y (2 ^ 60) && list_all is_drawn r.marks
 
--- the elements of a paper's rows tell them: from the text the distance of each row, and the place and the mark of each
--- element, can be had back
+-- the elements of a paper's rows determine them: the distance of each row, and the place and the mark of each
+-- element, can be read back from the text
 abbrev pub ElementsTellRows : Type 0
 ElementsTellRows = (these those : List Row) → list_all is_row these ≡ true → list_all is_row those ≡ true
     → flat_map row_svg these ≡ flat_map row_svg those → these ≡ those
@@ -77,8 +77,8 @@ abbrev pub drawn_papers : Outcome → Present → List (ℕ × Paper)
 drawn_papers outcome drawn =
     (if drawn.four then (4, outcome.paper4) ∷ [] else []) ++ (if drawn.five then (5, outcome.paper5) ∷ [] else [])
 
--- a picture tells its papers: where two documents are the same, in whatever shapes, the same printers are drawn, with the same
--- rows and the same marks held
+-- a picture determines its papers: where two documents are the same, in whatever shapes, the same printers are
+-- drawn, with the same rows and the same marks held
 abbrev pub PicturesTellPapers : Type 0
 PicturesTellPapers =
     (shapes other : Shapes) (these those : Outcome) (present around : Present)
@@ -86,7 +86,7 @@ PicturesTellPapers =
     → svg_of shapes these present ≡ svg_of other those around
     → drawn_papers these (drawn_of these present) ≡ drawn_papers those (drawn_of those around)
 
--- the document of one sheet tells the rows that are on it
+-- the document of one sheet determines the rows that are on it
 abbrev pub SheetsTellRows : Type 0
 SheetsTellRows =
     (shapes other : Shapes) (this that : Paper) (sheet again : ℕ)

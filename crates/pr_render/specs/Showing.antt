@@ -9,7 +9,7 @@ use Rattle.pr_render.specs.declared.format.Format.TheVariants.{List, Lines, Svg,
 abbrev pub whole : Part
 whole = record { device = None; sheet = None }
 
--- a format if all of the pages are to be shown
+-- a format if all of the pages have to be shown
 abbrev pub if_whole : Format → Option Device → Option ℕ → Option Format
 if_whole format None None = Some format
 if_whole format None (Some sheet) = None

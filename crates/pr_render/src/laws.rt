@@ -9,7 +9,7 @@ pub fn discs_are_the_dots()
     ensures { DiscsAreTheDots }
 {}
 
-/// A law: different marks have different names, so the elements of a row tell its marks.
+/// A law: different marks have different names, so the elements of a row determine its marks.
 pub fn names_tell_marks()
     ensures { NamesTellMarks }
 {}

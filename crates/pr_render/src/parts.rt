@@ -186,7 +186,7 @@ pub fn letters_width() -> &'static [u8]
     b"\" y=\"140\" textLength=\""
 }
 
-/// Behind the width of a strip, to which the characters of any font are drawn out, and blanks stay.
+/// After the width of a strip, to which the characters of any font are drawn out, and blanks stay.
 #[tactic(auto, unfolding(crate::specs::Parts::letters_fitted))]
 pub fn letters_fitted() -> &'static [u8]
     ensures { result.now ≡ letters_fitted }
@@ -194,7 +194,7 @@ pub fn letters_fitted() -> &'static [u8]
     b"\" lengthAdjust=\"spacingAndGlyphs\" xml:space=\"preserve\">"
 }
 
-/// Behind the distance of the marks held: a dashed rule, and a line that says what they are.
+/// After the distance of the marks held: a dashed rule, and a line that says what they are.
 #[tactic(auto, unfolding(crate::specs::Parts::held_note))]
 pub fn held_note() -> &'static [u8]
     ensures { result.now ≡ held_note }

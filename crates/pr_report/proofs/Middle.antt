@@ -168,7 +168,7 @@ middle-is ns v few enough =
     let parts : at_most v ns ≡ below v ns + equal_to v ns = at_most-parts v ns in
     least_of-passing (is_half ns) v ns (half-above ns v few) (le-leb (length ns) (2 * at_most v ns) enough) (omega arith)
 
--- a number that is told below a bound
+-- a number that is reported below a bound
 abbrev pub told_below : (bound : ℕ) → ℕ → Option ℕ
 told_below bound n = if nat_lt n bound then Some n else None
 
@@ -178,7 +178,7 @@ told-within bound n less = ap (λ b. if b then Some n else None) (sym (lt-ltb n 
 told-above : (bound n : ℕ) → bound ≤ n → None ≡ told_below bound n
 told-above bound n more = ap (λ b. if b then Some n else None) (sym (le-ltb n bound more))
 
--- what the counters tell from v on
+-- what the counters say from v on
 half-step : (ns cs : List ℕ) (a v bound : ℕ) (b : Bool) → nat_le (length ns - a) a ≡ b → a ≡ at_most v ns → 2 * below v ns < length ns
     → v < bound → (2 * a < length ns → first_half (length ns) a (v + 1) cs ≡ told_below bound (middle ns))
     → (if b then Some v else first_half (length ns) a (v + 1) cs) ≡ told_below bound (middle ns)

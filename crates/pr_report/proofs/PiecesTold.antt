@@ -1,4 +1,4 @@
--- Lawful pieces tell their frames with the moments of the pieces.
+-- Lawful pieces give their frames with the moments of the pieces.
 use Rattle.std.proofs.Common.{◌≡◌, ℕ, suc, ◌+◌, ◌<◌, ◌≤◌, Bool, true, false, ◌&&◌, cond, List, [], ◌∷◌, ◌++◌, length, eqb, Option, Some, None, Ok, refl, sym, subst, inl, inr, ap, ◌∙◌, arith}
 use Rattle.std.proofs.lemmas.List.{append_assoc, length-append}
 use Rattle.std.proofs.lemmas.Bool.{lt-ltb, le-ltb, eq-eqb}
@@ -383,7 +383,7 @@ from-start : (es : List Edge) → timed_frames (start ∷ es) ≡ timed_from 0 s
 unfolding timed_frames
 from-start es = refl
 
--- a lawful trace tells the frames of its pieces
+-- a lawful trace gives the frames of its pieces
 pub traces-moments : TracesTellTheirMoments
 traces-moments edges pieces c =
     ap timed_frames c.edges_are

@@ -170,7 +170,7 @@ lawful-told says tells d edges (pieces, cut) =
       same-lines at_start pieces ∙ ap (map (frame_line true)) (sym timed),
     )
 
--- where commands are as computers send them, each is told as it was sent
+-- where commands are as computers send them, each is written as it was sent
 is-first : (b : Preceding) (byte : ℕ) → byte < command.secondary → sending_of b true byte ≡ sending.First
 is-first behind.Nothing byte less = refl
 is-first behind.Command byte less = ap (λ t. if t then sending.First else sending.Second) (lt-ltb byte command.secondary less)
@@ -194,7 +194,7 @@ same-frame s s' look f e =
 cons-frame : (x y : TimedFrame) (xs ys : List TimedFrame) → x ≡ y → xs ≡ ys → x ∷ xs ≡ y ∷ ys
 cons-frame x y xs ys e es = ap (λ z. z ∷ xs) e ∙ ap (λ zs. y ∷ zs) es
 
--- an attention's second command is told as such after its first
+-- an attention's second command is written as such after its first
 second-told : (b : Preceding) (first : ℕ) (byte : ℕ) → first < command.secondary → command.secondary ≤ byte → first ≢ command.unlisten
     → sending_of (last_after (sending_of b true first) first) true byte ≡ sending.Second
 second-told b first byte less more apart =

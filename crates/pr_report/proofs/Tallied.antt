@@ -1,4 +1,4 @@
--- A tally with one length more, and what it tells.
+-- A tally with one length more, and what it says.
 use Rattle.std.proofs.Common.{◌≡◌, ℕ, ◌+◌, ◌-◌, ◌*◌, ◌<◌, ◌≤◌, false, cond, min, max, List, [], ◌∷◌, ◌++◌, length, get_or, Option, Some, None, if◌then◌else◌, refl, sym, ap, ◌∙◌, subst, arith, append-nil}
 use Rattle.std.specs.Prelude.{◌==◌, ◌^◌, codes}
 use Rattle.std.specs.List.{count_by}
@@ -106,7 +106,7 @@ tallied-more b i rs r n old new few some a h =
 from-zero : (n : ℕ) → 0 + n ≡ n
 from-zero n = omega arith
 
--- what a tally tells is what its lengths tell
+-- what a tally says is what its lengths say
 middle-told : (b : Bounds) (i : Interval) (ns : List ℕ) (t : Tally) → length ns < 2 ^ 64 → 0 < length ns → HasTallied b i ns t
     → first_half t.count 0 0 t.counters.items ≡ exact_middle (middle ns)
 middle-told b i ns t small some h =
@@ -143,7 +143,7 @@ known-told b i (n ∷ ns) t small h =
     (exact_middle (middle (n ∷ ns))) t.greatest (greatest n ns) t.outside (count_by (is_outside b i) (n ∷ ns)) h.bounds h.interval h.count h.least
     (middle-told b i (n ∷ ns) t small (omega arith) h) h.greatest h.outside
 
--- the line of a tally: its name, what it tells, and the end
+-- the line of a tally: its name, what it says, and the end
 pub line-told : (b : Bounds) (i : Interval) (rs : List Reading) (t : Tally) (t0 t1 t2 t3 name : List ℕ) → length rs < 2 ^ 64 → Tallies b i rs t
     → name ≡ name_of t.interval → t1 ≡ t0 ++ name → t2 ≡ t1 ++ known_text t → t3 ≡ t2 ++ codes "\n" → t3 ≡ t0 ++ interval_line b i rs
 line-told b i rs t t0 t1 t2 t3 name small h named e1 e2 e3 =

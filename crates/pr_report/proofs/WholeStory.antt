@@ -66,7 +66,7 @@ telling-more edges n d s new old text next behind_data behind None m h t k l b =
 telling-more edges n d s new old text next behind_data behind (Some f) m h t k l b =
     rw b (telling-frame edges n d s new old text next behind_data f m h t k l)
 
--- the lines of all frames of the edges, told of frames given
+-- the lines of all frames of the edges, from frames given
 lines-all : (edges : List Edge) (old text : List ℕ) (behind_data : Bool) (given : List TimedFrame)
     → ((more : List TimedFrame) → old ++ story_lines false (given ++ more) ≡ text ++ story_lines behind_data more)
     → timed_frames edges ≡ given → old ++ story_lines false (timed_frames edges) ≡ text

@@ -1,4 +1,4 @@
--- Trusted: the intervals of readings that are outside their bounds, and the last line of a report that holds them against
+-- Trusted: the intervals of readings that are outside their bounds, and the last line of a report that compares them with
 -- the guide's bounds.
 use Rattle.std.specs.Prelude.{ℕ, List, [], ◌∷◌, ◌++◌, Option, Some, None, codes, if◌then◌else◌}
 use Rattle.pr_wire.specs.declared.WaveFault.{WaveFault}

@@ -53,7 +53,7 @@ abbrev pub kept_with : Bounds → (before : Option Outside) → Reading → Opti
 kept_with Profile before r = before
 kept_with Guide before r = earlier before (first_of (outside_in Guide intervals r))
 
--- what a tally tells
+-- what a tally says
 abbrev pub known_text : Tally → List ℕ
 known_text t =
     if t.count == 0 then codes ": none"

@@ -55,7 +55,7 @@ length-answers_after present xs (y ∷ ys) = ap suc (length-answers_after presen
 answers_after-append : (present : Present) (xs ys zs : List Item) → answers_after present xs (ys ++ zs) ≡ answers_after present xs ys ++ answers_after present (xs ++ ys) zs
 answers_after-append present xs ys zs = ap (map (λ p. is_answered present p.0 p.1)) (with_before-append xs ys zs) ∙ map-append _ (with_before xs ys) (with_before (xs ++ ys) zs)
 
--- what is lacking after the first items is told by the later ones
+-- what is lacking after the first items is determined by the later ones
 pub is_lacking-append : (present : Present) (xs ys : List Item) → is_lacking present (length xs) (xs ++ ys) ≡ list_any not (answers_after present xs ys)
 is_lacking-append present xs ys =
     ap (λ bs. list_any not (drop (length xs) bs)) (answers_after-append present [] xs ys)

@@ -33,7 +33,7 @@ ListenerAfterOneMore = (device : ℕ) (items : List Item) (item : Item) →
     is_listener device (items ++ item ∷ [])
     ≡ (if is_unlisten item then false else (is_listener device items || is_listen device item))
 
--- whether a later item lacks an answer is told by the answers to the later ones
+-- whether a later item lacks an answer is determined by the answers to the later ones
 abbrev pub LackingAmongLater : Type 0
 LackingAmongLater = (present : Present) (xs ys : List Item) →
     is_lacking present (length xs) (xs ++ ys) ≡ list_any not (answers_after present xs ys)

@@ -204,7 +204,7 @@ fn is_refused(
     true
 }
 
-/// Prints a page, and tells how many inputs were refused. Another printer, which is one input after,
+/// Prints a page, and returns how many inputs were refused. Another printer, which is one input after,
 /// has the paper of one whose input is refused.
 fn refusals(rt: &(impl Abort + AllocGlobal), page: &Page) -> usize {
     let mut refused: usize = 0;

@@ -69,13 +69,13 @@ fn answer(rt: &impl Abort, bus: &mut Direct, call: Call) -> Result<bool, NoMemor
     }
 }
 
-/// Whether what a row tells is seen of the bus.
+/// Whether the bus shows what a row says.
 fn shows(bus: &Direct, row: Row) -> bool {
     let (_call, _answer, items, mark, four, five) = row;
     bus.items() == items && bus.mark() == mark && bus.heard(4) == four && bus.heard(5) == five
 }
 
-/// Makes calls on a new bus, and tells how many were done. Behind the first that is refused each call
+/// Makes calls on a new bus, and returns how many were done. After the first that is refused each call
 /// is refused, and the bus shows what it showed before.
 fn calls_done(rt: &(impl Abort + AllocGlobal), present: Present, rows: &[Row]) -> usize {
     let mut bus = Direct::new(rt.alloc(), present);

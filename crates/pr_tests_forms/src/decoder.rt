@@ -21,13 +21,13 @@ enum End {
     GivenUp(u64),
     /// The recording ends before the acknowledgement.
     WholeCut,
-    /// Behind this many bits ATN is pulled.
+    /// After this many bits ATN is pulled.
     Attention(u8, u64),
-    /// Behind this many bits CLOCK is released for too long.
+    /// After this many bits CLOCK is released for too long.
     ClockTimeout(u8, u64),
-    /// Behind this many bits the recording ends.
+    /// After this many bits the recording ends.
     Cut(u8),
-    /// Preceding DATA's pull and its release, and no bit, the recording ends.
+    /// After DATA's pull and its release, and no bit, the recording ends.
     PulseCut(u64, u64),
 }
 
@@ -65,8 +65,8 @@ const TALKED: [u64; 4] = [75, 75, 60, 60];
 
 /// LISTEN 4, "A", a return with end-or-identify, and UNLISTEN as the KERNAL sends them: ATN 20
 /// microseconds before CLOCK, DATA set 12 after CLOCK's pull, halves of 60 to 90, holds of 20 ms. Before
-/// UNLISTEN CLOCK is released 5 before ATN's pull, and the listener lets go before CLOCK is pulled: no
-/// byte begins by that.
+/// UNLISTEN CLOCK is released 5 before ATN's pull, and the listener releases DATA before CLOCK is pulled: no
+/// byte begins from that.
 const KERNAL: &str = "\
     0 111\n1000 011\n1020 001\n1105 000\n2060 010\n22060 011\n22100 001\n22112 000\n22170 010\n\
     22230 001\n22242 000\n22294 010\n22367 001\n22449 011\n22539 001\n22551 000\n22599 010\n\
@@ -85,10 +85,10 @@ const KERNAL: &str = "\
     51930 100\n51960 101\n52000 111\n\
 ";
 
-/// TALK 4 and a secondary address; the turn, at which the computer holds DATA and lets go of CLOCK, and the
-/// device pulls it; "A" and a return with end-or-identify from the device, which lets go of CLOCK before the
-/// computer lets go of DATA; UNTALK, for which the KERNAL pulls CLOCK 15 microseconds before ATN; all let go,
-/// and ATN is pulled again. Nothing but the five bytes is told.
+/// TALK 4 and a secondary address; the turn, at which the computer holds DATA and releases CLOCK, and the
+/// device pulls it; "A" and a return with end-or-identify from the device, which releases CLOCK before the
+/// computer releases DATA; UNTALK, for which the KERNAL pulls CLOCK 15 microseconds before ATN; all release,
+/// and ATN is pulled again. Only the five bytes are reported.
 const TALKER: &str = "\
     0 111\n1000 011\n1020 001\n1105 000\n2060 010\n2160 011\n2200 001\n2212 000\n2270 010\n\
     2340 001\n2352 000\n2410 010\n2480 001\n2550 011\n2620 001\n2632 000\n2690 010\n2760 001\n\
@@ -130,7 +130,7 @@ const FROM_THE_MIDDLE: &str = "\
     1482 100\n1540 110\n1600 101\n1750 100\n\
 ";
 
-/// An "A" whose talker lets go of DATA 9 microseconds after the last pull of CLOCK: the next pull
+/// An "A" whose talker releases DATA 9 microseconds after the last pull of CLOCK: the next pull
 /// acknowledges.
 const LET_GO_LATE: &str = "\
     0 100\n100 110\n150 111\n190 101\n260 111\n280 100\n350 110\n370 100\n440 110\n460 100\n\
@@ -244,7 +244,7 @@ static RECORDINGS: [Recording; 29] = [
         ],
         &[(false, [100, 150, 190, 1260], 1, LONG, Attention(1, 1280))],
     ),
-    // It may not be for 1001, whatever tells so.
+    // It may not be for 1001, whatever shows it.
     (
         [
             "0 100\n100 110\n150 111\n190 101\n260 111\n",
@@ -270,7 +270,7 @@ static RECORDINGS: [Recording; 29] = [
         ["7 110\n", "100 111\n140 101\n"],
         &[(false, [7, 100, 140, 140], 0, NO_BIT, Cut(0))],
     ),
-    // Two listeners answer to end-or-identify one after the other: the first pulse is told.
+    // Two listeners answer to end-or-identify one after the other: the first pulse is reported.
     (
         [
             "0 100\n100 110\n150 111\n",

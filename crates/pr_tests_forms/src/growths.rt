@@ -94,7 +94,7 @@ fn refused(rt: &(impl Abort + AllocGlobal)) -> [bool; 5] {
 }
 
 /// The script that refuses each allocation in turn refuses one call at most, and the same call again answers
-/// as ever. With no growth refused no call is.
+/// as usual. With no growth refused no call is.
 #[test]
 fn each_growth_refused(rt: HostRuntime) {
     let (first, second) = (refused(&rt), refused(&rt));

@@ -281,7 +281,7 @@ const OTHER_BYTES: [Row; 6] = [
     ),
 ];
 
-/// Intervals at the profile's bounds are not told, and those that lie just outside are; a byte of no bit has
+/// Intervals at the profile's bounds are not reported, and those that lie just outside are; a byte of no bit has
 /// no halves.
 const INTERVALS: [Row; 3] = [
     (

@@ -1,4 +1,4 @@
-//! The lines of a story, and a story in want of memory.
+//! The lines of a story, and a story without memory.
 
 use crate::text::joined;
 use ByteRole::{Data, First, Second};
@@ -38,7 +38,7 @@ attention
 ";
 
 /// Traces in two parts, their stories in two parts, and their faults. A lawful trace ends with `lawful`, and
-/// of another one the frames before its fault are told.
+/// of another one the frames before its fault are listed.
 static STORIES: [([&str; 2], [&str; 2], Option<WaveFault>); 7] = [
     ([TRACE_TEXT, ""], [EXAMPLE_LINES, "lawful\n"], None),
     ([TWO_COMMANDS, "3860 100\n"], [TWO_LINES, "lawful\n"], None),
@@ -186,7 +186,7 @@ fn is_refused(rt: &(impl Abort + AllocGlobal)) -> bool {
 }
 
 /// The script that refuses each allocation in turn refuses one call at most, and the same call again
-/// answers as ever. With no growth refused no call is.
+/// answers as usual. With no growth refused no call is.
 #[test]
 fn each_growth_refused(rt: HostRuntime) {
     let first = is_refused(&rt);

@@ -136,7 +136,7 @@ const NONE: Halves = Halves {
     longest: 0,
 };
 
-/// A byte begun and given up before its first bit.
+/// A byte that begins and ends before its first bit.
 const BEGUN: Reading = Reading::IncompleteByte(
     Transfer {
         opening: Opening {
@@ -215,7 +215,7 @@ const OF_FIVE: &str =
     "frames: 4\ncommands: 1\ndata bytes: 3\nnot acknowledged: 1\nglitches: 1\ncut by the recording's end: 1\nready: 5, least 0, middle 60, greatest 24310, outside 1 to 10000: 3\nfirst pull: 4, least 40, middle 40, greatest 40, outside 1 to 199: 0\nanswer: 1, least 199, middle 199, greatest 199, outside 200 to 250: 1\nanswer length: 1, least 80, middle 80, greatest 80, outside 80 to 250: 0\npull after answer: 1, least 30, middle 30, greatest 30, outside 1 to 60: 0\nshortest low half: 4, least 19, middle 20, greatest 70, outside 20 to 200: 1\nlongest low half: 4, least 70, middle 71, greatest 201, outside 20 to 200: 1\nshortest high half: 4, least 10, middle 20, greatest 70, outside 20 to 200: 1\nlongest high half: 4, least 20, middle 21, greatest 200, outside 20 to 200: 0\nacknowledgement: 3, least 1, middle 20, greatest 81, outside 1 to 80: 1\n";
 
 /// Readings, whether only the beginning of the summary is wanted, and that or all of it. A whole byte waits for its acknowledgement in vain, one until the
-/// recording's end, and a glitch is cut by that, 60 microseconds from its look to ready. The middle is told as it
+/// recording's end, and a glitch is cut by that, 60 microseconds from its look to ready. The middle is reported as it
 /// is up to 16383 microseconds. Of two lengths it is the lesser.
 const ROWS: [(&[Reading], bool, &str); 6] = [
     (&FIVE, false, OF_FIVE),

@@ -57,7 +57,7 @@ fn says(rt: &(impl Abort + AllocGlobal), signals: Signals<'_>, text: &str, wante
     }
 }
 
-/// Names of one's own, and probes behind inverters.
+/// Custom names, and inverted probes.
 const OWN: Signals<'static> = Signals {
     atn: b"Channel 0",
     clock: b"Channel 1",

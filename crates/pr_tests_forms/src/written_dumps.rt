@@ -24,7 +24,7 @@ fn is_written(rt: &(impl Abort + AllocGlobal), trace: &str, changes: &str) -> Re
 const THREE_EDGES: &str = "#0\n1A\n1C\n1D\n#100\n0A\n0C\n#200\n0D\n#1200\n";
 
 /// Edges, and what is written of them after the head: one time stamp an edge, and one after the last. The
-/// first edge tells all three levels, each later one those that it changes, if any.
+/// first edge has all three levels, each later one those that it changes, if any.
 const ROWS: [(&str, &str); 6] = [
     ("", ""),
     ("0 111\n", "#0\n1A\n1C\n1D\n#1000\n"),

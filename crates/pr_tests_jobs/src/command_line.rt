@@ -57,7 +57,7 @@ fn is_check(job: Job<'_>, [atn, clock, line]: [&str; 3]) -> bool {
     }
 }
 
-/// Pages do not tell the delays of their run, and without printers no run tells if a status is kept.
+/// Pages do not show the delays of their run, and without printers no run shows if a status is kept.
 #[test]
 fn delays_and_status_of_runs(rt: HostRuntime) {
     const ROWS: [([&str; 6], [u16; 3], StatusMode); 4] = [
@@ -166,7 +166,7 @@ fn explanations(rt: HostRuntime) {
     }
 }
 
-/// A fault is told so.
+/// A fault is reported so.
 fn tells(rt: &(impl Abort + AllocGlobal), fault: &impl Display, wanted: &str) {
     let is_well = match format!(in rt.alloc(); "{fault}") {
         Ok(text) => text.as_str() == wanted,
@@ -175,7 +175,7 @@ fn tells(rt: &(impl Abort + AllocGlobal), fault: &impl Display, wanted: &str) {
     assert!(rt; is_well, "{wanted}");
 }
 
-/// The program tells want of memory in words of its own.
+/// The program reports lack of memory in its own words.
 #[test]
 fn fault_texts(rt: HostRuntime) {
     tells(&rt, &DelayFault::BadDelays, "bad --delays");
@@ -407,7 +407,7 @@ fn refuses<'a>(rt: &(impl Abort + AllocGlobal), words: &'a [&'a str], wanted: &s
     }
 }
 
-/// An empty value is none that an option has.
+/// An empty value is not one that an option has.
 #[test]
 fn empty_values(rt: HostRuntime) {
     const ROWS: [(&[&str], &str); 4] = [

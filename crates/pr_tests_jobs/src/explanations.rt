@@ -1,5 +1,5 @@
 //! Explanations as callers of the library get them: of errors at any statement, of names that are no text, of what has no
-//! fault, and in want of memory. The lines that the program prints are in tests/cases/explained.
+//! fault, and without memory. The lines that the program prints are in tests/cases/explained.
 
 use pr_basic::StatusMode;
 use pr_capture::{Signals, Source, TraceInput};
@@ -306,7 +306,7 @@ fn no_edge(rt: HostRuntime) {
     stops_at(&rt, "", None, edge);
 }
 
-/// The edge is told beside the line after it that cannot be read.
+/// The edge is reported beside the line after it that cannot be read.
 #[test]
 fn edge_and_line(rt: HostRuntime) {
     let edge = EdgePlace {
@@ -341,7 +341,7 @@ fn edges_after_a_call(rt: HostRuntime) {
     stops_at(&rt, "0 111\n100 001\n", None, cut);
 }
 
-/// A recording cannot be read on at this place.
+/// A recording cannot be read further at this place.
 fn reads_to(rt: &(impl Abort + AllocGlobal), text: &str, place: Option<ReadingPlace>) {
     let told = explain_reading(rt.alloc(), text.as_bytes(), text_input());
     assert!(rt; told.is_ok_and(|told| told.place == place), "{text}");
@@ -415,7 +415,7 @@ fn places_of_stops(rt: HostRuntime) {
     stopped_at(&rt, 11, BOTH, None);
 }
 
-/// Nothing is said of a good script, a lawful trace, and a recording that is read to its end.
+/// No explanation comes of a good script, a lawful trace, and a recording that is read to its end.
 #[test]
 fn nothing_to_explain(rt: HostRuntime) {
     let script = b"10 OPEN 4,4\r\n20 PRINT#4,\"A\";CHR$(65)\n";
@@ -494,7 +494,7 @@ fn refusals(rt: &(impl Abort + AllocGlobal)) -> usize {
 }
 
 /// `make test` runs this with each allocation refused in turn. The call that is refused answers so, and the same call again
-/// answers as ever.
+/// answers as usual.
 #[test]
 fn each_growth_refused(rt: HostRuntime) {
     let refused = refusals(&rt).saturating_add(refusals(&rt));

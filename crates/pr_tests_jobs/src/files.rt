@@ -50,7 +50,7 @@ impl Desk {
         }
     }
 
-    /// Notes a call, and refuses it if it is to be refused.
+    /// Notes a call, and refuses it if it has to.
     fn note(&self, call: Call) -> io::Result<()> {
         self.calls.set(self.calls.get().wrapping_mul(10).wrapping_add(call as u64));
         self.count.set(self.count.get().wrapping_add(1));

@@ -83,7 +83,7 @@ fn is_refused(rt: &(impl Abort + AllocGlobal)) -> bool {
     try_wire(rt).is_none() || try_receiver(rt).is_none() || try_reprint(rt).is_none()
 }
 
-/// At most one call is refused, it tells want of memory, and the same calls again answer as ever.
+/// At most one call is refused, it reports lack of memory, and the same calls again answer as usual.
 /// With no allocation refused no call is.
 #[test]
 fn each_growth_refused(rt: HostRuntime) {

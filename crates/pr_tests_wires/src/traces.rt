@@ -109,7 +109,7 @@ pub fn example(rt: &(impl Abort + AllocGlobal)) -> Result<Vec<Edge>, Fail> {
     Ok(edges)
 }
 
-/// The edges of the example trace with other lines in place of these.
+/// The edges of the example trace with other lines instead of these.
 fn changed(rt: &(impl Abort + AllocGlobal), lines: &str, others: &str) -> Result<Vec<Edge>, Fail> {
     let text = TRACE_TEXT.replace(rt.alloc(), lines, others)?;
     Ok(read_trace(rt.alloc(), text.as_bytes())?)
@@ -194,7 +194,7 @@ fn fronts_of_the_example_trace(rt: HostRuntime) -> Result<(), Fail> {
     Ok(())
 }
 
-/// Lines of the example trace, others in place of them, and the fault.
+/// Lines of the example trace, others instead of them, and the fault.
 const CHANGES: [(&str, &str, WaveFault); 5] = [
     // edges 10 and 11 exchanged
     (
@@ -248,7 +248,7 @@ fn joint_pulse_of_two_listeners(rt: HostRuntime) -> Result<(), Fail> {
     Ok(())
 }
 
-/// LISTEN to device 9 in place of device 4: two bits differ.
+/// LISTEN to device 9 instead of device 4: two bits differ.
 #[test]
 fn another_device_is_addressed(rt: HostRuntime) -> Result<(), Fail> {
     let edges = changed(

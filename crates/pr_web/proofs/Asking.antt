@@ -29,7 +29,7 @@ refuses-task words old new list fault answer same refused is kept =
 pub lacks-task : (words old new : List ℕ) (answer : Answer) → answer ≡ plain 3 0 → new ≡ old → TellsTask words old new answer
 lacks-task words old new answer is kept = inr (inr (inr (is, kept)))
 
--- what is told of words that ask for no task is handed over
+-- what is said of words that ask for no task is handed over
 pub tells-refusal : (words old new : List ℕ) (list : List Text) (fault : JobFault) (place : ℕ) (text : List ℕ) (answer : Answer)
     → list ≡ words_in words → IsRefused list fault → place ≡ refusal_status fault → Hands place text old new answer → TellsRefusal words old new answer
 tells-refusal words old new list fault place text answer same refused is hands =
@@ -37,7 +37,7 @@ tells-refusal words old new list fault place text answer same refused is hands =
     let Q : ℕ → Type 0 = λ n. Hands n text old new answer in
     inl (fault, text, subst P same refused, subst Q is hands)
 
--- nothing is told of words that ask for one
+-- nothing is said of words that ask for one
 pub tells-none : (words old new : List ℕ) (list : List Text) (task : TaskView) (answer : Answer)
     → list ≡ words_in words → asked list ≡ Some (Ok task) → Hands 0 [] old new answer → TellsRefusal words old new answer
 tells-none words old new list task answer same ask hands =

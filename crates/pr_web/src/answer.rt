@@ -114,7 +114,7 @@ fn stop_in(made: Result<(), CliFault>) -> Result<Option<CliFault>, CliFault>
     }
 }
 
-/// Whether a fault is one of what the input says, before which it is told.
+/// Whether a fault is one of the input's content, so that there is a text up to it.
 fn is_of_input(fault: CliFault) -> bool
     ensures { result ≡ is_of_input fault }
 {

@@ -1,4 +1,4 @@
-//! The calls of the page in a browser beside those of `pr_c`: what a recording says, as text and as numbers, why a
+//! The calls of the page in a browser besides those of `pr_c`: what a recording says, as text and as numbers, why a
 //! script, a trace or a recording is refused, parts of pages, and the words of a command line. Memory in, memory out, no
 //! pointer kept.
 //!
@@ -9,7 +9,7 @@
 //! - `recordings` and `explanations` have the calls, made as those of pr_c: a slice as the reader, a `Vec`
 //!   as the writer, and the text copied to the front of the buffer (`answer`). A recording that cannot be
 //!   read to its end answers its fault, and the text of what comes before it too.
-//! - `numbers` has the calls that give numbers in place of a text: edges, readings (`rows`), what the lengths of their
+//! - `numbers` has the calls that give numbers instead of a text: edges, readings (`rows`), what the lengths of their
 //!   intervals come to (`lengths`), and delays; `delays` has the delay that each edge ends. `scripts` has
 //!   the line of each statement, the place of a fault, and parts of pages. The page draws and marks by these, and
 //!   reads no text for them.

@@ -1,4 +1,4 @@
-//! What is told of the words of a command line that ask for no task: what the program prints. No contract says which
+//! What is said of the words of a command line that ask for no task: what the program prints. No contract says which
 //! words these are.
 
 ghost use Rattle.std.specs.Prelude.{◌≡◌, length};
@@ -12,7 +12,7 @@ use pr_cli::CliFault;
 use pr_options::{JobFault, bad_value, read_task};
 use std::alloc::{AllocError, Global};
 
-/// What is told of a word that is no argument and no command, which may be a file's name.
+/// What is said of a word that is no argument and no command, which may be a file's name.
 const FILE_USAGE: &str =
     "A file is named after a command, as in `print1525 pages FILE`; without one, standard input is read.\n";
 
@@ -97,8 +97,8 @@ fn usage(alloc: Global, error: &UsageError) -> Result<String, AllocError> {
     Ok(text)
 }
 
-/// A fault of the command line in one line, with the bad value and the good ones where they are told, and with the help of
-/// the option where that is asked for.
+/// A fault of the command line in one line, with the bad value and the good ones where they are listed, and with the
+/// help of the option where that is asked for.
 fn line(
     alloc: Global,
     words: &[&str],
@@ -124,7 +124,7 @@ fn line(
     Ok(text)
 }
 
-/// What is told of words with control characters that clap refuses: they are shown escaped.
+/// What is said of words with control characters that clap refuses: they are shown escaped.
 fn usage_escaped(alloc: Global, words: &[&str]) -> Result<String, AllocError> {
     let mut texts = Vec::new(alloc);
     for word in words {
@@ -141,7 +141,7 @@ fn usage_escaped(alloc: Global, words: &[&str]) -> Result<String, AllocError> {
     }
 }
 
-/// What is told of words that ask for no task.
+/// What is said of words that ask for no task.
 fn told(
     alloc: Global,
     words: &[&str],
@@ -159,10 +159,10 @@ fn told(
     usage(alloc, error)
 }
 
-/// Puts what is told of the words of a command line that ask for no task at the front of the page's buffer, and answers
+/// Puts what is said of the words of a command line that ask for no task at the front of the page's buffer, and answers
 /// the exit status as its place: 0 where they ask for help or for the version, which is written on standard output, 2
 /// where they are refused, on standard error. The words are passed as to [`crate::print1525_task`], and `explained` is
-/// whether the help of the option of which a value is bad follows (0 for no). Of words that ask for a task nothing is told.
+/// whether the help of the option of which a value is bad follows (0 for no). Of words that ask for a task nothing is said.
 ///
 /// It is refused with 53 for words that are not UTF-8, where memory was refused, and where the text has more bytes than
 /// the buffer has room for. The buffer is then as it was.
@@ -184,7 +184,7 @@ pub extern "C" fn print1525_refusal(
     *answer = refusal(alloc, text, explained != 0, out);
 }
 
-/// Puts what is told of words that ask for no task at the front of a buffer.
+/// Puts what is said of words that ask for no task at the front of a buffer.
 fn refusal(alloc: Global, text: &str, is_explained: bool, out: &mut [u8]) -> Answer
     ensures tells { TellsRefusal text.now out.old out.new result }
     ensures length { length out.new ≡ length out.old }

@@ -339,7 +339,7 @@ fn statement_count(alloc: Global, line: &[u8]) -> Result<usize, NoMemory>
     }
 }
 
-/// Adds a number so many times.
+/// Adds a number `count` times.
 fn push_times(numbers: &mut Vec<u64>, number: u64, count: usize) -> Result<(), NoMemory>
     ensures { OnOk result (numbers.new.items ≡ numbers.old.items ++ replicate count number) }
 {

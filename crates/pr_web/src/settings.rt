@@ -209,7 +209,7 @@ fn rate_for(number: u64) -> Option<u64>
 }
 
 /// A recording with these names of its signals, of levels as they are or inverted, which starts at this
-/// microsecond and has so many samples in a second, or says itself how many (0).
+/// microsecond and has `rate` samples in a second, or says itself how many (0).
 pub fn input_for<'a>(
     source: Source,
     atn: &'a [u8],

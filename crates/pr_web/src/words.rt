@@ -1,4 +1,4 @@
-//! The words of a command line: the task that they ask for, as numbers, what is told of words that ask for none, and
+//! The words of a command line: the task that they ask for, as numbers, what is said of words that ask for none, and
 //! the trace of a run with its delays.
 
 ghost use Rattle.std.specs.Prelude.{◌≡◌, ◌++◌, ◌∷◌, [], map, length, option_map, IfOk, OnOk};

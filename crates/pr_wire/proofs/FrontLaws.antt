@@ -36,7 +36,7 @@ same-at s t i b (suc (suc zero)) e f h = let k : i ≡ b + 2 = omega (arith, e) 
 same-at s t i b (suc (suc (suc zero))) e f h = let k : i ≡ b + 3 = omega (arith, e) in rw k (ap (λ l. get_or l 3 0) f)
 same-at s t i b (suc (suc (suc (suc j)))) e f h = absurd (omega arith)
 
--- two words of a front tell its bytes
+-- two words of a front determine its bytes
 front-at : (s t : List ℕ) (n i : ℕ) → 4 ≤ n → n ≤ 8 → i < n → four s 0 ≡ four t 0 → four s (n - 4) ≡ four t (n - 4) → get_or s i 0 ≡ get_or t i 0
 front-at s t n i least most w f g =
     elim (eq-zero-or-pos (4 - i)) [

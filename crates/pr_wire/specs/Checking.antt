@@ -23,7 +23,7 @@ AnswersText text frames (Ok last) = (edges : List Edge) × IsTraceText text edge
 AnswersText text frames (Err (BadLine n)) = IsFirstBad n text
 AnswersText text frames (Err (Unlawful w)) = (edges : List Edge) × IsTraceText text edges × (fault_of edges ≡ Some w)
 
--- a fault is never want of memory
+-- a fault is never lack of memory
 abbrev pub IsOwnFault : CheckFault → Type 0
 IsOwnFault (BadLine n) = Unit {0}
 IsOwnFault (Unlawful fault.NoMemory) = ⊥

@@ -13,7 +13,7 @@ const LEAST: usize = 4;
 const MOST: usize = 8;
 
 /// The most bytes of a line that begins with a front: three digits, a space, the levels and byte 10
-/// stand after it.
+/// come after it.
 const MOST_LEN: usize = 16;
 
 /// How many bytes of a line are after a front.

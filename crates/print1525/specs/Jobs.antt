@@ -38,7 +38,7 @@ use Rattle.pr_recording.specs.RunBytes.{AnswersRunBytes}
 use Rattle.print1525.specs.declared.jobs.Answer.{Answer}
 use Rattle.print1525.specs.declared.jobs.Answer.TheVariants as answer
 
--- a job whose recording's format is to be found, with the format that the first bytes show; all else of it stays
+-- a job whose recording's format has to be found, with the format that the first bytes show; all else of it stays
 abbrev pub found_job : (first : List ℕ) → Job → Job
 found_job first (Decode true input f) = Decode false (record input { source = found_source input.source first }) f
 found_job first job = job
@@ -138,7 +138,7 @@ abbrev pub IsRecordingFault : DecodeOutput → CliFault → Type 0
 IsRecordingFault (reading.Pages f) fault = reprint.IsReprintFault fault
 IsRecordingFault _ fault = IsDecodeFault fault
 
--- a fault of the job; want of memory is always `NoMemory` itself
+-- a fault of the job; lack of memory is always `NoMemory` itself
 abbrev pub IsJobFault : Job → CliFault → Type 0
 IsJobFault (Pages form present delays mode output) fault = IsPrintFault output fault
 IsJobFault (Bus form present delays mode f) fault = IsRunFault fault

@@ -1,4 +1,4 @@
-//! A task done: its files opened, its job done over them, and what there is to tell on standard error.
+//! A task done: its files opened, its job done over them, and what there is to say on standard error.
 
 ghost use Rattle.std.specs.Prelude.{◌≡◌};
 ghost use Rattle.print1525.specs.Statuses.{answer_status, fault_status, text_status};
@@ -231,7 +231,7 @@ fn answer_recording<R: Read + Drop, W: Write + Drop>(
     }
 }
 
-/// What is to be done, by the first bytes of a recording, and these bytes.
+/// What to do, by the first bytes of a recording, and these bytes.
 fn found_work<'a, R: Read>(
     alloc: Global,
     work: Work<'a>,
@@ -316,8 +316,8 @@ fn form_of(job: &Job<'_>) -> ListingForm {
 }
 
 /// Does a job over a reader and a writer, and gives the exit status and the writer. Where more is to
-/// be told, the input is kept, since a trace text's first bad line may be its last; a file is read again instead, when the
-/// job has let go what it kept.
+/// be said, the input is kept, since a trace text's first bad line may be its last; a file is read again instead, when the
+/// job has freed what it kept.
 fn answer_over<R: Read + Drop, W: Write + Drop>(
     rt: &(impl Files + Eprint + AllocGlobal),
     reader: R,
@@ -376,7 +376,7 @@ fn ending_of(answer: Result<Answer, CliFault>) -> Result<Ending, CliFault> {
 }
 
 /// Gives the exit status of a job that ended so. Where its bytes do not say in which character set a printer prints
-/// them, tells that in one line on standard error, and then what is odd about a recording that was not listed.
+/// them, reports that in one line on standard error, and then what is odd about a recording that was not listed.
 fn tell_answer(rt: &(impl Eprint + AllocGlobal), subject: Subject<'_>, answer: Answer) -> u8
     ensures { result ≡ answer_status answer }
 {
@@ -398,7 +398,7 @@ fn tell_answer(rt: &(impl Eprint + AllocGlobal), subject: Subject<'_>, answer: A
     }
 }
 
-/// Tells in one line on standard error why a listing has no text, and gives the exit status.
+/// Reports in one line on standard error why a listing has no text, and gives the exit status.
 fn refuse_listing(
     rt: &impl Eprint,
     fault: TextFault,
@@ -416,7 +416,7 @@ fn refuse_listing(
     }
 }
 
-/// Tells in one line on standard error of a failed read or write: of a file by its name and the
+/// Reports a failed read or write in one line on standard error: of a file by its name and the
 /// reason. Gives the exit status.
 fn tell_failed(rt: &impl Eprint, fault: CliFault, name: Option<&str>, error: Option<Error>) -> u8 {
     match (name, error) {
@@ -425,7 +425,7 @@ fn tell_failed(rt: &impl Eprint, fault: CliFault, name: Option<&str>, error: Opt
     }
 }
 
-/// Tells in one line on standard error why a file cannot be opened, read or written, and gives the
+/// Reports in one line on standard error why a file cannot be opened, read or written, and gives the
 /// exit status.
 pub fn tell_file(rt: &impl Eprint, name: &str, error: &Error) -> u8
     ensures { result ≡ 3 }
@@ -435,7 +435,7 @@ pub fn tell_file(rt: &impl Eprint, name: &str, error: &Error) -> u8
     FAILED
 }
 
-/// Tells a fault in one line on standard error and gives its exit status.
+/// Reports a fault in one line on standard error and gives its exit status.
 pub fn tell(rt: &impl Eprint, fault: CliFault) -> u8
     ensures { result ≡ fault_status fault }
 {

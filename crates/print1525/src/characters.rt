@@ -14,8 +14,8 @@ use pr_files::Noting;
 use std::fs::{File, Files};
 use std::io::{Error, Read};
 
-/// Returns the shapes of the file of this name, or this project's own where there is none. A file without shapes is told of in
-/// one line on standard error; the answer is then the exit status.
+/// Returns the shapes of the file of this name, or this project's own where there is none. A file without shapes is
+/// reported in one line on standard error; the answer is then the exit status.
 pub fn shapes_for(
     rt: &(impl Files + Eprint + AllocGlobal),
     name: Option<&str>,
@@ -48,7 +48,7 @@ fn shapes_from<R: Read + Drop>(
     }
 }
 
-/// Tells in one line on standard error why a file has no shapes, and gives the exit status.
+/// Reports in one line on standard error why a file has no shapes, and gives the exit status.
 fn refuse_characters(rt: &impl Eprint, fault: ShapesFault, name: &str, error: Option<Error>) -> u8
     ensures { result ≡ characters_status fault }
 {

@@ -79,10 +79,10 @@ pub fn restarted_job<'a>(job: Job<'a>, start: u64) -> Job<'a>
 
 /// Does a job: reads the input and writes what the job's own fields ask for. The input of `pages` and
 /// `bus` is a script's text, whatever form the listing has: `answers` gives the text of a listing in
-/// another form. So it gives the format of a recording where it is to be found. Pictures draw characters in
+/// another form. So it gives the format of a recording where it has to be found. Pictures draw characters in
 /// these shapes.
 ///
-/// It takes the whole [`Job`]: only the form of a listing, and whether a recording's format is to be
+/// It takes the whole [`Job`]: only the form of a listing, and whether a recording's format has to be
 /// found, is read from it elsewhere, so every use of a format, a set or a delay is proved.
 ///
 /// The ending is [`Ending::Stopped`] exactly if a BASIC error stopped the run of a script.

@@ -16,7 +16,7 @@ const STEADY: u64 = 250;
 pub struct Progress<'a, T, R> {
     rt: &'a T,
     inner: R,
-    /// When the number is shown next; None where none is to be shown.
+    /// When the number is shown next; None where no number is shown.
     next: Option<Duration>,
     /// How many bytes have come.
     count: &'a Cell<u64>,

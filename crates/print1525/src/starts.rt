@@ -126,18 +126,26 @@ fn zero_behind(alloc: Global, mut reader: CsvReader<'_>, row: &[u8]) -> Result<u
     }
 }
 
-/// Whether a row has an instant of a day, as 2024-06-21T14:28:30.5Z, for its time.
+/// How many bytes a row's first field has.
+fn first_len(row: &[u8]) -> usize
+    ensures within { result ≤ length row.now }
+{
+    match row.iter().position(|b| matches!(*b, b',' | b';' | b'\t')) {
+        Some(len) => len,
+        None => row.len(),
+    }
+}
+
+/// Whether a row has an instant of a day, as 2024-06-21T14:28:30.5Z, for its time. Later fields do not count.
 fn has_instant(row: &[u8]) -> bool {
-    row.contains(&b':')
+    row[..first_len(row)].contains(&b':')
 }
 
 /// A row with 0 for its time.
 fn with_zero(alloc: Global, row: &[u8]) -> Result<Vec<u8>, AllocError> {
     let mut made = Vec::new(alloc);
     made.push(b'0')?;
-    if let Some(end) = row.iter().position(|b| matches!(*b, b',' | b';' | b'\t')) {
-        made.extend_from_slice(&row[end..])?;
-    }
+    made.extend_from_slice(&row[first_len(row)..])?;
     Ok(made)
 }
 

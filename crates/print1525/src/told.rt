@@ -21,42 +21,42 @@ use pr_serial::Present;
 use pr_system::{NoMemory, Outcome, Running};
 use std::alloc::{AllocError, Global};
 
-/// What is told of a refused script that looks like a saved program.
+/// What is said of a refused script that looks like a saved program.
 const SAVED_PROGRAM: &str = "this looks like a saved program: --from prg reads one";
 
-/// What is told of a script with small letters or braces in its strings.
+/// What is said of a script with small letters or braces in its strings.
 const TYPED_STRINGS: &str =
     "strings are sent as they are: small letters print graphics, or capitals \
      after OPEN file,device,7, and {name} prints its letters; --from petcat reads both as typed";
 
-/// What is told of a refused script whose strings have them too, or that begins with petcat's heading.
+/// What is said of a refused script whose strings have them too, or that begins with petcat's heading.
 const PETCAT_TEXT: &str = "this may be petcat's text: --from petcat reads it";
 
-/// What is told of a saved program without its load address, or that ends within a line.
+/// What is said of a saved program without its load address, or that ends within a line.
 const PROGRAM_FORM: &str = "a saved program is a load address of two bytes, then lines: \
      a link and a number of two bytes each, the line's bytes and 0; a link of 0 ends it";
 
-/// What is told of one that looks like a text.
+/// What is said of one that looks like a text.
 const PLAIN_TEXT: &str = "this looks like text: --from text or petcat reads one";
 
-/// What is told of petcat's text with an unknown name.
+/// What is said of petcat's text with an unknown name.
 const PETCAT_NAMES: &str =
     "in a string { begins a name of petcat's and } ends it, as {down}, {3 down} or {$8e}";
 
-/// What is told of petcat's text with a byte that it never has.
+/// What is said of petcat's text with a byte that it never has.
 const PETCAT_BYTES: &str = "a string of petcat's text has the bytes 32 to 126";
 
-/// What is told of a printer's bytes that look like a saved program.
+/// What is said of a printer's bytes that look like a saved program.
 const SAVED_BYTES: &str =
     "this looks like a saved program, and not like a printer's bytes: pages --from prg runs one";
 
-/// What is told of a printer's bytes that look like a disk.
+/// What is said of a printer's bytes that look like a disk.
 const DISK_BYTES: &str = "this looks like an image of a disk, and not like a printer's bytes";
 
-/// What is told of bytes that come in the lower/upper case set.
+/// What is said of bytes that come in the lower/upper case set.
 const LOWER_SET: &str = "the bytes are for the lower case set: raw --set lower prints them";
 
-/// What is told of bytes that come in both sets, the first one in the graphic/upper case set.
+/// What is said of bytes that come in both sets, the first one in the graphic/upper case set.
 const BOTH_SETS: &str =
     "the character set changes after the first byte: raw prints all bytes in one set";
 
@@ -65,7 +65,7 @@ const BOTH_SETS_LOWER: &str =
     "the character set changes after the first byte: raw prints all bytes in one set, \
      with --set lower in that of the first byte";
 
-/// Tells what the bytes of a printer do not say, if there is anything, in one line on standard error.
+/// Reports what the bytes of a printer do not say, if there is anything, in one line on standard error.
 pub fn tell_heard(rt: &impl Eprint, heard: Heard) {
     if let Some(line) = heard_told(heard) {
         let _ = rt.eprintln(format_args!("print1525: {line}"));
@@ -405,7 +405,7 @@ fn push_indented(text: &mut String, lines: &[u8]) -> Result<(), AllocError> {
     Ok(())
 }
 
-/// Whether a fault is one of what the input says, so that there is more to tell of it.
+/// Whether a fault is one of what the input says, so that there is more to say of it.
 fn is_of_input(fault: CliFault) -> bool {
     matches!(
         fault,

@@ -21,7 +21,7 @@ const ONLY_FOUR: Present = Present {
 /// of all items so far.
 type After = (Option<Stop>, u8, u8, u8, u64);
 
-/// Performs one statement, and tells what it leaves.
+/// Performs one statement, and returns what it leaves.
 fn performed(
     rt: &impl Abort,
     channels: &mut Channels<Direct>,
@@ -160,7 +160,7 @@ fn byte_that_waits_is_unanswered(rt: HostRuntime) {
     );
 }
 
-/// CMD's channel number stays for PRINT and CLOSE, and ends with PRINT# or a stop; CLOSE tells a
+/// CMD's channel number stays for PRINT and CLOSE, and ends with PRINT# or a stop; CLOSE notifies a
 /// device only where the file has a secondary address, and leaves the output device.
 #[test]
 fn channel_number_follows(rt: HostRuntime) {

@@ -59,7 +59,7 @@ fn refusals(rt: &(impl Abort + AllocGlobal)) -> usize {
 }
 
 /// `make test` runs this with each allocation refused in turn: the call in which it is refused
-/// answers want of memory, and each other call what it answers with ample memory. With no allocation
+/// reports lack of memory, and each other call answers as with ample memory. With no allocation
 /// refused no call is.
 #[test]
 fn each_growth_refused(rt: HostRuntime) {

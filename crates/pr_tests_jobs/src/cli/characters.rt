@@ -123,7 +123,7 @@ fn refused_files_of_characters(rt: HostRuntime) {
     assert!(&rt; fault_of(rt.alloc(), slow) == bad);
 }
 
-/// A fault is told so.
+/// A fault is reported so.
 fn tells(rt: &(impl Abort + AllocGlobal), fault: &impl Display, wanted: &str) {
     let is_well = match format!(in rt.alloc(); "{fault}") {
         Ok(text) => text.as_str() == wanted,

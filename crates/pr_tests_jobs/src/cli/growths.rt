@@ -44,7 +44,7 @@ fn refusals(rt: &(impl Abort + AllocGlobal)) -> usize {
 }
 
 /// `make test` runs this with each allocation refused in turn: the call in which it is refused
-/// answers want of memory, and each other call what it answers with ample memory. Every call is
+/// reports lack of memory, and each other call answers what it does with ample memory. Every call is
 /// made twice. With no allocation refused no call is.
 #[test]
 fn each_growth_refused(rt: HostRuntime) {

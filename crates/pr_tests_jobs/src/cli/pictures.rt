@@ -133,7 +133,7 @@ fn parts_of_pages(rt: HostRuntime) {
     }
 }
 
-/// A sheet that there is not is refused with how many there are, and nothing is written.
+/// A sheet that does not exist is refused with how many there are, and nothing is written.
 #[test]
 fn sheets_that_are_not_there(rt: HostRuntime) {
     for format in [

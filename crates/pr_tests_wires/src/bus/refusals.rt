@@ -1,4 +1,4 @@
-//! A bus on wires in want of memory.
+//! A bus on wires without memory.
 
 use crate::bus::wires::{BOTH, LISTEN_FIVE, LISTEN_FOUR_SEVENTH, TYPICAL, put, taken, wires};
 use Input::{Byte, Select};
@@ -33,7 +33,7 @@ static FOUR_HEARS: [Input; 6] = [
 /// What printer 5 hears of the script.
 static FIVE_HEARS: [Input; 5] = [Select(false), Byte(2), Byte(3), Byte(4), Byte(5)];
 
-/// Behind this many items of the script: its end, the edges so far, and how many inputs printers 4 and 5 have
+/// After this many items of the script: its end, the edges so far, and how many inputs printers 4 and 5 have
 /// heard.
 ///
 /// The look takes 1100 and each frame of an attention 830, a second look 1000 more, ATN's release 100; a
@@ -70,7 +70,7 @@ fn shows(bus: &Wires, answered: usize) -> bool {
         && FIVE_HEARS.get(..five) == Some(bus.heard(5))
 }
 
-/// Sends the script, and tells how many items were answered. Behind the first that is refused each is
+/// Sends the script, and returns how many items were answered. After the first that is refused each is
 /// refused, and the bus shows what it showed before.
 fn items_answered(rt: &impl Abort, bus: &mut Wires) -> usize {
     let mut answered = 0;

@@ -17,7 +17,7 @@ fn sends_forty(rt: &(impl Abort + AllocGlobal)) -> Result<(), NoMemory> {
 }
 
 /// An item gets room for two inputs of a present printer, not for as many as it has edges, and none for an absent one. So
-/// `tests/growths` runs this with each growth refused, and wants their number: more room takes fewer growths, room for
+/// `tests/growths` runs this with each growth refused, and needs their number: more room takes fewer growths, room for
 /// printer 5 takes more.
 #[test]
 fn room_for_inputs(rt: HostRuntime) {

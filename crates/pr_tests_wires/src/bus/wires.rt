@@ -403,7 +403,7 @@ static RUNS: [Run; 15] = [
         }],
     },
     // Printer 4 has the least delays; printer 5 answers after 969 microseconds (AT and H), acknowledges and
-    // lets go after 9 (F and DR), and has 250 and 80 for end-or-identify.
+    // releases after 9 (F and DR), and has 250 and 80 for end-or-identify.
     Run {
         name: "two_printers_with_extreme_delays",
         present: BOTH,
@@ -513,7 +513,7 @@ fn most_edges(item: Item) -> usize
     }
 }
 
-/// Sends items. Tells whether each is answered and ends as wanted, and keeps to its own share of time and
+/// Sends items. Returns whether each is answered and ends as wanted, and keeps to its own share of time and
 /// edges.
 fn sends(rt: &impl Abort, bus: &mut Wires, steps: &[Step]) -> bool {
     let mut is_well = true;

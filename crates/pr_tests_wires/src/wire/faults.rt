@@ -5,7 +5,7 @@ use std::fmt::Display;
 use std::process::Abort;
 use std::test::Fail;
 
-/// A fault is told so.
+/// A fault is reported so.
 fn tells<T: Display>(rt: &(impl Abort + AllocGlobal), fault: &T, wanted: &str) -> Result<(), Fail> {
     let text = format!(in rt.alloc(); "{fault}")?;
     assert!(rt; text.as_str() == wanted, "{wanted}");

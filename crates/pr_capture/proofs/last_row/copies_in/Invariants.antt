@@ -2,7 +2,7 @@ use Rattle.std.proofs.Common.{◌≡◌, ◌-◌, ◌*◌, ◌<◌, ◌≤◌, l
 use Rattle.pr_capture.specs.CsvSteps.{copies}
 use Rattle.pr_capture.proofs.last_row.copies_in.Given as goal
 
--- so many copies are at the front
+-- this number of copies is at the front
 abbrev pub invariant-loop-end : goal.invariant-loop-end
 invariant-loop-end l = record {
   found : take l.end l.text ≡ copies l.count (take l.len l.text);

@@ -3,7 +3,7 @@ use Rattle.pr_wire.specs.Checked.{line_count}
 use Rattle.pr_cli.proofs.CheckLemmas.{TellsFront}
 use Rattle.pr_cli.proofs.check.check_block.Given as goal
 
--- what was told holds of the bytes so far too
+-- what was written holds of the bytes so far too
 abbrev pub invariant-loop-rest : goal.invariant-loop-rest
 invariant-loop-rest l = record {
   told : TellsFront l.block l.rest l.fn.lines.items l.fn.checker l.lines.items l.checker;

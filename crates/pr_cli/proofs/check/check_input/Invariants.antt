@@ -3,7 +3,7 @@ use Rattle.pr_wire.specs.Checked.{line_count}
 use Rattle.pr_cli.proofs.CheckLemmas.{HasRead}
 use Rattle.pr_cli.proofs.check.check_input.Given as goal
 
--- the bytes so far were taken from the front and told of, and nothing has failed
+-- the bytes so far were taken from the front and their lines written, and nothing has failed
 abbrev pub invariant-pieces : goal.invariant-pieces
 invariant-pieces g l = record {
   read : HasRead l.limit (g.R.Read.remaining l.fn.input.inner) (g.R.Read.remaining l.input.inner) l.lines.items l.checker l.left;

@@ -5,7 +5,7 @@ use Rattle.pr_recording.specs.Narrated.{load}
 use Rattle.pr_recording.proofs.Answering.{HasWritten}
 use Rattle.pr_recording.proofs.decode.tell_input.Given as goal
 
--- all edges so far were told, what was settled is written, and nothing has failed
+-- all edges so far were reported, what was settled is written, and nothing has failed
 abbrev pub invariant-pieces : goal.invariant-pieces
 invariant-pieces g l = record {
   read : HasTakenAll l.limit (g.R.Read.remaining l.fn.input.inner) (g.R.Read.remaining l.input.inner) l.fn.trace l.reader (HasWritten l.fn.trace.source l.fn.wording (g.W.Write.contents l.fn.output.inner) (g.W.Write.contents l.output.inner) l.report);
