@@ -45,16 +45,24 @@ time_unit bare l =
     (first_some (unit_behind bare (behind_word (codes "t") l))
     (unit_of l)))
 
--- a name begins with a word
+-- a word ends here: no letter or digit follows
+abbrev pub ends_there : (rest : Option (List ℕ)) → Bool
+ends_there None = false
+ends_there (Some []) = true
+ends_there (Some (b ∷ bs)) = is_sign b
+
+-- a name begins with a word: Time (usec), but not TIMEOUT
 abbrev pub begins : (word name : List ℕ) → Bool
-begins word l = is_some (behind_word word l)
+begins word l = ends_there (behind_word word l)
 
 -- a first column that is called so has times or numbers, never levels: Time (usec), Elapsed, Sample No., Row, n, or nothing
 abbrev pub is_counting : (name : List ℕ) → Bool
 is_counting l =
-    begins (codes "time") l || begins (codes "elapsed") l || begins (codes "relative") l || begins (codes "sample") l
-    || begins (codes "row") l || begins (codes "index") l || begins (codes "number") l || spells (codes "t") l
-    || spells (codes "n") l || spells (codes "nr") l || spells (codes "no") l || list_all is_sign l
+    begins (codes "t") l || begins (codes "time") l || begins (codes "timestamp") l || begins (codes "elapsed") l
+    || begins (codes "relative") l || begins (codes "sample") l || begins (codes "samples") l || begins (codes "row") l
+    || begins (codes "index") l || begins (codes "number") l || begins (codes "count") l || begins (codes "tick") l
+    || begins (codes "ticks") l || spells (codes "n") l || spells (codes "nr") l || spells (codes "no") l
+    || list_all is_sign l
 
 -- sigrok's own names for times: Time, or their unit in full
 abbrev pub is_sigrok_word : (name : List ℕ) → Bool

@@ -96,7 +96,7 @@ pub fn are_letters(bytes: &[u8]) -> bool
 }
 
 /// Whether a byte does not count in words: it is no letter, no digit and not above 127.
-fn is_sign(b: u8) -> bool
+pub fn is_sign(b: u8) -> bool
     ensures { result ≡ is_sign b }
 {
     b < 128 && !(is_digit(b) || is_letter(b))

@@ -1,13 +1,13 @@
 //! What the name of a table's first column and its remarks say of time.
 
 ghost use Rattle.std.specs.Prelude.{◌≡◌, ◌∷◌, [], option_copied};
-ghost use Rattle.pr_capture.specs.TableTimes.{bare_unit, begins, behind_fraction, has_numbers, is_counting, is_micro, is_sample_word, is_sigrok_name, is_sigrok_word, is_this, is_unit, is_whole, no_remarks, own_rate, scale_by, scale_of, rate_by, rate_given, rate_in, rate_known, rate_unit, remarked, time_unit, unit_behind, unit_by, unit_of, with_rate};
+ghost use Rattle.pr_capture.specs.TableTimes.{bare_unit, begins, behind_fraction, ends_there, has_numbers, is_counting, is_micro, is_sample_word, is_sigrok_name, is_sigrok_word, is_this, is_unit, is_whole, no_remarks, own_rate, scale_by, scale_of, rate_by, rate_given, rate_in, rate_known, rate_unit, remarked, time_unit, unit_behind, unit_by, unit_of, with_rate};
 
 use crate::csv::Scale;
 use crate::entries::is_word;
 use crate::numbers::{
     are_letters, are_signs, are_some, behind_decimals, behind_digits, behind_first, behind_word,
-    decimals_in, digits_in, first_of, number_from, number_of_first, spells, with_zeros,
+    decimals_in, digits_in, first_of, is_sign, number_from, number_of_first, spells, with_zeros,
     without_signs,
 };
 
@@ -82,25 +82,40 @@ pub fn time_unit(bare: Option<u8>, name: &[u8]) -> Option<u8>
     unit_of(name)
 }
 
+/// Whether a word ends here: no letter or digit follows.
+fn ends_there(rest: Option<&[u8]>) -> bool
+    ensures { result ≡ ends_there (option_copied rest.entry) }
+{
+    match rest {
+        None => false,
+        Some(rest) => rest.is_empty() || is_sign(rest[0]),
+    }
+}
+
 /// Whether a name begins with a word.
 fn begins(word: &[u8], name: &[u8]) -> bool
     ensures { result ≡ begins word.now name.now }
 {
-    behind_word(word, name).is_some()
+    ends_there(behind_word(word, name))
 }
 
 /// Whether a first column has times or numbers, never levels, by its name.
 pub fn is_counting(name: &[u8]) -> bool
     ensures { result ≡ is_counting name.now }
 {
-    begins(b"time", name)
+    begins(b"t", name)
+        || begins(b"time", name)
+        || begins(b"timestamp", name)
         || begins(b"elapsed", name)
         || begins(b"relative", name)
         || begins(b"sample", name)
+        || begins(b"samples", name)
         || begins(b"row", name)
         || begins(b"index", name)
         || begins(b"number", name)
-        || spells(b"t", name)
+        || begins(b"count", name)
+        || begins(b"tick", name)
+        || begins(b"ticks", name)
         || spells(b"n", name)
         || spells(b"nr", name)
         || spells(b"no", name)

@@ -1,5 +1,5 @@
 //! Tests of command lines, of what the subcommands read and write, of explanations and of recordings. Most of what the
-//! program shows of them is in tests/cases and tests/explained.
+//! program shows of them is in tests/cases.
 #![tactic(auto)]
 
 #[cfg(test)]
