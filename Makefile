@@ -9,9 +9,9 @@
 #                   pngcheck (libxml2-utils, librsvg2-bin, netpbm, qpdf, poppler-utils, pngcheck); and the calls for C watched by valgrind and by cc's sanitizer of addresses
 # make lib          proves and builds libprint1525.a and libprint1525.so, the library for C programs (docs/C.md)
 # make web          makes web/print1525.html, the page in a browser, with its WebAssembly module of proved crates (web/README.md says
-#                   how; it wants wasm-opt, Debian's package binaryen), and tells whether the committed file is another one
+#                   how; it needs wasm-opt, Debian's package binaryen), and says whether the committed file is another one
 # make web-test     tests that page in Chromium, Firefox and WebKitGTK beside the built program, and print1525.mjs in Node
-# make install      copies the built program, the library for C with its header and what pkg-config wants, the manual page and the
+# make install      copies the built program, the library for C with its header and what pkg-config needs, the manual page and the
 #                   completions of bash, zsh and fish to $(DESTDIR)$(PREFIX), where PREFIX is /usr/local unless it is given
 # make manual       makes the manual page and the completions anew from the program's help; make test says if they differ from it
 # make dist         packs all that make install copies, the page in the browser, examples, cases and documents as
@@ -24,7 +24,7 @@ PROGRAM := crates/print1525/out/print1525
 LIBRARY := libprint1525.a
 MODULE := out/print1525.wasm
 VERSION := 0.1.0
-# The library's own version, and the names of the shared one, of which programs want the second.
+# The library's own version, and the names of the shared one, of which programs look for the second.
 LIBRARY_VERSION := $(shell sed -n 's/^.define PRINT1525_VERSION "\(.*\)"/\1/p' include/print1525.h)
 SHARED := libprint1525.so.$(LIBRARY_VERSION)
 SONAME := libprint1525.so.$(firstword $(subst ., ,$(LIBRARY_VERSION)))
@@ -121,7 +121,7 @@ $(MODULE): $(SOURCES) tools/crates.py web/module
 	@mkdir -p $(@D)
 	web/module $@
 
-# Wants chromium, firefox-esr, webkit2gtk-driver, xvfb, nodejs and node-typescript (Debian's packages); the pictures of the page are
+# Needs chromium, firefox-esr, webkit2gtk-driver, xvfb, nodejs and node-typescript (Debian's packages); the pictures of the page are
 # left in out/web, to be looked at.
 web-test: build
 	@tsc -p web

@@ -1008,7 +1008,7 @@ PRINT1525_OWN int print1525_own_refuse(print1525_details *details, int fault) {
     return print1525_own_tell(details, PRINT1525_REFUSED, fault, 0, 0, 0);
 }
 
-/* Tells what a proved call answered. */
+/* Reports what a proved call answered. */
 PRINT1525_OWN int print1525_own_answer(print1525_details *details, print1525_plain_answer answer) {
     const int fault = PRINT1525_OWN_AS(int, answer.fault);
     const int is_column = fault == PRINT1525_FAULT_UNKNOWN_NAME || fault == PRINT1525_FAULT_BAD_CHARACTER;
@@ -1272,7 +1272,7 @@ PRINT1525_OWN int print1525_own_said(print1525_details *details, print1525_plain
                               answer.length);
 }
 
-/* Tells an explanation, with its place. */
+/* Reports an explanation, with its place. */
 PRINT1525_OWN int print1525_own_explained(print1525_details *details, print1525_plain_answer answer) {
     if (answer.code != 0) return print1525_own_answer(details, answer);
     return print1525_own_tell(details, PRINT1525_DONE, PRINT1525_FAULT_NONE, answer.place, 0, answer.length);
@@ -1401,7 +1401,7 @@ PRINT1525_CALL int print1525_edges(const void *recording, size_t length, const p
     return print1525_own_said(details, answer, 2);
 }
 
-/* Tells what a proved call answered that takes the edges of any bus, of which it refuses nothing but their order. */
+/* Reports what a proved call answered that takes the edges of any bus and refuses nothing but their order. */
 PRINT1525_OWN int print1525_own_bus_answer(print1525_details *details, print1525_plain_answer answer) {
     if (answer.fault == PRINT1525_FAULT_BAD_ORDER) answer.fault = PRINT1525_FAULT_GOES_BACK;
     return print1525_own_answer(details, answer);

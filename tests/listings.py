@@ -226,7 +226,7 @@ def main():
             "petcat": lambda: as_petcat(lines, rng)}[sys.argv[3]]())
         return
     if len(sys.argv) < 2 or not os.access(sys.argv[1], os.X_OK):
-        sys.exit(__doc__)
+        sys.exit(__doc__ if len(sys.argv) < 2 else f"tests/listings.py: no program {sys.argv[1]}")
     program, count = sys.argv[1], int(sys.argv[2]) if len(sys.argv) > 2 else 200
     rng = random.Random(1525)
     for i in range(count):

@@ -263,5 +263,5 @@ def main():
 
 if __name__ == "__main__":
     if len(sys.argv) < 3 or not os.access(sys.argv[1], os.X_OK):
-        sys.exit(__doc__)
+        sys.exit(__doc__ if len(sys.argv) < 3 else f"tests/recordings.py: no program {sys.argv[1]}")
     sys.exit(main())

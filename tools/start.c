@@ -1,5 +1,5 @@
 /* The shortest time from the start of a command to the first byte that it writes, or to its end where it writes none, in
- * microseconds, of so many runs of each command. The commands run in turn, so the machine's other work meets them alike.
+ * microseconds, of RUNS runs of each command. The commands run in turn, so the machine's other work meets them alike.
  * usage: start RUNS INPUT COMMAND WORD.. -- COMMAND WORD.. -- ..
  * It prints a line for each command. */
 #define _GNU_SOURCE

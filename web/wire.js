@@ -7,7 +7,7 @@ export const ATN = 4, CLOCK = 2, DATA = 1;
 /** The bounds of the profile's delays, in microseconds, by their kinds; `answers` is the length of an answer of two listeners. */
 export let bounds = {};
 
-/** The kinds of delay in the module's order, with a rest after them. */
+/** The kinds of delay in the module's order, then `rest`. */
 let kinds = [];
 
 /** What is said of a delay of each kind, and the line on which it is shown. A delay before a byte or ATN is shown on the line that ends it. */

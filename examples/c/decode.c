@@ -19,7 +19,7 @@ static int next_edge(print1525_edge *edge) {
     return getchar() == '\n' ? 1 : -1;
 }
 
-/* Tells a whole byte; of one begun and not ended nothing. */
+/* Prints a whole byte, and nothing for an incomplete one. */
 static void tell(const print1525_reading *reading) {
     const print1525_byte *byte = &reading->byte;
     if (reading->kind < PRINT1525_BYTE_ACKNOWLEDGED || reading->kind > PRINT1525_BYTE_LAST) return;

@@ -22,7 +22,7 @@ abbrev pub IsMade : (Stopping → List ℕ → Type 0) → (CliFault → Type 0)
 IsMade IsText IsFault text (Ok stop) = IsText stop text
 IsMade IsText IsFault text (Err fault) = IsFault (in_memory fault)
 
--- what is handed on is reported rightly
+-- what is handed on meets what the caller is promised
 pub tells : (IsText : Stopping → List ℕ → Type 0) (IsFault : CliFault → Type 0) (text old new : List ℕ) (made : Result Stopping CliFault) (told : Told)
     → IsMade IsText IsFault text made → Gives made text old new told → Tells IsText IsFault old new told
 tells IsText IsFault text old new (Ok stop) (Written s n) m g = (text, subst (λ j. IsText j text) (sym g.0) m, g.1, g.2, g.3)

@@ -120,7 +120,7 @@ wave_numbers (wave.Shape at) = (15, at)
 wave_numbers (wave.Truncated at) = (16, at)
 wave_numbers wave.NoMemory = (0, 0)
 
--- a picture that does not exist, by its number, and how many sheets there are or 0
+-- why there is no picture: the fault's number, and how many sheets there are, or 0 of a document that is too large
 abbrev pub picture_numbers : PictureFault → ℕ × ℕ
 picture_numbers (picture.NoSuchSheet sheets) = (50, sheets)
 picture_numbers picture.TooLarge = (51, 0)

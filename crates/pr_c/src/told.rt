@@ -31,8 +31,8 @@ pub struct Answer {
     pub code: usize,
     /// With code 1 the number of the BASIC error: 1, 2, 3, 5 or 6. With code 2 the number of the fault:
     /// 1 to 7 those of a script, 8 a bad line of a trace text, 9 too large, 11 to 16 those of a trace,
-    /// 22 to 25 and 60 a number that means no setting, 28 one that means no input, 50 a sheet that
-    /// there is not, 51 a document that is too large, 52 a bad line of a file of characters, 61 to 64
+    /// 22 to 25 and 60 a number that means no setting, 28 one that means no input, 50 a sheet past the
+    /// last one, 51 a document that is too large, 52 a bad line of a file of characters, 61 to 64
     /// those of a listing. Else 0.
     pub fault: usize,
     /// The statement of the error, from 1, the line of the fault, from 1, or the index of its edge or of

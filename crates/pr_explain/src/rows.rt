@@ -324,7 +324,7 @@ fn after_released(since: u64, unlistened: bool) -> [Option<Row>; 3]
 
 /// Returns the rows of the table of lawful traces at a place: at most three edges may follow there.
 /// An edge is taken at the place exactly if one of the rows has its levels and its moment is
-/// within. Each row has a moment: its earliest is no later than its latest. No two rows have the
+/// within that row's. Each row has a moment: its earliest is no later than its latest. No two rows have the
 /// same levels. It takes no memory.
 pub fn rows_from(place: &BusState) -> [Option<Row>; 3]
     ensures rows { AreRows result place.now }
@@ -395,8 +395,8 @@ fn behind(row: Option<Row>, last: Edge) -> Option<Row>
 
 /// Returns the rows at a place of the table of lawful traces, after an edge `last`: [`rows_from`],
 /// but for the moments that are not later than that edge, and for a row with its levels. An edge
-/// may follow there exactly if one of the rows has its levels and its moment lies within. Each row
-/// has a moment, and no two rows have the same levels. It takes no memory.
+/// may follow there exactly if one of the rows has its levels and its moment is within that row's.
+/// Each row has a moment, and no two rows have the same levels. It takes no memory.
 pub fn rows_behind(place: &BusState, last: Edge) -> [Option<Row>; 3]
     ensures rows { AreRowsBehind result last place.now }
     ensures moments { list_all has_moment result ≡ true }

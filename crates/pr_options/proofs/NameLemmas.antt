@@ -25,7 +25,7 @@ named_of parts = three_names (map trimmed parts)
 pub trimmed_is : (text r : List ℕ) → IsTrimAscii text r → r ≡ trimmed text
 trimmed_is text r h = trim_ascii_is text r (without_front text) refl h
 
--- nothing is reported where the last one is empty
+-- there are no names where the last one is empty
 no_last : (a b d : List ℕ) → d ≡ [] → None ≡ named a b (trimmed d)
 no_last a b d e =
     let h : is_name (trimmed d) ≡ false = ap (λ t. is_name (trimmed t)) e in

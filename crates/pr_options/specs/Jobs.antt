@@ -235,7 +235,7 @@ wanted_check rows =
 abbrev pub unless_found : List Row → Source
 unless_found rows = if wants_recording rows || wants_table rows then source.Csv else source.Text
 
--- the first part of a job of `decode` says whether the first bytes show the format
+-- the first part of a job of `decode` says whether the format is to be found in the first bytes, since no option gives it
 abbrev pub wanted_decode : List Row → Result JobView JobFault
 wanted_decode rows =
     read option.reading_from reading_source_of fault.BadReadingFrom rows >>= λ source.

@@ -128,8 +128,8 @@ Input: a recording of any serial bus, whoever drives it and wherever it begins,
 in a format of `print1525 check`. Without --from the ending of FILE says which,
 or the first bytes do: `$` begins a dump, also after sigrok-cli's line
 `META samplerate: ..`; that line, `;` or `#` begins a table, or it has a comma,
-a semicolon or a tab in its first line. With --names, --invert, --from-time or
---rate it is a recording.
+a semicolon or a tab in its first line. Otherwise it is a trace text, or with
+--names, --invert, --from-time or --rate a table.
 
 Output: a line for each byte, as in a story of `print1525 check`;
 unacknowledged and incomplete bytes (glitches); a summary of all intervals;

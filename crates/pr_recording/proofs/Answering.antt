@@ -39,7 +39,7 @@ use Rattle.pr_recording.proofs.Coming.{Laws, coming}
 use Rattle.pr_recording.proofs.Judging.{no_memory}
 use Rattle.pr_recording.proofs.Writing.{front_behind, front_none, whole_behind}
 
--- these edges were reported, and what was given up was written
+-- these edges were reported, and the lines that were given up were written
 pub record HasWritten (s : Source) (w : Wording) (old now : Option (List ℕ)) (n : DecodeReport) (edges : List Edge) : Type 0 where
   pub written : List ℕ
   pub narrated : HasNarrated s w edges written n

@@ -131,7 +131,7 @@ abbrev pub rate_of : ℕ → Option ℕ
 rate_of number = if number == 0 then None else Some number
 
 -- a recording with these names of its signals, with levels as they are or inverted, which starts at this microsecond
--- and has `rate` samples in a second
+-- and has `rate` samples in a second, or says itself how many if `rate` is 0
 pub record IsInput (source : Source) (atn clock line : List ℕ) (is_inverted : Bool) (start rate : ℕ)
     (input : TraceInput) : Type 0 where
   pub of_source : input.source ≡ source

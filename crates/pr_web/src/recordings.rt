@@ -164,7 +164,7 @@ pub extern "C" fn print1525_readings(
 /// as a PNG file, 4 for a PDF document. `device` is 4 or 5 for the pages of one printer, `sheet` is
 /// the number of one sheet from 1; 0 means all of them. Pictures draw the characters of the file `characters`, or the
 /// project's own where it is empty. Numbers that mean no such format are refused, and so are a file of characters with a
-/// bad line, a sheet that there is not and a document that is too large.
+/// bad line, a sheet past the last one and a document that is too large.
 #[unsafe(no_mangle)]
 pub extern "C" fn print1525_reprint(
     alloc: Global,
