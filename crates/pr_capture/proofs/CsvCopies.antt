@@ -60,7 +60,7 @@ time-on rate c d t less known = by (rate == 0) (nat_lt (d + 1) 18446744073709551
         let sooner : nat_lt (c * 1000000 / rate) 18446744073709551616 ≡ true = grind (arith, common_steps) in
         record { first = rw (hp, fewer, sooner) refl; last = cc; later = times }
 
--- this many rows have times if the last has one, and the first has none before what came before
+-- n + 1 rows have times if the last has one, and the first has none before what came before
 pub are-timed : (rate n t u : ℕ) (m : Moment) → time_at_rate rate m.count ≡ Some t → m.before ≤ t → time_at_rate rate (m.count + n) ≡ Some u → AreTimed rate m (suc n)
 are-timed rate zero t u m first before last =
     let h = time-on rate m.count m.count t (omega arith) first in
@@ -97,7 +97,7 @@ again inverted y rate number i m k bytes row is r timed before =
     row-levels y inverted number m fields row r.reads i t in
     record { line = r.line; ends = r.ends; inner = r.inner; loud = r.loud; reads = rw (next, sample) refl }
 
--- the last of this many more rows
+-- the last of `more` more rows
 abbrev last_at : (rate : ℕ) → (more : ℕ) → Row → Row
 last_at rate zero row = row
 last_at rate (suc n) row = last_at rate n (row_at (moment_beyond rate row.moment) row.sample.levels)
@@ -126,7 +126,7 @@ runs inverted y rate number (suc n) m bytes row is r timed =
       runs inverted y rate (number + 1) n row.moment bytes next is (again inverted y rate number (number + 1) m row.moment bytes row is r timed.0 timed.1) timed.2,
     )
 
--- a row, and this many more
+-- a row, and n more
 pub run-on : (inverted : Bool) (y : Layout) (rate number n : ℕ) (m after : Moment) (text bytes : List ℕ) (row : Row) → y.scale ≡ Counted rate → IsRepeat inverted y number m bytes row
     → AreTimed rate row.moment (suc n) → after ≡ moment_after rate row.moment (suc n) → text ≡ copies (suc (suc n)) bytes
     → IsRun inverted y number m text (suc (suc n)) (row_at after row.sample.levels)

@@ -181,7 +181,7 @@ AreTimed rate m zero = Unit {0}
 AreTimed rate m (suc n) =
     (time_at_rate rate m.count ≡ Some (m.count * 1000000 / rate)) × (m.before ≤ m.count * 1000000 / rate) × AreTimed rate (moment_beyond rate m) n
 
--- these bytes are such rows with the levels of the last, this many, and the last makes this of the moment
+-- these bytes are `count` such rows, all with the levels of `last`, which is the last of them
 abbrev pub IsRun : (inverted : Bool) → Layout → (number : ℕ) → Moment → (bytes : List ℕ) → (count : ℕ) → (last : Row) → Type 0
 IsRun inverted y number m bytes zero last = ⊥
 IsRun inverted y number m bytes (suc zero) last = IsRepeat inverted y number m bytes last
@@ -189,7 +189,7 @@ IsRun inverted y number m bytes (suc (suc n)) last =
     (first : Row) × (front : List ℕ) × (rest : List ℕ) × (bytes ≡ front ++ rest) × IsRepeat inverted y number m front first
     × (first.sample.levels ≡ last.sample.levels) × IsRun inverted y (number + 1) first.moment rest (suc n) last
 
--- what is still to be read, if a text goes on so
+-- what is still to be given, samples and end, if the text goes on with these bytes
 abbrev pub contents_left : CsvReader → (more : List ℕ) → CaptureContents
 contents_left r more = contents_from r.signals r.place r.number (lines_of (r.line.items ++ more))
 

@@ -45,7 +45,7 @@ abbrev pub with_zeros : (count : ℕ) → ℕ → Option ℕ
 with_zeros zero n = Some n
 with_zeros (suc count) n = onward (number_from n (48 ∷ [])) (λ m. with_zeros count m)
 
--- the number that this many first digits spell after those that spell n; those that lack are zeros
+-- the number that the first `count` digits spell after those that spell n; missing digits are zeros
 abbrev pub number_of_first : ℕ → (count : ℕ) → (digits : List ℕ) → Option ℕ
 number_of_first n count ds = onward (number_from n (take count ds)) (λ m. with_zeros (count - length ds) m)
 

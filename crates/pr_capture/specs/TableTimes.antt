@@ -37,19 +37,23 @@ abbrev pub unit_behind : (bare : Option ℕ) → (rest : Option (List ℕ)) → 
 unit_behind bare None = None
 unit_behind bare (Some rest) = if list_all is_sign rest then bare else unit_of rest
 
--- the unit that a column of times names: Time [s], Time (ms), t/ns, microseconds. Other columns have none
-abbrev pub time_unit : (bare : Option ℕ) → (name : List ℕ) → Option ℕ
-time_unit bare l =
-    first_some (unit_behind bare (behind_word (codes "timestamp") l))
-    (first_some (unit_behind bare (behind_word (codes "time") l))
-    (first_some (unit_behind bare (behind_word (codes "t") l))
-    (unit_of l)))
-
 -- a word ends here: no letter or digit follows
 abbrev pub ends_there : (rest : Option (List ℕ)) → Bool
 ends_there None = false
 ends_there (Some []) = true
 ends_there (Some (b ∷ bs)) = is_sign b
+
+-- the same after a word that ends here
+abbrev pub unit_apart : (bare : Option ℕ) → (rest : Option (List ℕ)) → Option ℕ
+unit_apart bare rest = if ends_there rest then unit_behind bare rest else None
+
+-- the unit that a column of times names: Time [s], Time (ms), t/ns, microseconds; TMS is none. Other columns have none
+abbrev pub time_unit : (bare : Option ℕ) → (name : List ℕ) → Option ℕ
+time_unit bare l =
+    first_some (unit_behind bare (behind_word (codes "timestamp") l))
+    (first_some (unit_behind bare (behind_word (codes "time") l))
+    (first_some (unit_apart bare (behind_word (codes "t") l))
+    (unit_of l)))
 
 -- a name begins with a word: Time (usec), but not TIMEOUT
 abbrev pub begins : (word name : List ℕ) → Bool

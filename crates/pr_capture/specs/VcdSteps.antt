@@ -90,7 +90,7 @@ MayEnd p = (s : Signals) (end : ℕ) → word_contents s end p [] ≡ ended
 abbrev pub is_letter : ℕ → Bool
 is_letter b = not (is_space b)
 
--- what is still to be read, if a text goes on so
+-- what is still to be given, samples and end, if the text goes on with these bytes
 abbrev pub contents_left : VcdReader → (more : List ℕ) → CaptureContents
 contents_left r more =
     word_contents r.signals (end_line r.number more) r.progress (words_behind r.number r.letters.items more)

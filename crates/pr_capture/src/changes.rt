@@ -35,7 +35,7 @@ fn are_digits(bytes: &[u8]) -> bool
     true
 }
 
-/// So many units, in whole microseconds; a unit has this many femtoseconds.
+/// A number of units, in whole microseconds; a unit has `scale` femtoseconds.
 fn whole_micros(scale: u64, number: Option<u64>) -> Option<u64>
     ensures { result ≡ whole_micros scale number }
 {

@@ -55,7 +55,7 @@ pub fn behind_first(bytes: &[u8], count: usize) -> &[u8]
     }
 }
 
-/// The number that the first `count` digits spell, after those that spell another; those that lack
+/// The number that the first `count` digits spell, after those that spell another; missing digits
 /// are zeros.
 pub fn number_of_first(front: u64, count: usize, digits: &[u8]) -> Option<u64>
     ensures { result ≡ number_of_first front count digits.now }

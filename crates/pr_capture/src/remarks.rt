@@ -1,7 +1,7 @@
 //! What the name of a table's first column and its remarks say of time.
 
 ghost use Rattle.std.specs.Prelude.{◌≡◌, ◌∷◌, [], option_copied};
-ghost use Rattle.pr_capture.specs.TableTimes.{bare_unit, begins, behind_fraction, ends_there, has_numbers, is_counting, is_micro, is_sample_word, is_sigrok_name, is_sigrok_word, is_this, is_unit, is_whole, no_remarks, own_rate, scale_by, scale_of, rate_by, rate_given, rate_in, rate_known, rate_unit, remarked, time_unit, unit_behind, unit_by, unit_of, with_rate};
+ghost use Rattle.pr_capture.specs.TableTimes.{bare_unit, begins, behind_fraction, ends_there, has_numbers, is_counting, is_micro, is_sample_word, is_sigrok_name, is_sigrok_word, is_this, is_unit, is_whole, no_remarks, own_rate, scale_by, scale_of, rate_by, rate_given, rate_in, rate_known, rate_unit, remarked, time_unit, unit_apart, unit_behind, unit_by, unit_of, with_rate};
 
 use crate::csv::Scale;
 use crate::entries::is_word;
@@ -66,6 +66,27 @@ fn unit_behind(bare: Option<u8>, rest: Option<&[u8]>) -> Option<u8>
     }
 }
 
+/// Whether a word ends here: no letter or digit follows.
+fn ends_there(rest: Option<&[u8]>) -> bool
+    ensures { result ≡ ends_there (option_copied rest.entry) }
+{
+    match rest {
+        None => false,
+        Some(rest) => rest.is_empty() || is_sign(rest[0]),
+    }
+}
+
+/// The same after a word that ends here.
+fn unit_apart(bare: Option<u8>, rest: Option<&[u8]>) -> Option<u8>
+    ensures { result ≡ unit_apart bare (option_copied rest.entry) }
+{
+    if ends_there(rest) {
+        unit_behind(bare, rest)
+    } else {
+        None
+    }
+}
+
 /// The unit that a column of times names. Other columns have none.
 pub fn time_unit(bare: Option<u8>, name: &[u8]) -> Option<u8>
     ensures { result ≡ time_unit bare name.now }
@@ -76,20 +97,10 @@ pub fn time_unit(bare: Option<u8>, name: &[u8]) -> Option<u8>
     if let Some(unit) = unit_behind(bare, behind_word(b"time", name)) {
         return Some(unit);
     }
-    if let Some(unit) = unit_behind(bare, behind_word(b"t", name)) {
+    if let Some(unit) = unit_apart(bare, behind_word(b"t", name)) {
         return Some(unit);
     }
     unit_of(name)
-}
-
-/// Whether a word ends here: no letter or digit follows.
-fn ends_there(rest: Option<&[u8]>) -> bool
-    ensures { result ≡ ends_there (option_copied rest.entry) }
-{
-    match rest {
-        None => false,
-        Some(rest) => rest.is_empty() || is_sign(rest[0]),
-    }
 }
 
 /// Whether a name begins with a word.

@@ -1,4 +1,4 @@
--- Linking words, for proofs: which lines a checker wrote of a text, and what a part of `check` answers. No reader needs to believe them.
+-- Linking words, for proofs: which lines belong to the text that a checker has taken, and what a part of `check` answers. No reader needs to believe them.
 use Rattle.std.specs.Prelude.{◌≡◌, ℕ, ◌<◌, ◌≤◌, List, [], ◌++◌, flat_map, length, Option, Some, None, Result, Ok, Err, Vec}
 use Rattle.std.specs.Global.{Global}
 use Rattle.std.specs.Io.KnownBytes.{IsAtEnd}
@@ -18,7 +18,7 @@ pub record HasTold (text lines : List ℕ) (c : Checker) : Type 0 where
   pub checked : HasChecked text frames c
   pub told : lines ≡ flat_map frame_line frames
 
--- whatever text was checked before, the lines of it and of these bytes are given after
+-- if the lines were those of the text before, they are now those of it and these bytes
 abbrev pub TellsOn : List ℕ → List ℕ → Checker → List ℕ → Checker → Type 0
 TellsOn bytes lines c more d = (text : List ℕ) → HasTold text lines c → HasTold (text ++ bytes) more d
 

@@ -151,7 +151,7 @@ abbrev pub HasReadAll : Option (List ℕ) → Result ReportText CliFault → Typ
 HasReadAll left (Ok t) = IsWhole t.refused → IsAtEnd left
 HasReadAll left (Err fault) = Unit {0}
 
--- why a report is refused, if it is: never by lack of memory
+-- why a report is refused, if it is: never for lack of memory
 abbrev pub IsRefused : ReportText → Type 0
 IsRefused t = IfSome t.refused IsTraceFault
 

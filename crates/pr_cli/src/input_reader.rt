@@ -23,7 +23,7 @@ use std::io::Read;
 /// [`finish`](InputReader::finish).
 ///
 /// The edges of a block are a list, 16 bytes each. A trait for whoever takes the edges would save
-/// the list, but lack of memory, counts and the moment of writing differ from caller to caller.
+/// the list, but what callers do without memory, their counts and when they write differ.
 #[derive(Drop)]
 pub struct InputReader<'a> {
     edges: EdgeReader<'a>,

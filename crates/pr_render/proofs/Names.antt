@@ -25,7 +25,7 @@ decimal-begins = decimal_by_steps (λ n ds. BeginsWithDigit ds) one more
     more n [] large begins = grind (arith, begins.0)
     more n (d ∷ ds) large begins = (omega arith, begins.1)
 
--- flags before texts that begin with a digit differ
+-- flags before a text that begins with a digit, and that text, can be read back
 flags-tell : (r w s v : Bool) (ds es : List ℕ) → BeginsWithDigit ds → BeginsWithDigit es
     → (text_if r (codes "r") ++ text_if w (codes "w")) ++ ds ≡ (text_if s (codes "r") ++ text_if v (codes "w")) ++ es
     → (r ≡ s) × (w ≡ v) × (ds ≡ es)

@@ -168,7 +168,7 @@ middle-is ns v few enough =
     let parts : at_most v ns ≡ below v ns + equal_to v ns = at_most-parts v ns in
     least_of-passing (is_half ns) v ns (half-above ns v few) (le-leb (length ns) (2 * at_most v ns) enough) (omega arith)
 
--- a number that is reported below a bound
+-- a number, if it is below a bound
 abbrev pub told_below : (bound : ℕ) → ℕ → Option ℕ
 told_below bound n = if nat_lt n bound then Some n else None
 

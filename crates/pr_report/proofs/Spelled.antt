@@ -34,7 +34,7 @@ abbrev row_frame : Option Row → Option Frame
 row_frame None = None
 row_frame (Some r) = r.frame
 
--- a row's frame is the one that is written of it
+-- a row's frame is its timed frame without the moments
 record IsTold (o : Option Row) : Type 0 where
   told : (look : ℕ) → map frame_told (option_to_list (row_moments look o)) ≡ option_to_list (row_frame o)
 
@@ -74,7 +74,7 @@ each P ttt ttf tft tff ftt ftf fft fff false true false = ftf
 each P ttt ttf tft tff ftt ftf fft fff false false true = fft
 each P ttt ttf tft tff ftt ftf fft fff false false false = fff
 
--- the frame of each row of the table is the one that is written of it
+-- the frame of each row of the table is its timed frame without the moments
 row-told : (p : BusState) (t : ℕ) (a c l : Bool) → IsTold (row p t a c l)
 row-told (Idle i) t a c l = each (λ x y z. IsTold (row (Idle i) t x y z)) none none none none none none (plain _ _ _) none a c l
 row-told (Call k false) t a c l =
@@ -120,7 +120,7 @@ row-told (Freed r true true) t a c l =
 row-told (Freed r false true) t a c l =
     each (λ x y z. IsTold (row (Freed r false true) t x y z)) (plain _ _ _) none none none none none (plain _ _ _) none a c l
 
--- the frame of a step is the one that is written of it
+-- the frame of a step is its timed frame without the moments
 abbrev StepTold : Step → Type 0
 StepTold s = (look : ℕ) → map frame_told (option_to_list (with_moments look s.frame s.place)) ≡ option_to_list s.frame
 
@@ -174,7 +174,7 @@ reverse-add : (o : Option Frame) (before : List Frame) → reverse (add o before
 reverse-add None before = sym (append-nil (reverse before))
 reverse-add (Some f) before = reverse-append (f ∷ []) before
 
--- the frames written of edges are those come by
+-- the frames of edges are their timed frames without the moments
 frames-behind-told : (es : List Edge) (r q : Reached) (look : ℕ) → reached r es ≡ Ok q
     → reverse q.before ≡ reverse r.before ++ map frame_told (timed_behind look r.last r.place es)
 frames-behind-told [] r q look h =

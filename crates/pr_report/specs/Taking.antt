@@ -56,7 +56,7 @@ pub record HasCounted (rs : List Reading) (c : Counts) : Type 0 where
 abbrev pub number_taken : Survey → ℕ
 number_taken s = s.taken
 
--- these readings were taken, and held against these bounds; the verdict by the profile needs no interval outside
+-- these readings were taken, and compared with these bounds; the verdict by the profile needs no interval outside
 pub record HasSurveyed (b : Bounds) (rs : List Reading) (s : Survey) : Type 0 where
   pub taken : s.taken ≡ length rs
   pub few : length rs < 2 ^ 64

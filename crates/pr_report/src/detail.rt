@@ -1,6 +1,6 @@
 //! How the readings of a recording are written.
 
-/// Which bounds the intervals of bytes are held against.
+/// Which bounds the intervals of bytes are compared with.
 #[derive(Clone, Copy, Debug, PartialEq, Eq)]
 pub enum Bounds {
     /// This project's profile: the bounds of its delays.

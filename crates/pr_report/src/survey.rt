@@ -28,7 +28,7 @@ use std::alloc::Global;
 pub struct Survey {
     /// How many readings were taken.
     taken: u64,
-    /// The bounds that intervals are held against.
+    /// The bounds that intervals are compared with.
     bounds: Bounds,
     /// The first interval outside them, where they are the guide's.
     outside: Option<Outside>,

@@ -24,7 +24,7 @@ const COUNTERS: usize = 16384;
 #[derive(Drop)]
 pub(crate) struct Tally {
     interval: Interval,
-    /// The bounds that it is held against.
+    /// The bounds that it is compared with.
     bounds: Bounds,
     /// The least and the greatest length within them, looked up once.
     lowest: u64,
@@ -40,7 +40,7 @@ pub(crate) struct Tally {
     counters: Vec<u64>,
 }
 
-/// So many counters at 0.
+/// `count` counters at 0.
 fn zeros(alloc: Global, count: usize) -> Result<Vec<u64>, NoMemory>
     ensures room { IfOk result (λ counters. length counters.items ≡ count) }
     ensures zero { IfOk result (λ counters. (n : ℕ) → n < count → get_or counters.items n 0 ≡ 0) }

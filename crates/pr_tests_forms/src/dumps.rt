@@ -92,7 +92,7 @@ const OF_SIGROK_CLI: &str =
     "META samplerate: 100000\n$date Mon Nov 23 16:13:32 2026 $end\n$version libsigrok 0.5.2 $end\n$comment\n  Acquisition with 3/3 channels at 100 kHz\n$end\n$timescale 10 us $end\n$scope module libsigrok $end\n$var wire 1 ! ATN $end\n$var wire 1 \" CLOCK $end\n$var wire 1 # DATA $end\n$upscope $end\n$enddefinitions $end\n#0 1! 1\" 1#\n#1 0! 0\"\n#2 0#\n#3 1\"\n#4 1! 1#\n#5\n";
 
 /// Levels that are not known before all three are: x in the section of first levels, z for a tristate line,
-/// and a level that is lost again. With inverted levels they are none too.
+/// and a level that is lost again. With inverted levels they are not known either.
 const NOT_KNOWN_YET: &str =
     "$timescale 1 us $end $var wire 1 a ATN $end $var wire 1 c CLOCK $end $var wire 1 d DATA $end $enddefinitions $end\n#0 $dumpvars xa Xc bx d $end\n#3 1a 1c\n#4 zc\n#5 0d bZ a\n#6 1c\n#7 0a\n#8 1d\n";
 

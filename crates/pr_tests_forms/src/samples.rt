@@ -42,7 +42,7 @@ fn makes(
 const THREE: &str = "2 010\n10 111\n20 001\n";
 
 /// A start, samples, and their edges. The last sample of a moment counts, and one that says nothing new
-/// makes no edge. Moments are counted from the start, and samples before it count as if they were there.
+/// makes no edge. Moments are counted from the start, and samples before it count as if they were at the start.
 const ROWS: [(u64, &str, &str); 10] = [
     (0, "", ""),
     (0, "0 111\n", "0 111\n"),
