@@ -79,6 +79,22 @@ pub fn push_same_names(
     push_paths(text, others.as_slice(), second)
 }
 
+/// A path, up to its range if it has one.
+fn without_range(path: &[u8]) -> &[u8] {
+    match path.iter().position(|b| *b == b'[') {
+        Some(at) => unframed(&path[..at]),
+        None => path,
+    }
+}
+
+/// The index in a name of a bit, with its brackets; nothing in the name of a signal.
+fn index_in(name: &[u8]) -> &[u8] {
+    match name.iter().position(|b| *b == b'[') {
+        Some(at) => &name[at..],
+        None => &[],
+    }
+}
+
 /// Adds that these paths are meant by one name, and what to do.
 fn push_paths(text: &mut String, paths: &[&[u8]], name: &[u8]) -> Result<(), NoMemory> {
     write!(text, "  two signals have the name {}:", Cut(name))?;
@@ -91,8 +107,9 @@ fn push_paths(text: &mut String, paths: &[&[u8]], name: &[u8]) -> Result<(), NoM
     match paths {
         [first, second, ..] if !first.eq_ignore_ascii_case(*second) => write!(
             text,
-            "\n  add the scopes in --names, such as {}\n",
-            Cut(*second)
+            "\n  add the scopes in --names, such as {}{}\n",
+            Cut(without_range(*second)),
+            Cut(index_in(name))
         ),
         _ => write!(
             text,
