@@ -29,16 +29,19 @@ use Rattle.pr_capture.specs.declared.times.Instant.{Instant}
 use Rattle.pr_capture.specs.declared.fault.CaptureFault.TheVariants.{BadLevel, Floating, Unknown}
 use Rattle.pr_capture.specs.declared.fault.Wire.{Wire}
 use Rattle.pr_capture.specs.declared.fault.Wire.TheVariants.{Atn, Clock, Data}
-use Rattle.pr_capture.specs.Csv.{behind_point, csv_contents, field_at, fields_of, instant_of_row, is_silent, level_of, level_or, moment_at, moment_next, moment_of, row_contents, row_of, sample_of}
+use Rattle.pr_capture.specs.Csv.{behind_point, csv_contents, field_at, fields_of, instant_of_number, instant_of_row, is_silent, level_of, level_or, moment_at, moment_next, moment_of, row_contents, row_of, sample_of}
 use Rattle.pr_capture.specs.CsvReads.{ReadsMore, SkipsRows, TakesRepeats}
 use Rattle.pr_capture.specs.Gathers.{AllHave}
-use Rattle.pr_capture.specs.CsvSteps.{are_behind, contents_from, decimals_len, field_len, is_inner, line_number, is_plain, tail_at, row_at, row_if, tail_by, with_len, HasLevels, HasReadTable, IsFront, IsPlainTime, IsRepeat, IsRowOf, KnowsLevels}
-use Rattle.pr_capture.specs.TableTimes.{instant_in, instant_of, micros_of, time_at_rate}
+use Rattle.pr_capture.specs.CsvSteps.{are_behind, contents_from, decimals_len, digits_ahead, field_len, is_inner, is_plain, line_number, row_at, row_if, tail_at, tail_behind, tail_by, with_len, HasLevels, HasReadTable, IsFront, IsPlainTime, IsRepeat, IsRowOf, IsTimeAhead, KnowsLevels, PlainComesFirst, TimeComesFirst}
+use Rattle.pr_capture.specs.Numbers.{behind_digits, digits_in, number_from, number_of, onward}
+use Rattle.pr_capture.specs.TableTimes.{count_in, instant_in, instant_of, micros_of, sample_in, time_at_rate, times_in}
 use Rattle.pr_capture.specs.Words.{is_space}
 use Rattle.pr_capture.specs.Recording.{◌>>=◌, is_framing, level_in, with_samples, without_front}
+use Rattle.pr_capture.specs.declared.numbers.Digits.{Digits}
 use Rattle.pr_capture.proofs.CsvFields.{field-ended}
 use Rattle.pr_capture.proofs.CsvReading.{behind-behind, inner-line}
-use Rattle.pr_capture.proofs.CsvTimes.{IsTail, behind_start, digits-read, field-first, is_inside, tail-of-none, tail-of-point}
+use Rattle.pr_capture.proofs.DigitLemmas.{ahead-digits}
+use Rattle.pr_capture.proofs.CsvTimes.{IsTail, behind_start, digit-first, digits-read, digits-run, field-first, is_inside, tail-of-none, tail-of-point}
 
 -- Plain times.
 
@@ -287,12 +290,13 @@ sample-behind c inverted n t f g fs h = by (c.atn == 0) (c.clock == 0) (c.line =
     by false true r hp hq hr = absurd (let no : false ≡ true = rw (hp, hq) at h in cc)
     by false false true hp hq hr = absurd (let no : false ≡ true = rw (hp, hq, hr) at h in cc)
 
--- rows with times
-timed-levels : (inverted : Bool) (y : Layout) (unit : ℕ) (line : List ℕ) (from : ℕ) (e : Edge) → y.scale ≡ Timed unit → are_behind y.columns ≡ true → is_plain y.separator ≡ false
+-- rows with times or numbers
+plain-levels : (inverted : Bool) (y : Layout) (line : List ℕ) (from : ℕ) (e : Edge) → ((front : List ℕ) → IsFront y.scale front → (list_all is_plain front ≡ true) × (0 < length front))
+    → ((tail : List ℕ) → PlainComesFirst y.separator tail → TimeComesFirst y.scale y.separator tail) → are_behind y.columns ≡ true → is_plain y.separator ≡ false
     → from ≡ field_len y.separator false line → from < length line → list_all is_inner line ≡ true
     → ((number time : ℕ) → sample_of y.columns inverted number (fields_of y.separator false line) time ≡ Ok (record { time = time; levels = e.levels }))
     → HasLevels inverted y (drop from line) e.levels
-timed-levels inverted y unit line from e is behind other at less inner reads =
+plain-levels inverted y line from e plain comes behind other at less inner reads =
     let sep : ℕ = y.separator in
     let more : List ℕ = drop (from + 1) line in
     let ends : field_len sep false line < length line = omega (arith, at, less) in
@@ -304,13 +308,12 @@ timed-levels inverted y unit line from e is behind other at less inner reads =
     let P : List ℕ → Type 0 = λ v. HasLevels inverted y v e.levels in
     subst P (sym tail) record {
       inner = ap (list_all is_inner) (sym tail) ∙ inner-rest from line inner;
-      loud = λ front f. (let g : (list_all is_plain front ≡ true) × (0 < length front) = rw is at f in front-loud front (sep ∷ more) g.0 g.1);
-      first = rw is (λ front p. ap (field_at 0) (first front p));
+      loud = λ front f. front-loud front (sep ∷ more) (plain front f).0 (plain front f).1;
+      first = comes (sep ∷ more) (λ front p. ap (field_at 0) (first front p));
       reads = λ number time front f.
-          (let g : (list_all is_plain front ≡ true) × (0 < length front) = rw is at f in
-          ap (λ v. sample_of y.columns inverted number v time) (first front g.0)
+          ap (λ v. sample_of y.columns inverted number v time) (first front (plain front f).0)
           ∙ (sample-behind y.columns inverted number time front (take from line) (fields_of sep false more) behind
-          ∙ (ap (λ v. sample_of y.columns inverted number v time) (sym split) ∙ reads number time)));
+          ∙ (ap (λ v. sample_of y.columns inverted number v time) (sym split) ∙ reads number time));
     }
 
 -- what is known of rows that go on as a row does
@@ -319,16 +322,18 @@ pub tail-levels : (inverted : Bool) (y : Layout) (line : List ℕ) (from : ℕ) 
     → HasLevels inverted y (drop from line) e.levels
 tail-levels inverted y line from e at inner loud reads = by y.scale refl at
   where
-    timed : (unit : ℕ) → y.scale ≡ Timed unit → (a b d : Bool) → are_behind y.columns ≡ a → is_plain y.separator ≡ b → nat_lt (field_len y.separator false line) (length line) ≡ d
-        → tail_by (Timed unit) y.columns y.separator line ≡ Some from → HasLevels inverted y (drop from line) e.levels
-    timed unit is true false true ha hb hd k =
+    behind : ((front : List ℕ) → IsFront y.scale front → (list_all is_plain front ≡ true) × (0 < length front))
+        → ((tail : List ℕ) → PlainComesFirst y.separator tail → TimeComesFirst y.scale y.separator tail)
+        → (a b d : Bool) → are_behind y.columns ≡ a → is_plain y.separator ≡ b → nat_lt (field_len y.separator false line) (length line) ≡ d
+        → tail_behind y.columns y.separator line ≡ Some from → HasLevels inverted y (drop from line) e.levels
+    behind plain comes true false true ha hb hd k =
         let o : Some (field_len y.separator false line) ≡ Some from = rw (ha, hb, hd) at k in
         let j : from ≡ field_len y.separator false line = cc in
         let less : field_len y.separator false line < length line = grind (arith, common_steps) in
-        timed-levels inverted y unit line from e is ha hb j (omega (arith, j, less)) inner reads
-    timed unit is false b d ha hb hd k = absurd (let o : None ≡ Some from = rw ha at k in cc)
-    timed unit is true true d ha hb hd k = absurd (let o : None ≡ Some from = rw (ha, hb) at k in cc)
-    timed unit is true false false ha hb hd k = absurd (let o : None ≡ Some from = rw (ha, hb, hd) at k in cc)
+        plain-levels inverted y line from e plain comes ha hb j (omega (arith, j, less)) inner reads
+    behind plain comes false b d ha hb hd k = absurd (let o : None ≡ Some from = rw ha at k in cc)
+    behind plain comes true true d ha hb hd k = absurd (let o : None ≡ Some from = rw (ha, hb) at k in cc)
+    behind plain comes true false false ha hb hd k = absurd (let o : None ≡ Some from = rw (ha, hb, hd) at k in cc)
 
     by : (scale : Scale) → y.scale ≡ scale → tail_by scale y.columns y.separator line ≡ Some from → HasLevels inverted y (drop from line) e.levels
     by (Counted rate) is k =
@@ -340,9 +345,10 @@ tail-levels inverted y line from e at inner loud reads = by y.scale refl at
           first = rw is tt;
           reads = λ number time front f. (let none : front ≡ [] = rw is at f in rw none (reads number time));
         }
-    by (Numbered step rate) is k = absurd (cc)
+    by (Numbered step rate) is k =
+        behind (λ front f. rw is at f) (λ tail p. rw is p) (are_behind y.columns) (is_plain y.separator) (nat_lt (field_len y.separator false line) (length line)) refl refl refl k
     by (Timed unit) is k =
-        timed unit is (are_behind y.columns) (is_plain y.separator) (nat_lt (field_len y.separator false line) (length line)) refl refl refl k
+        behind (λ front f. rw is at f) (λ tail p. rw is p) (are_behind y.columns) (is_plain y.separator) (nat_lt (field_len y.separator false line) (length line)) refl refl refl k
 
 -- so it is of a line that has ended
 pub row-known : (inverted : Bool) (p : RowPlace) (y : Layout) (m : Moment) (line : List ℕ) (sample : Option Edge) (e : Edge) (from : ℕ) → p ≡ Rows y m → sample ≡ Some e → tail_at y line ≡ Some from
@@ -371,19 +377,62 @@ pub repeated-counted : (inverted : Bool) (y : Layout) (number rate len : ℕ) (m
 repeated-counted inverted y number rate len m next block tail levels is h reads ends l =
     row-read inverted y number m next block [] tail (take len block) levels h (rw is refl) refl (rw is reads) (ap (λ i. take i block) l ∙ ends)
 
--- and in one with times
+-- and in one with times or numbers
+repeated-plain : (inverted : Bool) (y : Layout) (number n len : ℕ) (m next : Moment) (block tail : List ℕ) (levels : Levels) → IsFront y.scale (take n block) → HasLevels inverted y tail levels
+    → list_all is_plain (take n block) ≡ true → moment_of y.scale number m (fields_of y.separator false (take n block ++ tail)) ≡ Ok next
+    → take (length tail + 1) (drop n block) ≡ tail ++ 10 ∷ [] → len ≡ n + length tail + 1 → IsRepeat inverted y number m (take len block) (row_at next levels)
+repeated-plain inverted y number n len m next block tail levels front h plain reads ends l =
+    let in-parts : len ≡ n + (length tail + 1) = omega (arith, l) in
+    let bytes : take len block ≡ (take n block ++ tail) ++ 10 ∷ [] =
+    ap (λ j. take j block) in-parts ∙ (take-add n (length tail + 1) block ∙ (ap (λ v. take n block ++ v) ends ∙ sym (append_assoc (take n block) tail (10 ∷ [])))) in
+    row-read inverted y number m next block (take n block) tail (take len block) levels h front (all-of is_plain is_inner plain-inner (take n block) plain) reads bytes
+
 pub repeated-timed : (inverted : Bool) (y : Layout) (number unit n len : ℕ) (m next : Moment) (block tail whole decimals : List ℕ) (i : Instant) (levels : Levels) → y.scale ≡ Timed unit
     → HasLevels inverted y tail levels → IsPlainTime (take n block) whole decimals → instant_of false (micros_of 6 unit whole decimals) ≡ Some i → moment_at number m (Some i) ≡ Ok next
     → take (length tail + 1) (drop n block) ≡ tail ++ 10 ∷ [] → len ≡ n + length tail + 1 → IsRepeat inverted y number m (take len block) (row_at next levels)
 repeated-timed inverted y number unit n len m next block tail whole decimals i levels is h plain spelled reads ends l =
     let front : List ℕ = take n block in
-    let first : (f : List ℕ) → list_all is_plain f ≡ true → field_at 0 (fields_of y.separator false (f ++ tail)) ≡ Some f = rw is at h.first in
-    let in-parts : len ≡ n + (length tail + 1) = omega (arith, l) in
-    let bytes : take len block ≡ (front ++ tail) ++ 10 ∷ [] =
-    ap (λ j. take j block) in-parts ∙ (take-add n (length tail + 1) block ∙ (ap (λ v. front ++ v) ends ∙ sym (append_assoc front tail (10 ∷ [])))) in
+    let first : PlainComesFirst y.separator tail = rw is at h.first in
     let timed : moment_of (Timed unit) number m (fields_of y.separator false (front ++ tail)) ≡ Ok next =
     ap (λ o. moment_at number m (instant_of_row unit o)) (first front plain.plain) ∙ (ap (moment_at number m) (plain.reads unit i spelled) ∙ reads) in
-    row-read inverted y number m next block front tail (take len block) levels h (rw is (plain.plain, plain.some)) (all-of is_plain is_inner plain-inner front plain.plain) (rw is timed) bytes
+    repeated-plain inverted y number n len m next block tail levels (rw is (plain.plain, plain.some)) h plain.plain (rw is timed) ends l
+
+-- digits alone are a plain time
+pub digits-ahead : (text : List ℕ) (d : Digits) → digits_ahead text ≡ Some d → 0 < d.len → IsTimeAhead 6 text (record { len = d.len; micros = d.number })
+digits-ahead text d h some =
+    let is = ahead-digits text d h in
+    let whole : List ℕ = digits_in text in
+    let digits : list_all is_digit whole ≡ true = all-front is_digit text in
+    let long : 0 < length whole = omega (arith, some, is.0, length-prefix_len is_digit text) in
+    let read : IsPlainTime whole whole [] = subst (λ v. IsPlainTime v whole []) (append-nil whole) (plain-read whole [] [] digits refl long tail-of-none) in
+    record { whole = whole; decimals = []; plain = subst (λ j. IsPlainTime (take j text) whole []) (sym is.0) read; spells = rw is.1 refl }
+
+-- digits alone are the number that they spell
+digits-counted : (xs : List ℕ) → list_all is_digit xs ≡ true → 0 < length xs → count_in (without_front xs) ≡ number_from 0 xs
+digits-counted [] h some = absurd (omega (arith, some))
+digits-counted (x ∷ xs) h some =
+    let all : List ℕ = x ∷ xs in
+    let run = digits-run all [] h refl in
+    let none : all ++ [] ≡ all = append-nil all in
+    let own : digits_in all ≡ all = subst (λ v. take (prefix_len is_digit v) v ≡ all) none run.0 in
+    let behind : behind_digits all ≡ [] = subst (λ v. drop (prefix_len is_digit v) v ≡ []) none run.1 in
+    let front : without_front all ≡ all = subst (λ v. without_front v ≡ v) none (digit-first all [] some h).0 in
+    ap count_in front ∙ (rw behind refl ∙ ap number_of own)
+
+pub repeated-numbered : (inverted : Bool) (y : Layout) (number step rate count len : ℕ) (m next : Moment) (block tail : List ℕ) (i : Instant) (levels : Levels) → y.scale ≡ Numbered step rate
+    → HasLevels inverted y tail levels → 0 < length (digits_in block) → number_from 0 (digits_in block) ≡ Some count → instant_of false (onward (times_in step count) (time_at_rate rate)) ≡ Some i
+    → moment_at number m (Some i) ≡ Ok next → take (length tail + 1) (drop (prefix_len is_digit block) block) ≡ tail ++ 10 ∷ [] → len ≡ prefix_len is_digit block + length tail + 1
+    → IsRepeat inverted y number m (take len block) (row_at next levels)
+repeated-numbered inverted y number step rate count len m next block tail i levels is h some counted spelled reads ends l =
+    let front : List ℕ = digits_in block in
+    let digits : list_all is_digit front ≡ true = all-front is_digit block in
+    let plain : list_all is_plain front ≡ true = all-of is_digit is_plain digit-is-plain front digits in
+    let first : PlainComesFirst y.separator tail = rw is at h.first in
+    let sample : sample_in step rate (without_front front) ≡ Some i =
+    ap (λ o. instant_of false (onward (onward o (times_in step)) (time_at_rate rate))) (digits-counted front digits some ∙ counted) ∙ spelled in
+    let timed : moment_of (Numbered step rate) number m (fields_of y.separator false (front ++ tail)) ≡ Ok next =
+    ap (λ o. moment_at number m (instant_of_number step rate o)) (first front plain) ∙ (ap (moment_at number m) sample ∙ reads) in
+    repeated-plain inverted y number (prefix_len is_digit block) len m next block tail levels (rw is (plain, some)) h plain (rw is timed) ends l
 
 -- the moment that made a row
 moment-of-row : (inverted : Bool) (y : Layout) (number : ℕ) (m : Moment) (bytes : List ℕ) (levels : Levels) (row : Row) (v : Result Moment CaptureFault) → row_if v levels ≡ Some row
@@ -413,6 +462,18 @@ timed-repeat inverted y number unit n m block tail whole decimals last levels i 
     moment-of-row inverted y number m (take (n + length tail + 1) block) levels row v (sym r ∙ some)
     (λ next e.
     repeated-timed inverted y number unit n (n + length tail + 1) m next block tail whole decimals i levels is (subst P (sym t) k) plain spelled (sym made ∙ e) ends refl)
+
+pub numbered-repeat : (inverted : Bool) (y : Layout) (number step rate count : ℕ) (m : Moment) (block tail : List ℕ) (last : LastRow) (levels : Levels) (i : Instant) (row : Row)
+    (v : Result Moment CaptureFault) (o : Option Row) → y.scale ≡ Numbered step rate → last.levels ≡ Some levels → tail ≡ drop last.from last.bytes.items → 0 < length (digits_in block)
+    → number_from 0 (digits_in block) ≡ Some count → instant_of false (onward (times_in step count) (time_at_rate rate)) ≡ Some i → v ≡ moment_at number m (Some i) → o ≡ row_if v levels → o ≡ Some row
+    → take (length tail + 1) (drop (prefix_len is_digit block) block) ≡ tail ++ 10 ∷ [] → KnowsLevels inverted y last
+    → IsRepeat inverted y number m (take (prefix_len is_digit block + length tail + 1) block) row
+numbered-repeat inverted y number step rate count m block tail last levels i row v o is there t digits counted spelled made r some ends knows =
+    let k : HasLevels inverted y (drop last.from last.bytes.items) levels = rw there at knows in
+    let P : List ℕ → Type 0 = λ l. HasLevels inverted y l levels in
+    let len : ℕ = prefix_len is_digit block + length tail + 1 in
+    moment-of-row inverted y number m (take len block) levels row v (sym r ∙ some)
+    (λ next e. repeated-numbered inverted y number step rate count len m next block tail i levels is (subst P (sym t) k) digits counted spelled (sym made ∙ e) ends refl)
 
 -- these bytes and the end of a line are in front of a text
 pub led : (tail text : List ℕ) (word : Bool) → word ≡ bytes_eq (take (length tail) text) tail → length tail < length text → get_or text (length tail) 0 ≡ 10 → word ≡ true

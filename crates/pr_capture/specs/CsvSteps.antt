@@ -1,6 +1,6 @@
 -- Linking words: what a reader of comma separated values has taken. The clauses of `CsvReader` say all that a caller needs of
 -- them. No reader needs to believe them.
-use Rattle.std.specs.Prelude.{◌≡◌, ℕ, zero, suc, ◌+◌, ◌*◌, ◌/◌, ◌<◌, ◌≤◌, ◌==◌, ◌&&◌, ◌||◌, Bool, true, false, not, List, [], ◌∷◌, ◌++◌, drop, length, nat_lt, if◌then◌else◌, IfSome, Option, Some, None, Result, Ok, Err}
+use Rattle.std.specs.Prelude.{◌≡◌, ℕ, zero, suc, ◌+◌, ◌*◌, ◌/◌, ◌<◌, ◌≤◌, ◌==◌, ◌&&◌, ◌||◌, Bool, true, false, not, List, [], ◌∷◌, ◌++◌, drop, length, take, nat_lt, if◌then◌else◌, IfSome, Option, Some, None, Result, Ok, Err}
 use Rattle.std.specs.List.{list_all, prefix_len}
 use Rattle.pr_wire.specs.declared.Edge.{Edge}
 use Rattle.pr_wire.specs.declared.Levels.{Levels}
@@ -21,6 +21,9 @@ use Rattle.pr_capture.specs.declared.fault.CaptureFault.{CaptureFault}
 use Rattle.pr_capture.specs.declared.signals.Signals.{Signals}
 use Rattle.pr_capture.specs.Csv.{csv_contents, field_at, fields_of, first_contents, is_silent, line_contents, row_contents, row_of, sample_of}
 use Rattle.pr_capture.specs.declared.times.Instant.{Instant}
+use Rattle.pr_capture.specs.declared.times.PlainTime.{PlainTime}
+use Rattle.pr_capture.specs.declared.numbers.Digits.{Digits}
+use Rattle.pr_capture.specs.Numbers.{digits_in, number_from, onward}
 use Rattle.pr_capture.specs.TableTimes.{instant_in, instant_of, micros_of, time_at_rate}
 use Rattle.pr_capture.specs.Recording.{ended, refused, with_samples, without_front, CaptureContents}
 use Rattle.pr_capture.specs.Samples.{listed}
@@ -87,17 +90,34 @@ pub record IsPlainTime (field whole decimals : List ℕ) : Type 0 where
   pub reads : (unit : ℕ) (i : Instant) → instant_of false (micros_of 6 unit whole decimals) ≡ Some i
       → instant_in unit (without_front field) ≡ Some i
 
--- what a row has in front of the bytes that are compared: a plain time, or nothing in a table without times
+-- a plain time is in front of a text and spells these microseconds
+pub record IsTimeAhead (unit : ℕ) (text : List ℕ) (t : PlainTime) : Type 0 where
+  pub whole : List ℕ
+  pub decimals : List ℕ
+  pub plain : IsPlainTime (take t.len text) whole decimals
+  pub spells : micros_of 6 unit whole decimals ≡ Some t.micros
+
+-- digits in front of a text after i others that spell n
+abbrev pub digits_left : (n i : ℕ) → (text : List ℕ) → Option Digits
+digits_left n i l = onward (number_from n (digits_in l)) (λ m. Some (record { len = i + prefix_len is_digit l; number = m }))
+
+abbrev pub digits_ahead : (text : List ℕ) → Option Digits
+digits_ahead l = digits_left 0 0 l
+
+-- what a row has in front of the bytes that are compared: a plain time or number, or nothing in a table without them
 abbrev pub IsFront : Scale → (front : List ℕ) → Type 0
 IsFront (Timed unit) front = (list_all is_plain front ≡ true) × (0 < length front)
-IsFront (Numbered step rate) front = ⊥
+IsFront (Numbered step rate) front = (list_all is_plain front ≡ true) × (0 < length front)
 IsFront (Counted rate) front = front ≡ []
 
--- the first field of rows that go on so is their time
-abbrev pub TimeComesFirst : Scale → (separator : ℕ) → (tail : List ℕ) → Type 0
-TimeComesFirst (Timed unit) sep tail =
+-- the first field of rows that go on so is their time or number
+abbrev pub PlainComesFirst : (separator : ℕ) → (tail : List ℕ) → Type 0
+PlainComesFirst sep tail =
     (front : List ℕ) → list_all is_plain front ≡ true → field_at 0 (fields_of sep false (front ++ tail)) ≡ Some front
-TimeComesFirst (Numbered step rate) sep tail = Unit {0}
+
+abbrev pub TimeComesFirst : Scale → (separator : ℕ) → (tail : List ℕ) → Type 0
+TimeComesFirst (Timed unit) sep tail = PlainComesFirst sep tail
+TimeComesFirst (Numbered step rate) sep tail = PlainComesFirst sep tail
 TimeComesFirst (Counted rate) sep tail = Unit {0}
 
 -- a row has these levels whose bytes after its time are these, whatever its time is
@@ -131,11 +151,14 @@ abbrev pub are_behind : Columns → Bool
 are_behind c = not (c.atn == 0) && not (c.clock == 0) && not (c.line == 0)
 
 -- where the bytes of a row begin that have its levels, whatever its time is
-abbrev pub tail_by : Scale → Columns → (separator : ℕ) → (line : List ℕ) → Option ℕ
-tail_by (Timed unit) c sep line =
+abbrev pub tail_behind : Columns → (separator : ℕ) → (line : List ℕ) → Option ℕ
+tail_behind c sep line =
     if are_behind c && not (is_plain sep) && nat_lt (field_len sep false line) (length line)
     then Some (field_len sep false line) else None
-tail_by (Numbered step rate) c sep line = None
+
+abbrev pub tail_by : Scale → Columns → (separator : ℕ) → (line : List ℕ) → Option ℕ
+tail_by (Timed unit) c sep line = tail_behind c sep line
+tail_by (Numbered step rate) c sep line = tail_behind c sep line
 tail_by (Counted rate) c sep line = Some 0
 
 abbrev pub tail_at : Layout → (line : List ℕ) → Option ℕ

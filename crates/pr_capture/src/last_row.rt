@@ -3,13 +3,14 @@
 
 ghost use Rattle.std.specs.Prelude.{◌≡◌, ◌+◌, ◌*◌, ◌<◌, ◌≤◌, ◌∷◌, ◌++◌, [], Bool, None, IfSome, Some, IsTrue, length, take, true};
 ghost use Rattle.std.specs.List.{list_all};
+ghost use Rattle.std.specs.Str.{bytes_eq};
 ghost use Rattle.pr_capture.specs.CsvSteps.{IsRepeat, IsRowOf, IsRun, KnowsLast, KnowsLevels, are_behind, copies, is_inner, row_if, tail_at};
 
 use crate::csv::{Columns, Layout, Moment, Row, RowPlace, Scale, field_len};
 use crate::entries::is_word;
 use crate::fault::CaptureFault;
-use crate::numbers::behind_first;
-use crate::times::{is_plain, plain_in};
+use crate::numbers::{behind_first, digits_ahead};
+use crate::times::{Instant, is_plain, plain_in, sample_at};
 use pr_wire::{Edge, Levels};
 use std::alloc::Global;
 use std::mem;
@@ -69,8 +70,7 @@ fn tail_at(layout: Layout, line: &[u8]) -> Option<usize>
 {
     match layout.scale {
         Scale::Counted(_) => Some(0),
-        Scale::Numbered { .. } => None,
-        Scale::Timed(_) => {
+        Scale::Numbered { .. } | Scale::Timed(_) => {
             let len = field_len(layout.separator, line);
             if are_behind(layout.columns) && !is_plain(layout.separator) && len < line.len() {
                 Some(len)
@@ -79,6 +79,22 @@ fn tail_at(layout: Layout, line: &[u8]) -> Option<usize>
             }
         }
     }
+}
+
+/// Whether two texts are the same, as `is_word` says, in a loop that is inlined: mostly they have a few bytes.
+#[inline(always)]
+fn are_same(bytes: &[u8], others: &[u8]) -> bool
+    ensures { result ≡ bytes_eq bytes.now others.now }
+{
+    if bytes.len() != others.len() {
+        return false;
+    }
+    for (i, b) in bytes.iter().enumerate() {
+        if *b != others[i] {
+            return false;
+        }
+    }
+    true
 }
 
 /// Whether these bytes and the end of a line are in front of a text.
@@ -90,7 +106,7 @@ fn leads(tail: &[u8], text: &[u8]) -> bool
     let len = tail.len();
     if len < text.len() {
         if text[len] == b'\n' {
-            return is_word(&text[..len], tail);
+            return are_same(&text[..len], tail);
         }
     }
     false
@@ -181,13 +197,24 @@ impl LastRow {
                 let row = row_if(moment.next(number, rate), levels)?;
                 Some((tail.len() + 1, row))
             }
-            Scale::Numbered { .. } => None,
+            Scale::Numbered { step, rate } => {
+                let digits = digits_ahead(block)?;
+                if digits.len == 0 || !leads(tail, &block[digits.len..]) {
+                    return None;
+                }
+                let sample = sample_at(step, rate, digits.number)?;
+                let row = row_if(moment.at(number, Some(sample)), levels)?;
+                Some((digits.len + tail.len() + 1, row))
+            }
             Scale::Timed(unit) => {
-                let time = plain_in(block)?;
+                let time = plain_in(unit, block)?;
                 if !leads(tail, &block[time.len..]) {
                     return None;
                 }
-                let instant = time.instant(unit)?;
+                let instant = Instant {
+                    is_negative: false,
+                    micros: time.micros,
+                };
                 let row = row_if(moment.at(number, Some(instant)), levels)?;
                 Some((time.len + tail.len() + 1, row))
             }

@@ -1,7 +1,8 @@
 //! Numbers in a recording, and words in it.
 
-ghost use Rattle.std.specs.Prelude.{◌≡◌, ◌≤◌, length, option_copied, take, drop};
+ghost use Rattle.std.specs.Prelude.{◌≡◌, ◌≤◌, length, option_copied, take, drop, IfSome};
 ghost use Rattle.std.specs.List.{list_all};
+ghost use Rattle.pr_capture.specs.CsvSteps.{digits_ahead};
 ghost use Rattle.pr_capture.specs.Numbers.{are_some, behind_decimals, behind_digits, behind_word, decimals_in, digits_in, is_letter, is_sign, number_from, number_in, number_of_first, spells, with_zeros, without_signs};
 
 use crate::signals::behind_letter;
@@ -17,6 +18,35 @@ pub fn number_from(front: u64, digits: &[u8]) -> Option<u64>
         number = tens.checked_add(u64::from(digit.saturating_sub(b'0')))?;
     }
     Some(number)
+}
+
+/// Digits in front of a text.
+#[derive(Clone, Copy)]
+pub struct Digits {
+    /// How many they are.
+    pub len: usize,
+    /// The number that they spell, which is 0 where there are none.
+    pub number: u64,
+}
+
+/// The digits in front of a text with the number that they spell, as long as it is below 2^64.
+#[inline(always)]
+pub fn digits_ahead(text: &[u8]) -> Option<Digits>
+    ensures digits { result ≡ digits_ahead text.now }
+    ensures within { IfSome result (λ d. d.len ≤ length text.now) }
+{
+    let mut number: u64 = 0;
+    for (i, b) in text.iter().enumerate() {
+        if !is_digit(*b) {
+            return Some(Digits { len: i, number });
+        }
+        let tens = number.checked_mul(10)?;
+        number = tens.checked_add(u64::from(*b - b'0'))?;
+    }
+    Some(Digits {
+        len: text.len(),
+        number,
+    })
 }
 
 /// The number of another and this many zeros after it.

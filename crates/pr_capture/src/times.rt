@@ -3,12 +3,13 @@
 ghost use Rattle.std.specs.Prelude.{◌≡◌, ◌+◌, ◌^◌, ◌<◌, ◌≤◌, false, length, option_copied, take, IfSome, Some};
 ghost use Rattle.std.specs.List.{list_all};
 ghost use Rattle.pr_capture.specs.TableTimes.{behind_part, behind_plus_minus, count_in, dated_in, earlier, exponent_in, few_places, from_start, has_rest, instant_at, instant_by, instant_in, is_minus, is_zone_sign, left_at, micros_left, micros_of, places_in, sample_in, start_of, time_at_rate, time_or, times_in, unsigned_in, instant_of};
-ghost use Rattle.pr_capture.specs.CsvSteps.{IsPlainTime, decimals_len, is_plain};
+ghost use Rattle.pr_capture.specs.Numbers.{onward};
+ghost use Rattle.pr_capture.specs.CsvSteps.{IsTimeAhead, decimals_len, is_plain};
 
 use crate::fault::CaptureFault;
 use crate::numbers::{
-    are_some, behind_decimals, behind_digits, behind_first, decimals_in, digits_in, first_of,
-    number_from, number_in, number_of_first,
+    are_some, behind_decimals, behind_digits, behind_first, decimals_in, digits_ahead, digits_in,
+    first_of, number_from, number_in, number_of_first,
 };
 use crate::signals::{are_framing, is_framing};
 use pr_base::{digit_count, is_digit};
@@ -266,24 +267,11 @@ pub fn is_plain(b: u8) -> bool
 
 /// A plain time in front of a text: digits, or digits, a point and decimals.
 #[derive(Clone, Copy)]
-pub struct PlainTime<'a> {
+pub struct PlainTime {
     /// How many bytes it has.
     pub len: usize,
-    pub whole: &'a [u8],
-    pub decimals: &'a [u8],
-}
-
-impl PlainTime<'_> {
-    /// The time that it spells in a unit.
-    pub fn instant(self, unit: u8) -> Option<Instant>
-        ensures { result ≡ instant_of false (micros_of 6 unit self.entry.whole.now self.entry.decimals.now) }
-    {
-        let micros = micros_of(6, usize::from(unit), self.whole, self.decimals)?;
-        Some(Instant {
-            is_negative: false,
-            micros,
-        })
-    }
+    /// The whole microseconds that it spells.
+    pub micros: u64,
 }
 
 /// How many bytes a point and decimals have, if a point is here.
@@ -297,11 +285,21 @@ fn decimals_len(text: &[u8]) -> usize
     }
 }
 
-/// The plain time in front of a text, if it begins with a digit.
-pub fn plain_in(text: &[u8]) -> Option<PlainTime<'_>>
-    ensures plain { IfSome result (λ t. IsPlainTime (take t.len text.now) t.whole.now t.decimals.now) }
+/// The plain time in front of a text in a unit, if it begins with a digit and is below 2^64 microseconds.
+#[inline(always)]
+pub fn plain_in(unit: u8, text: &[u8]) -> Option<PlainTime>
+    ensures plain { IfSome result (λ t. IsTimeAhead unit text.now t) }
     ensures within { IfSome result (λ t. t.len ≤ length text.now) }
 {
+    if unit == 6 {
+        let digits = digits_ahead(text)?;
+        if digits.len > 0 && decimals_len(&text[digits.len..]) == 0 {
+            return Some(PlainTime {
+                len: digits.len,
+                micros: digits.number,
+            });
+        }
+    }
     let count = digit_count(text);
     let whole = &text[..count];
     if whole.is_empty() {
@@ -309,10 +307,10 @@ pub fn plain_in(text: &[u8]) -> Option<PlainTime<'_>>
     }
     let behind = &text[count..];
     let len = decimals_len(behind);
+    let decimals = behind_first(&behind[..len], 1);
     Some(PlainTime {
         len: count + len,
-        whole,
-        decimals: behind_first(&behind[..len], 1),
+        micros: micros_of(6, usize::from(unit), whole, decimals)?,
     })
 }
 
@@ -406,13 +404,20 @@ fn times_in(step: u64, number: u64) -> Option<u64>
     }
 }
 
-/// The time of the sample whose number a field spells, a step times, where a second has this many samples.
-pub fn sample_in(step: u64, rate: u64, field: &[u8]) -> Option<Instant>
-    ensures { result ≡ sample_in step rate field.now }
+/// The time of the sample whose number is this one, a step times, where a second has this many samples.
+pub fn sample_at(step: u64, rate: u64, number: u64) -> Option<Instant>
+    ensures { result ≡ instant_of false (onward (times_in step number) (time_at_rate rate)) }
 {
-    let count = times_in(step, count_in(field)?)?;
+    let count = times_in(step, number)?;
     Some(Instant {
         is_negative: false,
         micros: time_at_rate(rate, count)?,
     })
+}
+
+/// The same of the number that a field spells.
+pub fn sample_in(step: u64, rate: u64, field: &[u8]) -> Option<Instant>
+    ensures { result ≡ sample_in step rate field.now }
+{
+    sample_at(step, rate, count_in(field)?)
 }

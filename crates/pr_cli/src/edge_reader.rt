@@ -4,12 +4,14 @@ ghost use Rattle.std.specs.Prelude.{◌≡◌, ◌+◌, ◌^◌, ◌<◌, ◌≤
 ghost use Rattle.pr_cli.specs.Inputs.{AddsLast, AddsSample, EndsSource, GivesBlock, HasEdges, SkipsFront, edges_in, fault_in, lines_taken};
 ghost use Rattle.pr_cli.specs.InputReads.{GivesEdges, SaysAll};
 ghost use Rattle.pr_cli.specs.Sources.{lines_read};
+ghost use Rattle.pr_cli.specs.declared.source_reader.SourceReader.TheVariants.{Text};
+ghost use Rattle.pr_wire.specs.TraceReading.{edge_count};
 
 use crate::edge_maker::EdgeMaker;
 use crate::fault::{CliFault, own_fault};
 use crate::source_reader::SourceReader;
 use pr_capture::TraceInput;
-use pr_wire::Edge;
+use pr_wire::{Edge, TraceReader};
 use std::alloc::{AllocError, Global};
 
 /// The last edges of an input, and its fault, if it has one.
@@ -146,6 +148,52 @@ fn take_samples(
     ensures lines { IfOk result (λ fault. fault ≡ None → lines_read reader.new ≤ lines_read reader.old + length block.now) }
     ensures few { OnOk result (length edges.new.items ≤ length edges.old.items + length block.now) }
 {
+    match reader {
+        SourceReader::Text(text) => take_text(text, maker, block, edges),
+        SourceReader::Vcd(_) | SourceReader::Csv(_) => take_rows(reader, maker, block, edges),
+    }
+}
+
+/// Adds the edges of a block of a trace text, as [`take_rows`] would: its reader alone is asked, line by line.
+fn take_text(
+    reader: &mut TraceReader,
+    maker: &mut EdgeMaker,
+    block: &[u8],
+    edges: &mut Vec<Edge>,
+) -> Result<Option<CliFault>, AllocError>
+    requires lines { edge_count reader.old + length block.now + 1 < 2 ^ 64 }
+    ensures known { IfOk result (λ fault. GivesBlock block.now edges.old.items (Text reader.old) maker.old fault
+        edges.new.items (Text reader.new) maker.new) }
+    ensures lines { IfOk result (λ fault. fault ≡ None → edge_count reader.new ≤ edge_count reader.old + length block.now) }
+    ensures few { OnOk result (length edges.new.items ≤ length edges.old.items + length block.now) }
+{
+    let mut rest = block;
+    while !rest.is_empty() {
+        match reader.take_front(rest) {
+            Ok((len, sample)) => {
+                push_sample(edges, maker, sample)?;
+                rest = &rest[len..];
+            }
+            Err(fault) => return Ok(Some(own_fault(CliFault::from(fault))?)),
+        }
+    }
+    Ok(None)
+}
+
+/// Adds the edges that are known by a block in any format, tables of samples above all: rows that repeat the last one
+/// are taken at once.
+fn take_rows(
+    reader: &mut SourceReader<'_>,
+    maker: &mut EdgeMaker,
+    block: &[u8],
+    edges: &mut Vec<Edge>,
+) -> Result<Option<CliFault>, AllocError>
+    requires lines { lines_read reader.old + length block.now + 1 < 2 ^ 64 }
+    ensures known { IfOk result (λ fault. GivesBlock block.now edges.old.items reader.old maker.old fault
+        edges.new.items reader.new maker.new) }
+    ensures lines { IfOk result (λ fault. fault ≡ None → lines_read reader.new ≤ lines_read reader.old + length block.now) }
+    ensures few { OnOk result (length edges.new.items ≤ length edges.old.items + length block.now) }
+{
     let mut rest = block;
     while !rest.is_empty() {
         let len = skip_repeats(reader, maker, rest);
@@ -197,7 +245,9 @@ fn push_sample(
         return Ok(());
     };
     if let Some(edge) = maker.take(sample) {
-        edges.push(edge)?;
+        // As `push`, which would also hand the edge back where memory is refused.
+        edges.reserve(1)?;
+        edges.push_reserved(edge);
     }
     Ok(())
 }

@@ -12,7 +12,7 @@ use pr_dots::{Shapes, sheets_of};
 use pr_page::{Paper, Sequence};
 use pr_pdf::{PdfFault, pdf};
 use pr_png::png;
-use pr_render::{Device, Format, drawn_of, sheet_svg, svg};
+use pr_render::{Device, Format, drawn_of, sheet_svg, svg_blocks};
 use pr_serial::Present;
 use pr_system::Outcome;
 use std::alloc::Global;
@@ -105,15 +105,15 @@ fn svg_part(
     shapes: &Shapes,
     sheet: Option<u64>,
     present: Present,
-    outcome: &Outcome,
+    outcome: Outcome,
 ) -> Result<Text, CliFault>
-    ensures { GivesShown (svg_part shapes.now sheet present outcome.now) result }
+    ensures { GivesShown (svg_part shapes.now sheet present outcome) result }
 {
     let Some(sheet) = sheet else {
-        let text = svg(alloc, shapes, outcome, present)?;
-        return Ok(Text::from_vec(alloc, text));
+        let blocks = svg_blocks(alloc, shapes, outcome, present)?;
+        return Ok(Text::from_blocks(alloc, blocks));
     };
-    let paper = first_paper(outcome, drawn_of(outcome, present));
+    let paper = first_paper(&outcome, drawn_of(&outcome, present));
     let index = sheet_at(paper, sheet)?;
     let text = sheet_svg(alloc, shapes, paper, index)?;
     Ok(Text::from_vec(alloc, text))
@@ -192,7 +192,7 @@ pub fn text_in_format(
                 shapes,
                 part.sheet,
                 shown_of(part.device, present),
-                &shown,
+                shown,
             )
         }
         Format::Png(part) => {

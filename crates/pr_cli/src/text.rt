@@ -3,11 +3,12 @@
 //! A text that is in one piece has to be moved, or to have room for twice its bytes, as it
 //! grows. A block stays where it is, and takes the place of what was freed before.
 //!
-//! Only the page text, the default and the longest, is made in blocks; lines and picture are one
-//! piece.
+//! The page text and the picture of all pages, the longest texts, are made in blocks; lines, one sheet
+//! and files of dots are one piece.
 
 ghost use Rattle.std.specs.Prelude.{◌≡◌, ◌≤◌, ◌++◌, ◌↔◌, [], decimal, false, length, take, true, IfOk, IsErr, OnErr, OnOk};
 ghost use Rattle.std.specs.Io.KnownBytes.{Appends};
+ghost use Rattle.pr_cli.specs.Blocks.{joined};
 ghost use Rattle.pr_input.specs.Watched.{has_failed, is_flushed, wrapped};
 ghost use Rattle.pr_input.specs.PartlyWritten.{AppendsFront};
 
@@ -18,8 +19,8 @@ use std::io::Write;
 use std::marker::Model;
 use std::mem;
 
-/// A text in blocks of [`BLOCK`] bytes or a few fewer, or in the one piece in which it was given.
-/// Contracts see its bytes alone.
+/// A text in blocks of [`BLOCK`] bytes or a few fewer, or in the blocks or the one piece in which it
+/// was given. Contracts see its bytes alone.
 #[derive(Drop)]
 pub struct Text {
     alloc: Global,
@@ -58,6 +59,17 @@ impl Text {
             alloc,
             full: Vec::new(alloc),
             last: bytes,
+        }
+    }
+
+    /// Makes a text of blocks, in order. It takes no memory.
+    pub(crate) fn from_blocks(alloc: Global, blocks: Vec<Vec<u8>>) -> Text
+        ensures { result ≡ joined blocks.items }
+    {
+        Text {
+            alloc,
+            full: blocks,
+            last: Vec::new(alloc),
         }
     }
 

@@ -1,8 +1,10 @@
 //! What is reported of edges that come one by one.
 
-ghost use Rattle.std.specs.Prelude.{◌≡◌, ◌+◌, ◌*◌, ◌^◌, ◌<◌, ◌≤◌, [], List, ℕ, drop, length, take, IfOk, OnOk};
+ghost use Rattle.std.specs.Prelude.{◌≡◌, ◌+◌, ◌*◌, ◌^◌, ◌++◌, ◌<◌, ◌≤◌, [], List, ℕ, drop, length, take, IfOk, OnOk};
 ghost use Rattle.pr_wire.specs.declared.Edge.{Edge};
 ghost use Rattle.pr_capture.specs.declared.format.Source.{Source};
+ghost use Rattle.pr_decode.specs.declared.reading.Reading.{Reading};
+ghost use Rattle.pr_decode.specs.Taking.{AreInOrder, HasReadings, last_time, time_behind};
 ghost use Rattle.pr_cli.specs.Report.{refusal};
 ghost use Rattle.pr_recording.specs.declared.wording.Wording.{Wording};
 ghost use Rattle.pr_recording.specs.Decoded.{stop_at};
@@ -132,6 +134,25 @@ impl DecodeReport {
     }
 }
 
+/// Takes the edges in front that are whole bits of the byte that has begun, as [`Decoder::take_bits`]: none where the
+/// first of them does not release CLOCK, with which a bit begins.
+#[inline(always)]
+fn take_bits(decoder: &mut Decoder, edges: &[Edge]) -> usize
+    requires some { 0 < length edges.now }
+    ensures read { (before : List Edge) (given : List Reading) → HasReadings before given decoder.old →
+        HasReadings (before ++ take result edges.now) given decoder.new }
+    ensures order { AreInOrder (last_time decoder.old) (take result edges.now) }
+    ensures last { last_time decoder.new ≡ time_behind (last_time decoder.old) (take result edges.now) }
+    ensures within { result ≤ length edges.now }
+    ensures none { result ≡ 0 → decoder.new ≡ decoder.old }
+{
+    if edges[0].levels.clock {
+        decoder.take_bits(edges)
+    } else {
+        0
+    }
+}
+
 /// Reads edges from the front of some: whole bits of a byte, or else the next edge. Gives how many they are:
 /// none where time goes back at the next one.
 #[inline(always)]
@@ -147,13 +168,14 @@ fn read_front(
     ensures back { IfOk result (λ len. len ≡ 0 → BeginsBack edges.now decoder.new) }
     ensures count { IfOk result (λ len. readings_told log.new ≤ readings_told log.old + len) }
 {
-    let bits = decoder.take_bits(edges);
+    let bits = take_bits(decoder, edges);
     if bits > 0 {
         return Ok(bits);
     }
     match decoder.take(edges[0]) {
-        Ok(reading) => {
-            log.push_if(reading)?;
+        Ok(None) => Ok(1),
+        Ok(Some(reading)) => {
+            log.push(&reading)?;
             Ok(1)
         }
         Err(GoesBack) => Ok(0),

@@ -63,7 +63,8 @@ impl Judge {
         }
     }
 
-    /// Takes edges from the front of some: those of a whole frame, or else the next edge. Gives how many they are.
+    /// Takes edges from the front of some: those of a whole frame, or else the next edge, and all of them once one was
+    /// refused, since the fault of the edges is known then. Gives how many they are.
     #[inline(always)]
     fn take_front(&mut self, edges: &[Edge]) -> usize
         requires some { 0 < length edges.now }
@@ -73,6 +74,9 @@ impl Judge {
         ensures within { result ≤ length edges.now }
         ensures count { edges_judged self.new ≤ edges_judged self.old + result }
     {
+        if self.follower.refused.is_some() {
+            return edges.len();
+        }
         let len = self.take_frame(edges);
         if len > 0 {
             return len;

@@ -1,7 +1,7 @@
 use Rattle.std.proofs.Common.{◌+◌, ◌≤◌, length}
 use Rattle.pr_cli.specs.Sources.{lines_read}
 use Rattle.pr_cli.proofs.InputLemmas.{TakesFront}
-use Rattle.pr_cli.proofs.edge_reader.take_samples.Given as goal
+use Rattle.pr_cli.proofs.edge_reader.take_rows.Given as goal
 
 -- the edges known by a front of the block were added; each line takes at least a byte, and each edge does
 abbrev pub invariant-loop-rest : goal.invariant-loop-rest

@@ -1,7 +1,7 @@
 use Rattle.std.proofs.Common.{◌≡◌, arith, length-drop}
 use Rattle.std.proofs.lemmas.List.{take_rest}
 use Rattle.pr_cli.proofs.InputLemmas.{front_faulty, front_kept, front_more, front_skipped}
-use Rattle.pr_cli.proofs.edge_reader.take_samples.Goals as goal
+use Rattle.pr_cli.proofs.edge_reader.take_rows.Goals as goal
 
 pub loop-rest-preserved : goal.loop-rest-preserved
 loop-rest-preserved c =
