@@ -3,6 +3,7 @@ pub mod Defined
 pub mod Laws
 pub mod Parts
 pub mod SheetSvg
+pub mod Sheets
 pub mod Showing
 pub mod Plain
 pub mod Svg

@@ -3,6 +3,7 @@
 //! (profile).
 
 ghost use Rattle.std.specs.Prelude.{◌≡◌, ◌+◌, ◌*◌, ◌≤◌, ◌++◌, flat_map, OnOk, IfOk};
+ghost use Rattle.pr_render.specs.Sheets.{joined, picture_back, picture_front, second_x};
 ghost use Rattle.pr_render.specs.Svg.{definition_svg, definitions_svg, drawn_marks, drawn_of, each_once, has_printed, head_svg, height_of, picture_svg, sheet_picas, size_svg, svg_of, units_svg, width_of};
 
 use crate::adding::{push_number, push_small};
@@ -12,7 +13,7 @@ use crate::parts::{
     definitions_begin, definitions_end, desk, document_about, document_begin, height_begin,
     paper_piece, units_begin, units_between,
 };
-use crate::sheets::{paper_end, push_sheet_if};
+use crate::sheets::{move_sheet_if, paper_end, push_sheet_if};
 use crate::texts::Texts;
 use pr_dots::Shapes;
 use pr_page::{NoMemory, Paper};
@@ -144,6 +145,40 @@ fn push_definitions(
     text.extend_from_slice(definitions_end())
 }
 
+/// Adds the document up to its sheets.
+fn push_front(
+    text: &mut Vec<u8>,
+    alloc: Global,
+    shapes: &Shapes,
+    outcome: &Outcome,
+    drawn: Present,
+) -> Result<(), AllocError>
+    ensures { OnOk result (text.new.items ≡ text.old.items ++ picture_front shapes.now outcome.now drawn) }
+{
+    push_head(
+        text,
+        width_of(drawn),
+        height_of(sheet_picas(outcome), outcome),
+    )?;
+    push_definitions(text, alloc, shapes, outcome, drawn)
+}
+
+/// Adds the rest of the document after its sheets.
+fn push_back(text: &mut Vec<u8>, picas: u128, outcome: &Outcome) -> Result<(), AllocError>
+    requires { picas ≤ 18446744073709551678 }
+    ensures { OnOk result (text.new.items ≡ text.old.items ++ picture_back picas outcome.now) }
+{
+    push_notes(text, picas, outcome)?;
+    text.extend_from_slice(b"</svg>\n")
+}
+
+/// Where printer 5's sheet begins, in units from the left.
+fn second_x(drawn: Present) -> u64
+    ensures { result ≡ second_x drawn }
+{
+    if drawn.four { 13860 } else { 630 }
+}
+
 /// Adds the picture of these printers.
 #[tactic(auto, unfolding(crate::specs::Svg::picture_svg))]
 fn push_picture(
@@ -157,13 +192,37 @@ fn push_picture(
 {
     let texts = Texts::new(alloc)?;
     let picas = sheet_picas(outcome);
-    let five = if drawn.four { 13860 } else { 630 };
-    push_head(text, width_of(drawn), height_of(picas, outcome))?;
-    push_definitions(text, alloc, shapes, outcome, drawn)?;
+    let five = second_x(drawn);
+    push_front(text, alloc, shapes, outcome, drawn)?;
     push_sheet_if(text, &texts, drawn.four, 4, 630, picas, &outcome.paper4)?;
     push_sheet_if(text, &texts, drawn.five, 5, five, picas, &outcome.paper5)?;
-    push_notes(text, picas, outcome)?;
-    text.extend_from_slice(b"</svg>\n")
+    push_back(text, picas, outcome)
+}
+
+/// Adds the picture of these printers to a document in blocks, and frees each row that is drawn.
+#[tactic(auto, unfolding(crate::specs::Svg::picture_svg))]
+fn move_picture(
+    blocks: &mut Vec<Vec<u8>>,
+    alloc: Global,
+    shapes: &Shapes,
+    outcome: Outcome,
+    drawn: Present,
+) -> Result<(), AllocError>
+    ensures { OnOk result (joined blocks.new.items ≡ joined blocks.old.items ++ picture_svg shapes.now outcome drawn) }
+{
+    let texts = Texts::new(alloc)?;
+    let picas = sheet_picas(&outcome);
+    let five = second_x(drawn);
+    let mut front = Vec::new(alloc);
+    push_front(&mut front, alloc, shapes, &outcome, drawn)?;
+    let mut back = Vec::new(alloc);
+    push_back(&mut back, picas, &outcome)?;
+    let Outcome { paper4, paper5, .. } = outcome;
+    blocks.push(front)?;
+    move_sheet_if(blocks, alloc, &texts, drawn.four, 4, 630, picas, paper4)?;
+    move_sheet_if(blocks, alloc, &texts, drawn.five, 5, five, picas, paper5)?;
+    blocks.push(back)?;
+    Ok(())
 }
 
 /// Draws an outcome as an SVG document: the sheets of the printers that are present and have
@@ -193,4 +252,24 @@ pub fn svg(
         drawn_of(outcome, present),
     )?;
     Ok(text)
+}
+
+/// Draws an outcome as [`svg`] does, and gives the document in blocks: their bytes, one after another. Each row is
+/// freed once it is drawn, so the document takes the place of the marks.
+///
+/// # Errors
+///
+/// [`NoMemory`] where memory was refused.
+pub fn svg_blocks(
+    alloc: Global,
+    shapes: &Shapes,
+    outcome: Outcome,
+    present: Present,
+) -> Result<Vec<Vec<u8>>, NoMemory>
+    ensures { IfOk result (λ blocks. flat_map (λ b. b.items) blocks.items ≡ svg_of shapes.now outcome present) }
+{
+    let drawn = drawn_of(&outcome, present);
+    let mut blocks = Vec::new(alloc);
+    move_picture(&mut blocks, alloc, shapes, outcome, drawn)?;
+    Ok(blocks)
 }

@@ -3,8 +3,8 @@
 //! - `characters` is the table of the codes. `adding` adds to a text, with words of both formats.
 //! - `columns` and `plain` make the lines of [`Format`]'s text.
 //! - `drawing` makes the SVG document of the fixed texts in `parts`: `defined` defines each mark once and `uses` has
-//!   the elements that name one, `letters` makes the letters of a line, `sheets` a printer's sheet of these, and
-//!   `notes` the lines below the sheets. `single` draws one sheet of 11 inches. What most marks have is ready in
+//!   the elements that name one, `letters` makes the letters of a line, `sheets` a printer's sheet of these, in one
+//!   piece or in blocks, and `notes` the lines below the sheets. `single` draws one sheet of 11 inches. What most marks have is ready in
 //!   `texts`, tables of `short_text`.
 //! - `laws` says what is drawn, without the folds.
 //!
@@ -31,7 +31,7 @@ mod texts;
 mod uses;
 
 pub use characters::character;
-pub use drawing::{drawn_of, svg};
+pub use drawing::{drawn_of, svg, svg_blocks};
 pub use format::{Device, Format, Part};
 pub use plain::text;
 pub use single::sheet_svg;

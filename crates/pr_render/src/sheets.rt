@@ -1,8 +1,9 @@
 //! A printer's sheet of a picture, in units of 1/1260 inch: its paper, and the marks on it.
 
 ghost use Rattle.std.specs.Prelude.{◌≡◌, ◌+◌, ◌≤◌, ◌++◌, flat_map, OnOk};
+ghost use Rattle.pr_render.specs.Sheets.{joined, sheet_back, sheet_front};
 ghost use Rattle.pr_render.specs.Words.{text_if};
-ghost use Rattle.pr_render.specs.Svg.{held_line, held_svg, ink_svg, line_svg, name_line, paper_end, paper_svg, row_svg, rows_end, sheet_svg};
+ghost use Rattle.pr_render.specs.Svg.{held_line, held_svg, line_svg, name_line, paper_end, paper_svg, row_svg, rows_end, sheet_svg};
 
 use crate::adding::{push_number, push_small};
 use crate::letters::push_letters;
@@ -13,7 +14,17 @@ use crate::parts::{
 use crate::texts::Texts;
 use crate::uses::push_uses;
 use pr_page::{Paper, Placed, Row};
-use std::alloc::AllocError;
+use std::alloc::{AllocError, Global};
+use std::mem;
+
+/// Room of a block of a document, in bytes.
+const BLOCK: usize = 65_536;
+
+/// Room for a mark of a row, in bytes: its element, its letter, and a little of what is around them.
+const MARK: usize = 40;
+
+/// What else a row has takes about the room of these marks.
+const AROUND: usize = 8;
 
 /// Where rows end.
 fn rows_end(rows: &[Row]) -> u128
@@ -87,18 +98,6 @@ fn push_held(text: &mut Vec<u8>, texts: &Texts, y: u128, held: &[Placed]) -> Res
     text.extend_from_slice(b"</g>\n")
 }
 
-/// Adds the marks of a paper.
-#[tactic(auto, unfolding(crate::specs::Svg::ink_svg))]
-fn push_ink(text: &mut Vec<u8>, texts: &Texts, paper: &Paper) -> Result<(), AllocError>
-    ensures { OnOk result (text.new.items ≡ text.old.items ++ ink_svg paper.now) }
-{
-    let rows = paper.rows.as_slice();
-    text.extend_from_slice(ink_begin())?;
-    push_rows(text, texts, rows)?;
-    push_held(text, texts, rows_end(rows) + 21, paper.held.as_slice())?;
-    text.extend_from_slice(b"</g>\n")
-}
-
 /// Adds the line above the marks held, if there are any.
 #[tactic(auto, unfolding(crate::specs::Svg::held_line))]
 fn push_held_line(text: &mut Vec<u8>, y: u128, held: &[Placed]) -> Result<(), AllocError>
@@ -138,8 +137,34 @@ fn push_paper(text: &mut Vec<u8>, picas: u128) -> Result<(), AllocError>
     text.extend_from_slice(sheet_marks())
 }
 
+/// Adds a sheet up to its rows.
+fn push_front(text: &mut Vec<u8>, device: u64, x: u64, picas: u128) -> Result<(), AllocError>
+    requires { picas ≤ 18446744073709551678 }
+    ensures { OnOk result (text.new.items ≡ text.old.items ++ sheet_front device x picas) }
+{
+    push_name_line(text, device, x)?;
+    push_paper(text, picas)?;
+    text.extend_from_slice(ink_begin())
+}
+
+/// Adds the rest of a sheet after its rows, which end here.
+fn push_back(
+    text: &mut Vec<u8>,
+    texts: &Texts,
+    end: u128,
+    held: &[Placed],
+) -> Result<(), AllocError>
+    requires { end ≤ 18446744073709551636 }
+    ensures { OnOk result (text.new.items ≡ text.old.items ++ sheet_back end held.now) }
+{
+    push_held(text, texts, end + 21, held)?;
+    text.extend_from_slice(b"</g>\n")?;
+    push_held_line(text, end, held)?;
+    text.extend_from_slice(sheet_end())
+}
+
 /// Adds a printer's sheet.
-#[tactic(auto, unfolding(crate::specs::Svg::sheet_svg))]
+#[tactic(auto, unfolding(crate::specs::Svg::sheet_svg, crate::specs::Svg::ink_svg))]
 fn push_sheet(
     text: &mut Vec<u8>,
     texts: &Texts,
@@ -151,11 +176,10 @@ fn push_sheet(
     requires { picas ≤ 18446744073709551678 }
     ensures { OnOk result (text.new.items ≡ text.old.items ++ sheet_svg device x picas paper.now) }
 {
-    push_name_line(text, device, x)?;
-    push_paper(text, picas)?;
-    push_ink(text, texts, paper)?;
-    push_held_line(text, rows_end(paper.rows.as_slice()), paper.held.as_slice())?;
-    text.extend_from_slice(sheet_end())
+    let rows = paper.rows.as_slice();
+    push_front(text, device, x, picas)?;
+    push_rows(text, texts, rows)?;
+    push_back(text, texts, rows_end(rows), paper.held.as_slice())
 }
 
 /// Adds a printer's sheet if it is drawn.
@@ -173,6 +197,89 @@ pub fn push_sheet_if(
 {
     if drawn {
         push_sheet(text, texts, device, x, picas, paper)?;
+    }
+    Ok(())
+}
+
+/// Begins a block where the last one may have no room for a row of this many marks. A row that takes more room goes
+/// into the block all the same, which grows.
+#[inline(always)]
+fn make_room(
+    blocks: &mut Vec<Vec<u8>>,
+    alloc: Global,
+    block: &mut Vec<u8>,
+    marks: usize,
+) -> Result<(), AllocError>
+    ensures { OnOk result (joined blocks.new.items ++ block.new.items ≡ joined blocks.old.items ++ block.old.items) }
+{
+    let room = BLOCK.saturating_sub(block.len()) / MARK;
+    if room < marks.saturating_add(AROUND) {
+        let next = Vec::with_capacity(alloc, BLOCK)?;
+        blocks.push(mem::replace(block, next))?;
+    }
+    Ok(())
+}
+
+/// Adds rows to a document in blocks, and frees each row that is drawn.
+fn move_rows(
+    blocks: &mut Vec<Vec<u8>>,
+    alloc: Global,
+    texts: &Texts,
+    rows: Vec<Row>,
+) -> Result<(), AllocError>
+    ensures { OnOk result (joined blocks.new.items ≡ joined blocks.old.items ++ flat_map row_svg rows.items) }
+{
+    let mut block = Vec::with_capacity(alloc, BLOCK)?;
+    for row in rows {
+        make_room(blocks, alloc, &mut block, row.marks.len())?;
+        push_row(&mut block, texts, &row)?;
+    }
+    blocks.push(block)?;
+    Ok(())
+}
+
+/// Adds a printer's sheet to a document in blocks, and frees what it was made of.
+#[tactic(auto, unfolding(crate::specs::Svg::sheet_svg, crate::specs::Svg::ink_svg))]
+fn move_sheet(
+    blocks: &mut Vec<Vec<u8>>,
+    alloc: Global,
+    texts: &Texts,
+    device: u64,
+    x: u64,
+    picas: u128,
+    paper: Paper,
+) -> Result<(), AllocError>
+    requires { picas ≤ 18446744073709551678 }
+    ensures { OnOk result (joined blocks.new.items ≡ joined blocks.old.items ++ sheet_svg device x picas paper) }
+{
+    let Paper { rows, held } = paper;
+    let end = rows_end(rows.as_slice());
+    let mut front = Vec::new(alloc);
+    push_front(&mut front, device, x, picas)?;
+    blocks.push(front)?;
+    move_rows(blocks, alloc, texts, rows.into_vec())?;
+    let mut back = Vec::new(alloc);
+    push_back(&mut back, texts, end, held.as_slice())?;
+    blocks.push(back)?;
+    Ok(())
+}
+
+/// The same if it is drawn.
+pub fn move_sheet_if(
+    blocks: &mut Vec<Vec<u8>>,
+    alloc: Global,
+    texts: &Texts,
+    drawn: bool,
+    device: u64,
+    x: u64,
+    picas: u128,
+    paper: Paper,
+) -> Result<(), AllocError>
+    requires { picas ≤ 18446744073709551678 }
+    ensures { OnOk result (joined blocks.new.items ≡ joined blocks.old.items ++ text_if drawn (sheet_svg device x picas paper)) }
+{
+    if drawn {
+        move_sheet(blocks, alloc, texts, device, x, picas, paper)?;
     }
     Ok(())
 }

@@ -3,7 +3,7 @@
 use pr_dots::Shapes;
 use pr_page::{Mark, Paper, Placed, Row, Sequence};
 use pr_render::laws::{discs_are_the_dots, lines_show_each_cell, names_tell_marks};
-use pr_render::{svg, text};
+use pr_render::{svg, svg_blocks, text};
 use pr_serial::Present;
 use pr_system::Outcome;
 use std::process::Abort;
@@ -304,6 +304,27 @@ fn printers_that_printed_nothing(rt: HostRuntime) {
         &[BEGIN, TWO, ABOUT, DEFINED, EMPTY],
         "Printer 4\nPrinter 5\n",
     );
+}
+
+/// The blocks of a picture, one after the other, are that picture.
+#[test]
+fn pictures_in_blocks(rt: HostRuntime) {
+    let shapes = Shapes::own();
+    let rows: [(u64, &[Placed]); 3] = [
+        (0, &[cell(0, 65, false)]),
+        (21, &[]),
+        (42, &[cell(6, 66, false)]),
+    ];
+    for present in [FOUR, FIVE, BOTH, NONE] {
+        let held = sequence(&rt, &[cell(12, 67, true)]);
+        let outcome = printed(&rt, paper(&rt, &rows), held);
+        let whole = svg(rt.alloc(), &shapes, &outcome, present).expect(&rt, "memory");
+        let mut joined = Vec::new(rt.alloc());
+        for block in svg_blocks(rt.alloc(), &shapes, outcome, present).expect(&rt, "memory") {
+            joined.extend_from_slice(&block).expect(&rt, "memory");
+        }
+        assert!(&rt; joined.as_slice() == whole.as_slice());
+    }
 }
 
 /// The laws, with nothing to run.
