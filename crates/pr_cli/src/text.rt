@@ -8,7 +8,7 @@
 
 ghost use Rattle.std.specs.Prelude.{◌≡◌, ◌≤◌, ◌++◌, ◌↔◌, [], decimal, false, length, take, true, IfOk, IsErr, OnErr, OnOk};
 ghost use Rattle.std.specs.Io.KnownBytes.{Appends};
-ghost use Rattle.pr_cli.specs.Blocks.{joined};
+ghost use Rattle.pr_render.specs.Sheets.{joined};
 ghost use Rattle.pr_input.specs.Watched.{has_failed, is_flushed, wrapped};
 ghost use Rattle.pr_input.specs.PartlyWritten.{AppendsFront};
 
@@ -32,7 +32,7 @@ pub struct Text {
 
 impl Model for Text {
     ghost use Rattle.std.specs.Prelude.{List, ℕ, ◌++◌};
-    ghost use Rattle.pr_cli.specs.Blocks.{joined};
+    ghost use Rattle.pr_render.specs.Sheets.{joined};
 
     ghost Value = { List ℕ };
 

@@ -230,9 +230,9 @@ fn rule_of_tables(fault: CaptureFault) -> &'static str {
 fn rule_of_times(line: &[u8]) -> &'static str {
     let name = first_field(separator_of(line).unwrap_or(b','), line);
     if is_time_alone(name) {
-        "the unit of these times is not known: name it, such as Time [ms], or leave out --rate where they \
-         are in seconds; a table of sigrok-cli is read with its own remarks and without --rate: write it from \
-         a .sr file"
+        "the unit of these times is not known: name it, such as Time [ms], or, where they are in seconds, \
+         leave out the sample rate (--rate, or the line that gives it); a table of sigrok-cli is read with \
+         its own remarks and without --rate: write it from a .sr file"
     } else {
         "expected a first column of times, such as Time [s] or microseconds, or of numbers named Sample: \
          rename one of these; with numbers, or without such a column, give the sample rate with --rate, such \

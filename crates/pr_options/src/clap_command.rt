@@ -11,7 +11,7 @@ use crate::help::HelpText;
 use crate::options::{
     BOUNDS, CHARACTERS, DELAYS, DEVICE, EXPLAIN, FROM, FROM_TIME, FileArgument, Flag, INPUT,
     INTERVALS, INVERT, LISTING_FROM, NAMES, OUTPUT, OUTPUT_LETTER, PAGE_AS, PRESENT, RATE, RAW_AS,
-    READING_AS, READING_FROM, REPORT_AS, SET, SHEET, STATUS, TRACE_AS, ValueOption,
+    RAW_DEVICE, READING_AS, READING_FROM, REPORT_AS, SET, SHEET, STATUS, TRACE_AS, ValueOption,
 };
 use clap::{Arg, ArgAction, Command};
 use std::alloc::{AllocError, Global};
@@ -141,14 +141,18 @@ fn trace_command<'a>(
     Ok(whole)
 }
 
-/// A subcommand with what of the pages a picture shows, and the file of its characters.
-fn with_part<'a>(alloc: Global, command: Command<'a>) -> Result<Command<'a>, AllocError>
+/// A subcommand with what of the pages a picture shows, its printer first, and the file of its characters.
+fn with_part<'a>(
+    alloc: Global,
+    command: Command<'a>,
+    device: ValueOption,
+) -> Result<Command<'a>, AllocError>
     requires { IsLocal command }
     ensures app { IfOk result (λ c. app_of c ≡ with_rule
-        (with_rule (with_rule (app_of command.entry) (value_rule option.device)) (value_rule option.sheet)) (file_rule option.characters)) }
+        (with_rule (with_rule (app_of command.entry) (value_rule (option_view device))) (value_rule option.sheet)) (file_rule option.characters)) }
     ensures local { IfOk result IsLocal }
 {
-    let one = command.arg(value_option(alloc, DEVICE))?;
+    let one = command.arg(value_option(alloc, device))?;
     let two = one.arg(value_option(alloc, SHEET))?;
     let whole = two.arg(file_option(alloc, CHARACTERS))?;
     Ok(whole)
@@ -172,7 +176,7 @@ fn pages_command<'a>(alloc: Global) -> Result<Command<'a>, AllocError>
     ensures local { IfOk result IsLocal }
 {
     let command = run_command(alloc, "pages", help::PAGES, PAGE_AS)?;
-    let whole = with_part(alloc, command)?;
+    let whole = with_part(alloc, command, DEVICE)?;
     Ok(whole)
 }
 
@@ -183,7 +187,7 @@ fn decode_command<'a>(alloc: Global) -> Result<Command<'a>, AllocError>
     ensures local { IfOk result IsLocal }
 {
     let command = trace_command(alloc, "decode", help::DECODE, READING_FROM, READING_AS)?;
-    let drawn = with_part(alloc, command)?;
+    let drawn = with_part(alloc, command, DEVICE)?;
     let whole = with_measures(alloc, drawn)?;
     Ok(whole)
 }
@@ -197,7 +201,7 @@ fn raw_command<'a>(alloc: Global) -> Result<Command<'a>, AllocError>
     let one = command.arg(value_option(alloc, SET))?;
     let two = one.arg(value_option(alloc, RAW_AS))?;
     let three = two.arg(flag_option(alloc, EXPLAIN))?;
-    let whole = with_part(alloc, three)?;
+    let whole = with_part(alloc, three, RAW_DEVICE)?;
     Ok(whole)
 }
 

@@ -327,6 +327,21 @@ pub const DEVICE: ValueOption = ValueOption {
     help: DEVICE_HELP,
 };
 
+/// What the values of [`RAW_DEVICE`] are.
+const RAW_DEVICE_HELP: &str = "4 or 5: the printer that svg, png and pdf draw\n\
+     [default: all, or the first with a page for png]";
+
+/// The printer whose page a picture of a printer's bytes shows.
+pub const RAW_DEVICE: ValueOption = ValueOption {
+    name: "device",
+    value: "PRINTER",
+    default: "",
+    file: "",
+    endings: NO_ENDINGS,
+    values: DEVICE_VALUES,
+    help: RAW_DEVICE_HELP,
+};
+
 /// What the values of [`SHEET`] are.
 const SHEET_HELP: &str = "The sheet of 11 inches that svg and png draw,\n\
      from 1 [default: all, or sheet 1]";

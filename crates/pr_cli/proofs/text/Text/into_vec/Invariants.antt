@@ -1,6 +1,6 @@
 use Rattle.std.proofs.Common.{◌≡◌, ◌++◌, length}
 use Rattle.std.specs.Vec.Iter.{into_iter_items, into_iter_len}
-use Rattle.pr_cli.specs.Blocks.{joined}
+use Rattle.pr_render.specs.Sheets.{joined}
 use Rattle.pr_cli.proofs.text.Text.into_vec.Given as goal
 
 -- the bytes so far and those of the blocks left make the bytes of all blocks

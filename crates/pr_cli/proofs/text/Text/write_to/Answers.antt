@@ -1,6 +1,6 @@
 use Rattle.std.proofs.Common.{rules, ◌+◌, ◌++◌, [], drop}
 use Rattle.std.proofs.KnownBytes.{Appends-kept}
-use Rattle.pr_cli.specs.Blocks.{joined}
+use Rattle.pr_render.specs.Sheets.{joined}
 use Rattle.pr_input.specs.PartlyWritten.{AppendsFront}
 use Rattle.pr_cli.proofs.PieceLemmas.{written_more, written_front, written_all, block_next, block_last, on_err}
 use Rattle.pr_cli.proofs.TraceSteps.{whole_front}

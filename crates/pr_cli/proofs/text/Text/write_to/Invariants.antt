@@ -1,5 +1,5 @@
 use Rattle.std.proofs.Common.{◌≡◌, ◌++◌, drop, false}
-use Rattle.pr_cli.specs.Blocks.{joined}
+use Rattle.pr_render.specs.Sheets.{joined}
 use Rattle.pr_cli.proofs.PieceLemmas.{HasWritten}
 use Rattle.pr_cli.proofs.text.Text.write_to.Given as goal
 
