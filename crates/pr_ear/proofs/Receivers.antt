@@ -31,7 +31,7 @@ use Rattle.pr_ear.specs.DecoderTaken.{HasDecoded}
 use Rattle.pr_ear.specs.Decoding.{StandsBefore, last_moment, said_by, settled_by}
 use Rattle.pr_ear.specs.Hearing.{bit_of, edge_of, number_of, IsDevice}
 use Rattle.pr_ear.specs.Receiving.{acknowledged_frame, acknowledged_frames, printed_for, printed_of, received_by, received_from, received_of, ReceiversHearLawfulTraces, ReceiversHearWhatIsPrinted, TellsReceived}
-use Rattle.pr_ear.specs.ReceiverLeft.{frame_in, listener_by, received_with, HasReceived}
+use Rattle.pr_ear.specs.ReceiverTaken.{frame_in, listener_by, received_with, HasReceived}
 use Rattle.pr_ear.proofs.Standings.{with_before-append}
 use Rattle.pr_ear.proofs.Stored.{bit-back}
 

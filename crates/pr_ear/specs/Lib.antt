@@ -4,6 +4,7 @@ pub mod Decoding
 pub mod DecoderTaken
 pub mod DecoderLeft
 pub mod Receiving
+pub mod ReceiverTaken
 pub mod ReceiverLeft
 pub mod Numbers
 pub mod Taken

@@ -19,9 +19,3 @@ IsPrintedAt inputs marks laid first b (Marks n) old new before after =
 IsPrintedAt inputs marks laid first b (TooSmall n) old new before after =
     (made : List MarkOnPaper) × Makes inputs (Byte b ∷ []) marks made × (n ≡ length made)
     × (length before < length laid + n) × (new ≡ old) × (after ≡ before)
-
--- whatever numbers a printer has: the marks have room, or all is as it was; a byte makes at most 255 marks
-abbrev pub IsAnyPrinted : ℕ → Printed → (old new : WirePrinter) → (before after : List WireMark) → Type 0
-IsAnyPrinted at (Marks n) old new before after = (n ≤ 255) × (at + n ≤ length before)
-IsAnyPrinted at (TooSmall n) old new before after =
-    (n ≤ 255) × (length before < at + n) × (new ≡ old) × (after ≡ before)

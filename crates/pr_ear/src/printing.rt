@@ -7,8 +7,8 @@ ghost use Rattle.pr_page.specs.declared.carriage.MarkOnPaper.{MarkOnPaper};
 ghost use Rattle.pr_page.specs.declared.input.Input.{Input};
 ghost use Rattle.pr_ear.specs.declared.printing.Printed.{Printed};
 ghost use Rattle.pr_ear.specs.declared.printer_numbers.WireMark.{WireMark};
-ghost use Rattle.pr_ear.specs.Printing.{ArePrinted, HasPrinted, IsLaid, IsPrinted, NextRowsAreAtPrinters, PrintersPrintPages, printed_answer, set_answer};
-ghost use Rattle.pr_ear.specs.PrintingSteps.{IsAnyPrinted, IsPrintedAt};
+ghost use Rattle.pr_ear.specs.Printing.{ArePrinted, HasPrinted, IsAnyPrinted, IsLaid, IsPrinted, NextRowsAreAtPrinters, PrintersPrintPages, printed_answer, set_answer};
+ghost use Rattle.pr_ear.specs.PrintingSteps.{IsPrintedAt};
 
 use crate::printer_numbers::{WireMark, WirePrinter, numbers_of_mark, restore, store};
 use crate::{Answer, plain, refused};

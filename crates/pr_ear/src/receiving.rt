@@ -7,7 +7,8 @@ ghost use Rattle.pr_ear.specs.declared.WireEdge.{WireEdge};
 ghost use Rattle.pr_ear.specs.declared.receiving.Received.{Received};
 ghost use Rattle.pr_ear.specs.Hearing.{IsDevice, begin_answer_of};
 ghost use Rattle.pr_ear.specs.Receiving.{ReceiversHearLawfulTraces, ReceiversHearWhatIsPrinted, TellsReceived, acknowledged_frame, came_answer, came_with, received_numbers, receiver_answer_of};
-ghost use Rattle.pr_ear.specs.ReceiverLeft.{HasReceived, Hears, ReceiverLeaves, listener_by, received_at};
+ghost use Rattle.pr_ear.specs.ReceiverLeft.{ReceiverLeaves};
+ghost use Rattle.pr_ear.specs.ReceiverTaken.{HasReceived, Hears, listener_by, received_at};
 
 use crate::decoder_numbers::WireDecoder;
 use crate::decoding::{begin_decoder, decode_edge};

@@ -418,9 +418,13 @@ fn refuse_listing(
 
 /// Reports a failed read or write in one line on standard error: of a file by its name and the
 /// reason. Gives the exit status.
-fn tell_failed(rt: &impl Eprint, fault: CliFault, name: Option<&str>, error: Option<Error>) -> u8 {
-    match (name, error) {
-        (Some(name), Some(error)) => tell_file(rt, name, &error),
+fn tell_failed(rt: &impl Eprint, fault: CliFault, name: Option<&str>, error: Option<Error>) -> u8
+    ensures { result ≡ fault_status fault }
+{
+    match (fault, name, error) {
+        (CliFault::ReadFailed | CliFault::WriteFailed, Some(name), Some(error)) => {
+            tell_file(rt, name, &error)
+        }
         _ => tell(rt, fault),
     }
 }

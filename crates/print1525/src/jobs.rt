@@ -1,9 +1,9 @@
 //! A job done over any reader and writer, and the exit statuses.
 
-ghost use Rattle.std.specs.Prelude.{◌≡◌, ◌↔◌, false, true, IfErr, IfSome, IsErrOf};
+ghost use Rattle.std.specs.Prelude.{◌≡◌, ◌↔◌, false, true, IfErr, IfSome, IsErrOf, OnOk};
 ghost use Rattle.pr_cli.specs.Pages.{ReadsToEnd, WritesNothing, start_of};
 ghost use Rattle.pr_cli.specs.Report.{IsReportFault, ReadsAll, WritesNoReport};
-ghost use Rattle.pr_input.specs.Watched.{has_failed, wrapped};
+ghost use Rattle.pr_input.specs.Watched.{has_failed, is_flushed, wrapped};
 ghost use Rattle.print1525.specs.Jobs.{AnswersFrames, AnswersJob, AnswersRecording, AnswersRun, AnswersTrace, IsJobFault, IsPrintFault, IsRecordingFault, KeepsOutput, KeepsTrace, ReadsInput, ReadsRecording, ReadsTrace, found_job, restarted_job};
 
 use pr_basic::StatusMode;
@@ -109,6 +109,7 @@ pub fn do_job<R: Read, W: Write>(
     ensures job { IfSome (R.remaining (wrapped input.old)) (λ text.
         AnswersJob shapes.now job.entry text (W.contents (wrapped output.old)) (W.contents (wrapped output.new)) result) }
     ensures at_end { ReadsInput job.entry (R.remaining (wrapped input.new)) result }
+    ensures flushed { OnOk result (is_flushed output.new ≡ true) }
     // when it refuses, and what that leaves
     ensures nothing { KeepsOutput job.entry (W.contents (wrapped output.old)) (W.contents (wrapped output.new)) result }
     ensures own { IfErr result (IsJobFault job.entry) }
@@ -158,6 +159,7 @@ fn print_run<R: Read, W: Write>(
         AnswersRun shapes.now (start_of present delays mode) wanted text
         (W.contents (wrapped output.old)) (W.contents (wrapped output.new)) result) }
     ensures at_end { ReadsToEnd (R.remaining (wrapped input.new)) result }
+    ensures flushed { OnOk result (is_flushed output.new ≡ true) }
     // when it refuses, and what that leaves
     ensures nothing { WritesNothing (W.contents (wrapped output.old)) (W.contents (wrapped output.new)) result }
     ensures own { IfErr result (IsPrintFault wanted) }
@@ -195,6 +197,7 @@ fn check_trace<R: Read, W: Write>(
     ensures trace { IfSome (R.remaining (wrapped input.old)) (λ text.
         AnswersTrace trace.entry wanted text (W.contents (wrapped output.old)) (W.contents (wrapped output.new)) result) }
     ensures at_end { ReadsTrace wanted (R.remaining (wrapped input.new)) result }
+    ensures flushed { OnOk result (is_flushed output.new ≡ true) }
     // when it refuses, and what that leaves
     ensures nothing { KeepsTrace wanted (W.contents (wrapped output.old)) (W.contents (wrapped output.new)) result }
     ensures own { IfErr result IsReportFault }
@@ -223,6 +226,7 @@ fn report_trace<R: Read, W: Write>(
         AnswersFrames trace.entry trace.entry.source report text
         (W.contents (wrapped output.old)) (W.contents (wrapped output.new)) result) }
     ensures at_end { ReadsAll report (R.remaining (wrapped input.new)) result }
+    ensures flushed { OnOk result (is_flushed output.new ≡ true) }
     // when it refuses, and what that leaves
     ensures nothing { WritesNoReport report (W.contents (wrapped output.old)) (W.contents (wrapped output.new)) result }
     ensures own { IfErr result IsReportFault }
@@ -252,6 +256,7 @@ fn decode_recording<R: Read, W: Write>(
         AnswersRecording shapes.now trace.entry wanted text
         (W.contents (wrapped output.old)) (W.contents (wrapped output.new)) result) }
     ensures at_end { ReadsRecording wanted (R.remaining (wrapped input.new)) result }
+    ensures flushed { OnOk result (is_flushed output.new ≡ true) }
     // when it refuses, and what that leaves
     ensures own { IfErr result (IsRecordingFault wanted) }
     ensures read_failed { IsErrOf result CliFault.ReadFailed ↔ (has_failed input.new ≡ true) }

@@ -1,6 +1,6 @@
 //! The exit statuses.
 
-ghost use Rattle.std.specs.Prelude.{◌≡◌};
+ghost use Rattle.std.specs.Prelude.{◌≡◌, ◌==◌, ◌||◌};
 ghost use Rattle.print1525.specs.Statuses.{characters_status, ending_status, fault_status, refusal_status, text_status};
 
 use pr_cli::{CliFault, Ending, ShapesFault};
@@ -46,7 +46,9 @@ pub fn fault_status(fault: CliFault) -> u8
 }
 
 /// Whether the status is that of a job whose whole text was written.
-pub fn is_answered(status: u8) -> bool {
+pub fn is_answered(status: u8) -> bool
+    ensures { result ≡ (status == 0 || status == 1) }
+{
     status == DONE || status == STOPPED
 }
 
