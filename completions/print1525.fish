@@ -50,7 +50,7 @@ complete -c print1525 -n '__fish_seen_subcommand_from raw' -s o -l output -r -F 
 complete -c print1525 -n '__fish_seen_subcommand_from raw' -l set -x -a 'upper lower' -d 'The character set selected before the first byte: upper (graphic/upper case) or lower (lower/upper case)'
 complete -c print1525 -n '__fish_seen_subcommand_from raw' -l as -x -a 'list text svg png pdf' -d 'list (every mark with its place), text (lines for a terminal), svg (a picture), png (a sheet as a bitmap) or pdf (sheets to print)'
 complete -c print1525 -n '__fish_seen_subcommand_from raw' -l explain -d 'Says more about a fault or a BASIC error, on standard error'
-complete -c print1525 -n '__fish_seen_subcommand_from raw' -l device -x -a '4 5' -d '4 or 5: the printer that svg, png and pdf draw or whose bytes are written [default: all, the first with a page for png, 4 for bytes]'
+complete -c print1525 -n '__fish_seen_subcommand_from raw' -l device -x -a '4 5' -d '4 or 5: the printer that svg, png and pdf draw [default: all, or the first with a page for png]'
 complete -c print1525 -n '__fish_seen_subcommand_from raw' -l sheet -x -d 'The sheet of 11 inches that svg and png draw, from 1 [default: all, or sheet 1]'
 complete -c print1525 -n '__fish_seen_subcommand_from raw' -l characters -r -F -d 'A file with the shapes of characters that svg, png and pdf draw [default: this project\'s own]'
 complete -c print1525 -s h -l help -d 'prints the help'
