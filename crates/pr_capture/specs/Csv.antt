@@ -22,7 +22,7 @@ use Rattle.pr_capture.specs.declared.signals.Signals.{Signals}
 use Rattle.pr_capture.specs.Recording.{◌>>=◌, ended, is_framing, is_named, level_in, refused, second_name, with_samples, without_front, CaptureContents}
 use Rattle.pr_capture.specs.Words.{is_space}
 use Rattle.pr_capture.specs.Numbers.{behind_word}
-use Rattle.pr_capture.specs.TableTimes.{bare_unit, from_start, has_numbers, instant_in, is_counting, no_remarks, rate_known, remarked, sample_in, scale_of, start_of, time_at_rate, time_or, time_unit}
+use Rattle.pr_capture.specs.TableTimes.{bare_unit, from_start, has_numbers, instant_in, is_counting, is_timing, no_remarks, rate_known, remarked, sample_in, scale_of, start_of, time_at_rate, time_or, time_unit}
 
 -- Lines and fields.
 
@@ -109,14 +109,24 @@ abbrev pub rate_beside : Remarks → (first : Option (List ℕ)) → Option ℕ
 rate_beside r None = rate_known r
 rate_beside r (Some name) = if is_counting name then None else rate_known r
 
+-- a column is of times
+abbrev pub has_times : (fields : List (List ℕ)) → Bool
+has_times [] = false
+has_times (f ∷ fs) = is_timing f || has_times fs
+
+-- the rate counts where no column is of times: times count only in the first column
+abbrev pub rate_alone : (times : Bool) → (rate : Option ℕ) → Option ℕ
+rate_alone true rate = None
+rate_alone false rate = rate
+
 -- a table without times: its first column has the numbers of samples, or it has a row a sample
 abbrev pub layout_beside : Signals → Remarks → (number separator : ℕ) → (numbers : Bool) → (fields : List (List ℕ)) → Result Layout CaptureFault
 layout_beside s r number sep true fs =
     columns_in s number 1 (drop 1 fs) >>= λ c.
-    rate_or number (rate_known r) >>= λ rate. Ok (record { columns = c; separator = sep; scale = Numbered 1 rate })
+    rate_or number (rate_alone (has_times fs) (rate_known r)) >>= λ rate. Ok (record { columns = c; separator = sep; scale = Numbered 1 rate })
 layout_beside s r number sep false fs =
     columns_in s number 0 fs >>= λ c.
-    rate_or number (rate_beside r (field_at 0 fs)) >>= λ rate. Ok (record { columns = c; separator = sep; scale = Counted rate })
+    rate_or number (rate_alone (has_times fs) (rate_beside r (field_at 0 fs))) >>= λ rate. Ok (record { columns = c; separator = sep; scale = Counted rate })
 
 -- or with times in its first column, by their unit
 abbrev pub layout_by : Signals → Remarks → (number separator : ℕ) → (unit : Option ℕ) → (fields : List (List ℕ)) → Result Layout CaptureFault

@@ -68,6 +68,10 @@ is_counting l =
     || begins (codes "ticks") l || spells (codes "n") l || spells (codes "nr") l || spells (codes "no") l
     || list_all is_sign l
 
+-- a column has times, wherever it stands: Time [s], Timestamp, Elapsed
+abbrev pub is_timing : (name : List ℕ) → Bool
+is_timing l = begins (codes "time") l || begins (codes "timestamp") l || begins (codes "elapsed") l
+
 -- sigrok's own names for times: Time, or their unit in full
 abbrev pub is_sigrok_word : (name : List ℕ) → Bool
 is_sigrok_word l =
@@ -145,27 +149,35 @@ rate_known r = first_some r.given r.rate
 abbrev pub bare_unit : Remarks → Option ℕ
 bare_unit r = if is_some r.given && not (is_some r.rate) then None else r.bare
 
+-- what a remark has between its word and the rate: blanks, a colon, an equals sign
+abbrev pub is_mark : ℕ → Bool
+is_mark b = b == 32 || b == 9 || b == 58 || b == 61
+
+abbrev pub behind_marks : List ℕ → List ℕ
+behind_marks [] = []
+behind_marks (b ∷ bs) = if is_mark b then behind_marks bs else b ∷ bs
+
 -- after a rate: a remark of sigrok's, whatever signs it begins with, gives the unit of a bare word for time too
 abbrev pub with_rate : Remarks → (line : List ℕ) → (text : Option (List ℕ)) → Remarks
 with_rate r line None = r
 with_rate r line (Some text) = record {
   given = r.given;
-  rate = rate_in (without_signs text);
+  rate = rate_in (behind_marks text);
   bare = if bytes_eq (take 11 (without_signs line)) (codes "Samplerate:")
-      then unit_by (rate_in (without_signs text)) else r.bare;
+      then unit_by (rate_in (behind_marks text)) else r.bare;
 }
 
 -- the line that sigrok-cli puts in front of what it writes before it knows the rate, so that all its times are 0
 abbrev pub with_meta : Remarks → (line : List ℕ) → (text : Option (List ℕ)) → Remarks
 with_meta r line None = with_rate r line (behind_word (codes "samplerate") line)
-with_meta r line (Some text) = record { given = r.given; rate = rate_in (without_signs text); bare = None }
+with_meta r line (Some text) = record { given = r.given; rate = rate_in (behind_marks text); bare = None }
 
 -- after a remark
 abbrev pub remarked : Remarks → (line : List ℕ) → Remarks
 remarked r line = with_meta r line (behind_word (codes "METAsamplerate") line)
 
--- Columns of times: sigrok-cli adds up the time of one sample, in whole units, rounded down. Where that lacks a part, its times are taken
--- for what they are: numbers of samples, multiplied by that time.
+-- Columns of times: sigrok-cli adds up the time of one sample, in whole units, rounded down. So its times are numbers of units; where a
+-- sample is no whole number of them, they are taken for what they are: numbers of samples, multiplied by that time.
 
 abbrev pub is_this : (unit : ℕ) → Option ℕ → Bool
 is_this unit None = false
@@ -180,7 +192,7 @@ own_rate r unit first (Some n) =
 -- a second has this many units
 abbrev pub scale_by : (unit rate : ℕ) → (second : Option ℕ) → Scale
 scale_by unit rate None = Timed unit
-scale_by unit rate (Some n) = if rate == 0 || n % rate == 0 then Timed unit else Numbered (n / rate) rate
+scale_by unit rate (Some n) = if rate == 0 || n % rate == 0 then Numbered 1 n else Numbered (n / rate) rate
 
 abbrev pub scale_at : (unit : ℕ) → (own : Option ℕ) → Scale
 scale_at unit None = Timed unit

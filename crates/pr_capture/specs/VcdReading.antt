@@ -136,8 +136,7 @@ one_bit (Some bit) = Some (Some bit)
 -- are on its right
 abbrev pub bit_wanted : (wanted path size : List ℕ) → Option (Option ℕ)
 bit_wanted wanted path size =
-    if bytes_eq size (codes "1") then (if has_path wanted path then Some None else None)
-    else one_bit (bit_in wanted path)
+    if bytes_eq size (codes "1") && has_path wanted path then Some None else one_bit (bit_in wanted path)
 
 -- what is known of a wire's signal: its code and bit, and the line of the first other signal that has its name
 pub record Found : Type 0 where

@@ -6,7 +6,7 @@
 
 ghost use Rattle.std.specs.Prelude.{◌≡◌, ◌+◌, ◌^◌, ◌<◌, ◌≤◌, ◌∷◌, [], false, true, None, Err, IfErr, IfOk, Ok, drop, length, option_copied, take, IfSome, Some};
 ghost use Rattle.std.specs.List.{list_all, prefix_len};
-ghost use Rattle.pr_capture.specs.Csv.{behind_point, clock_name, column_in, column_of, columns_in, field_at, fields_of, first_moment, is_archive, is_in_front, is_separator, is_silent, is_twice, is_wide, layout_beside, layout_by, layout_of, level_of, level_or, moment_at, moment_next, moment_of, opened, rate_beside, row_of, sample_of, separator_of, without_space, without_zeros};
+ghost use Rattle.pr_capture.specs.Csv.{behind_point, clock_name, column_in, column_of, columns_in, field_at, fields_of, first_moment, has_times, is_archive, is_in_front, is_separator, is_silent, is_twice, is_wide, layout_beside, layout_by, layout_of, level_of, level_or, moment_at, moment_next, moment_of, opened, rate_beside, row_of, sample_of, separator_of, without_space, without_zeros};
 ghost use Rattle.pr_capture.specs.CsvReads.{EndsText, FaultsIn, ReadsMore, RefusesTable, SkipsRows, TakesRepeats};
 ghost use Rattle.pr_capture.specs.CsvSteps.{field_len, fields_left, is_inner, line_number, moment_after, with_len, AreTimed, AnswersEnd, HasNoRows, HasReadTable, HoldsMore, IsRowOf, NamesAreRefused, NamesLeadTo, ReadsLine};
 ghost use Rattle.pr_capture.specs.TableTimes.{time_at_rate};
@@ -16,7 +16,7 @@ use crate::entries::is_word;
 use crate::fault::{CaptureFault, Wire};
 use crate::last_row::LastRow;
 use crate::numbers::{behind_first, behind_word, first_of};
-use crate::remarks::{Remarks, has_numbers, is_counting, scale_of, time_unit};
+use crate::remarks::{Remarks, has_numbers, is_counting, is_timing, scale_of, time_unit};
 use crate::signals::{Signals, are_framing, is_named, is_space, level_in, without_front};
 use crate::times::{Instant, from_start, instant_in, sample_in, start_of, time_at_rate, time_or};
 use pr_wire::{Edge, Levels};
@@ -188,6 +188,22 @@ fn is_twice(name: &[u8], separator: u8, fields: Option<&[u8]>) -> bool
     false
 }
 
+/// Whether a column is of times.
+fn has_times(separator: u8, fields: Option<&[u8]>) -> bool
+    requires { length (fields_left separator (option_copied fields)) < 2 ^ 64 }
+    ensures { result ≡ has_times (fields_left separator (option_copied fields.entry)) }
+{
+    let mut left = fields;
+    while let Some(line) = left {
+        let (field, more) = split_field(separator, line);
+        if is_timing(field) {
+            return true;
+        }
+        left = more;
+    }
+    false
+}
+
 /// The place of the column that a wire needs, which no other has the name of.
 fn column_in(
     number: usize,
@@ -275,7 +291,9 @@ fn layout_beside(
     } else {
         columns_in(signals, number, 0, separator, Some(line))?
     };
-    let rate = if has_numbers {
+    let rate = if has_times(separator, Some(line)) {
+        None
+    } else if has_numbers {
         remarks.rate_known()
     } else {
         rate_beside(remarks, field_at(separator, line, 0))

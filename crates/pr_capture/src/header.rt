@@ -84,17 +84,12 @@ pub fn scale_in(inside: &[Vec<u8>]) -> Option<u64>
 fn bit_wanted(wanted: &[u8], path: &[u8], size: &[u8]) -> Option<Option<u64>>
     ensures { result ≡ bit_wanted wanted.now path.now size.now }
 {
-    if is_word(size, b"1") {
-        if has_path(wanted, path) {
-            Some(None)
-        } else {
-            None
-        }
-    } else {
-        match bit_in(wanted, path) {
-            None => None,
-            Some(bit) => Some(Some(bit)),
-        }
+    if is_word(size, b"1") && has_path(wanted, path) {
+        return Some(None);
+    }
+    match bit_in(wanted, path) {
+        None => None,
+        Some(bit) => Some(Some(bit)),
     }
 }
 

@@ -1,7 +1,7 @@
 //! What the name of a table's first column and its remarks say of time.
 
 ghost use Rattle.std.specs.Prelude.{◌≡◌, ◌∷◌, [], option_copied};
-ghost use Rattle.pr_capture.specs.TableTimes.{bare_unit, begins, behind_fraction, ends_there, has_numbers, is_counting, is_micro, is_sample_word, is_sigrok_name, is_sigrok_word, is_this, is_unit, is_whole, no_remarks, own_rate, scale_by, scale_of, rate_by, rate_given, rate_in, rate_known, rate_unit, remarked, time_unit, unit_apart, unit_behind, unit_by, unit_of, with_rate};
+ghost use Rattle.pr_capture.specs.TableTimes.{bare_unit, begins, behind_fraction, behind_marks, ends_there, has_numbers, is_counting, is_mark, is_micro, is_sample_word, is_sigrok_name, is_sigrok_word, is_this, is_timing, is_unit, is_whole, no_remarks, own_rate, scale_by, scale_of, rate_by, rate_given, rate_in, rate_known, rate_unit, remarked, time_unit, unit_apart, unit_behind, unit_by, unit_of, with_rate};
 
 use crate::csv::Scale;
 use crate::entries::is_word;
@@ -131,6 +131,13 @@ pub fn is_counting(name: &[u8]) -> bool
         || spells(b"nr", name)
         || spells(b"no", name)
         || are_signs(name)
+}
+
+/// Whether a column has times, wherever it stands.
+pub fn is_timing(name: &[u8]) -> bool
+    ensures { result ≡ is_timing name.now }
+{
+    begins(b"time", name) || begins(b"timestamp", name) || begins(b"elapsed", name)
 }
 
 /// Whether a name is one that sigrok gives to times: Time, or their unit in full.
@@ -275,8 +282,8 @@ fn is_this(unit: u8, other: Option<u8>) -> bool
     }
 }
 
-/// What sigrok-cli's times in a unit of which a second has this many are, at a rate: where a sample is no whole
-/// number of units, it adds up the time of one, rounded down, so that they are numbers of samples.
+/// What sigrok-cli's times in a unit of which a second has this many are, at a rate: it adds up the time of one sample, in
+/// whole units and rounded down. So they are numbers of units, or else of samples.
 fn scale_by(unit: u8, rate: u64, second: Option<u64>) -> Scale
     ensures { result ≡ scale_by unit rate second }
 {
@@ -284,7 +291,10 @@ fn scale_by(unit: u8, rate: u64, second: Option<u64>) -> Scale
         return Scale::Timed(unit);
     };
     if rate == 0 || second % rate == 0 {
-        return Scale::Timed(unit);
+        return Scale::Numbered {
+            step: 1,
+            rate: second,
+        };
     }
     let step = second / rate;
     Scale::Numbered { step, rate }
@@ -309,6 +319,25 @@ pub fn has_numbers(bare: Option<u8>, first: Option<&[u8]>) -> bool
         (Some(_), Some(name)) => is_sample_word(name),
         _ => false,
     }
+}
+
+/// Whether a remark may have this byte between its word and the rate.
+fn is_mark(b: u8) -> bool
+    ensures { result ≡ is_mark b }
+{
+    b == b' ' || b == b'\t' || b == b':' || b == b'='
+}
+
+/// What follows such bytes.
+fn behind_marks(text: &[u8]) -> &[u8]
+    ensures { result.now ≡ behind_marks text.now }
+{
+    for (i, b) in text.iter().enumerate() {
+        if !is_mark(*b) {
+            return &text[i..];
+        }
+    }
+    &[]
 }
 
 impl Remarks {
@@ -365,7 +394,7 @@ impl Remarks {
         let Some(text) = text else {
             return self;
         };
-        let rate = rate_in(without_signs(text));
+        let rate = rate_in(behind_marks(text));
         let bare = if is_word(first_of(without_signs(line), 11), b"Samplerate:") {
             unit_by(rate)
         } else {
@@ -387,7 +416,7 @@ impl Remarks {
             None => self.with_rate(line, behind_word(b"samplerate", line)),
             Some(text) => Remarks {
                 given: self.given,
-                rate: rate_in(without_signs(text)),
+                rate: rate_in(behind_marks(text)),
                 bare: None,
             },
         }

@@ -86,17 +86,18 @@ used_among used first count = filter (λ number. slice_index_or used number fals
 abbrev pub used_before : List Bool → ℕ → ℕ
 used_before used number = length (used_among used 0 number)
 
--- each code's name: `c` and the code
+-- each code's name: `c` and the code; but `m` for 128, which no mark has: programs that find text take a font's size from the width of
+-- its `m`, so that letters and wide letters of a line have one size
 unfoldable pub code_name : ℕ → List ℕ
-code_name code = codes "/c" ++ decimal code ++ codes " "
+code_name code = if code == 128 then codes "/m " else codes "/c" ++ decimal code ++ codes " "
 
 -- the encoding of all fonts
 unfoldable pub encoding_pdf : List ℕ
 encoding_pdf = encoding_begin ++ flat_map code_name (numbers_from 0 256) ++ list_end
 
--- the width of a glyph of this many dot columns, whatever its code
+-- the width of a glyph of this many dot columns, whatever its code; but `m` is as wide as a letter
 unfoldable pub width_pdf : (columns code : ℕ) → List ℕ
-width_pdf columns code = decimal (42 * columns) ++ codes " "
+width_pdf columns code = decimal (42 * (if code == 128 then 6 else columns)) ++ codes " "
 
 -- the widths of 256 glyphs of this many dot columns
 unfoldable pub widths_pdf : ℕ → List ℕ

@@ -13,11 +13,17 @@ use crate::parts::{
 use pr_render::character;
 use std::alloc::AllocError;
 
+/// The code that no mark has. Its glyph is called `m`: programs that find text take a font's size from its width.
+const NO_MARK: u64 = 128;
+
 /// Adds a code's name.
 #[tactic(auto, unfolding(crate::specs::Fonts::code_name))]
 pub fn push_code_name(text: &mut Vec<u8>, code: u64) -> Result<(), AllocError>
     ensures { OnOk result (text.new.items ≡ text.old.items ++ code_name code) }
 {
+    if code == NO_MARK {
+        return text.extend_from_slice(b"/m ");
+    }
     push_between(text, b"/c", code, b" ")
 }
 
@@ -41,15 +47,25 @@ pub fn push_encoding(text: &mut Vec<u8>) -> Result<(), AllocError>
     text.extend_from_slice(list_end())
 }
 
-/// Adds the width of glyphs.
+/// Adds the width of a glyph.
 #[tactic(auto, unfolding(crate::specs::Fonts::width_pdf))]
+fn push_width(text: &mut Vec<u8>, columns: u64, code: u64) -> Result<(), AllocError>
+    requires { columns ≤ 12 }
+    ensures { OnOk result (text.new.items ≡ text.old.items ++ width_pdf columns code) }
+{
+    let columns = if code == NO_MARK { 6 } else { columns };
+    push_number(text, 42 * columns)?;
+    text.push(b' ')?;
+    Ok(())
+}
+
+/// Adds the width of glyphs.
 fn push_each_width(text: &mut Vec<u8>, columns: u64, count: u64) -> Result<(), AllocError>
     requires { columns ≤ 12 }
     ensures { OnOk result (text.new.items ≡ text.old.items ++ flat_map (width_pdf columns) (numbers_from 0 count)) }
 {
-    for _code in 0..count {
-        push_number(text, 42 * columns)?;
-        text.push(b' ')?;
+    for code in 0..count {
+        push_width(text, columns, code)?;
     }
     Ok(())
 }

@@ -8,5 +8,4 @@ pub loop-code-init : goal.loop-code-init
 loop-code-init c = grind (arith, common_steps, flat_none (width_pdf c.args.columns))
 
 pub loop-code-preserved : goal.loop-code-preserved
-unfolding width_pdf
-loop-code-preserved c = grind (arith, common_steps, flat_more (width_pdf c.args.columns) c.loop-code._code)
+loop-code-preserved c = grind (arith, common_steps, flat_more (width_pdf c.args.columns) c.loop-code.code)
