@@ -219,6 +219,9 @@ fn rule_of_tables(fault: CaptureFault) -> &'static str {
              2^64 microseconds; sample numbers are digits, and times after sigrok-cli's remark of a rate are \
              multiples of one sample's"
         }
+        CaptureFault::GoesBack(_) => {
+            "this time is earlier than the one before it; of instants, month and year are not read"
+        }
         CaptureFault::TwoSignals(_, _) => {
             "two columns have this name, in capitals or not: rename one, or choose others with --names"
         }
@@ -234,9 +237,9 @@ fn rule_of_times(line: &[u8]) -> &'static str {
          leave out the sample rate (--rate, or the line that gives it); a table of sigrok-cli is read with \
          its own remarks and without --rate: write it from a .sr file"
     } else {
-        "expected a first column of times, such as Time [s] or microseconds, or of numbers named Sample: \
-         rename one of these; with numbers, or without such a column, give the sample rate with --rate, such \
-         as --rate 4M, or in a remark such as ; Samplerate: 4 MHz"
+        "expected a first column of times, such as Time [s] or microseconds, or of sample numbers named \
+         Sample: rename it, or move the column of times to the front; where no column is of times, give the \
+         sample rate with --rate, such as --rate 4M, or in a remark such as ; Samplerate: 4 MHz"
     }
 }
 
