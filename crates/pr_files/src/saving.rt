@@ -1,5 +1,9 @@
 //! A file that is written whole, or not at all.
 
+ghost use Rattle.std.specs.Io.{WritesAtMost};
+ghost use Rattle.std.specs.Io.KnownBytes.{Keeps, WriteAppends};
+ghost use Rattle.pr_files.specs.Saving.{written_to};
+
 use crate::links::{folder_of, followed};
 use std::fs::{File, Files, OpenFile, OpenOptions, Permissions};
 use std::io::{ErrorKind, Write};
@@ -115,11 +119,18 @@ impl<F: OpenFile + Drop> Saving<F> {
 }
 
 impl<F: Write> Write for Saving<F> {
-    fn write(&mut self, buf: &[u8]) -> io::Result<usize> {
+    ghost contents = { λ s. F.contents (written_to s) };
+
+    fn write(&mut self, buf: &[u8]) -> io::Result<usize>
+        ensures bound { WritesAtMost result buf.now }
+        ensures bytes { WriteAppends (F.contents (written_to self.old)) (F.contents (written_to self.new)) result buf.now }
+    {
         self.file.write(buf)
     }
 
-    fn flush(&mut self) -> io::Result<()> {
+    fn flush(&mut self) -> io::Result<()>
+        ensures { Keeps (F.contents (written_to self.old)) (F.contents (written_to self.new)) }
+    {
         self.file.flush()
     }
 }

@@ -1,7 +1,7 @@
 -- Trusted: what the program answers for each job, and what it leaves in the reader and in the
 -- writer. The answer uses the printers present, the delays, the mode, the input, the character set
 -- and the output of the job, and the shapes of characters that it is given.
-use Rattle.std.specs.Prelude.{ℕ, true, false, List, Option, Result, Ok, Err}
+use Rattle.std.specs.Prelude.{◌≡◌, ◌⊎◌, ℕ, Bool, true, false, List, Option, Result, Ok, Err}
 use Rattle.pr_capture.specs.declared.format.Source.{Source}
 use Rattle.pr_capture.specs.declared.format.Source.TheVariants as source
 use Rattle.pr_capture.specs.declared.format.TraceInput.{TraceInput}
@@ -9,6 +9,11 @@ use Rattle.pr_report.specs.declared.oddities.Oddities.{Oddities}
 use Rattle.pr_report.specs.declared.report.Report.{Report}
 use Rattle.pr_report.specs.declared.report.Report.TheVariants as report
 use Rattle.pr_dots.specs.declared.character_sets.Shapes.{Shapes}
+use Rattle.pr_listing.specs.declared.form.ListingForm.{ListingForm}
+use Rattle.pr_listing.specs.declared.form.ListingForm.TheVariants.{Text}
+use Rattle.pr_listing.specs.declared.input.TextFault.{TextFault}
+use Rattle.pr_listing.specs.Forms.{HasText}
+use Rattle.pr_listing.specs.Inputs.{IsTextFault}
 use Rattle.pr_options.specs.declared.command_line.Job.{Job}
 use Rattle.pr_options.specs.declared.command_line.Job.TheVariants.{Pages, Bus, Check, Decode, Raw}
 use Rattle.pr_options.specs.declared.outputs.CheckOutput.{CheckOutput}
@@ -21,7 +26,7 @@ use Rattle.pr_options.specs.Found.{found_source}
 use Rattle.pr_cli.specs.declared.fault.CliFault.{CliFault}
 use Rattle.pr_cli.specs.declared.pages.Ending.{Ending}
 use Rattle.pr_cli.specs.declared.pages.Ending.TheVariants.{Done}
-use Rattle.pr_cli.specs.Pages.{AnswersPages, IsPagesFault, IsRunFault, ReadsToEnd, Start, WritesNothing, start_of}
+use Rattle.pr_cli.specs.Pages.{AnswersPages, IsPagesFault, IsRunFault, ReadsToEnd, Start, WritesNothing, script_limit, start_of}
 use Rattle.pr_cli.specs.Bus.{AnswersBus, WritesNoEdge}
 use Rattle.pr_cli.specs.Check.{AnswersCheck, trace_limit}
 use Rattle.pr_cli.specs.Report.{AnswersReport, IsReportFault, WritesNoReport}
@@ -37,6 +42,7 @@ use Rattle.pr_recording.specs.Pages as reprint
 use Rattle.pr_recording.specs.RunBytes.{AnswersRunBytes}
 use Rattle.print1525.specs.declared.jobs.Answer.{Answer}
 use Rattle.print1525.specs.declared.jobs.Answer.TheVariants as answer
+use Rattle.print1525.specs.Statuses.{job_status, text_status}
 
 -- a job whose recording's format has to be found, with the format that the first bytes show; all else of it stays
 abbrev pub found_job : (first : List ℕ) → Job → Job
@@ -125,6 +131,33 @@ AnswersJob shapes (Decode is_found input output) text old new result =
     AnswersRecording shapes input output text old new result
 AnswersJob shapes (Raw lower f) text old new result =
     IsDone (AnswersRaw shapes lower f text old new) result
+
+-- how the program ends a job: the writer holds what the job's answer leaves in it, and the exit status is that answer's
+abbrev pub EndsJob : Shapes → Job → List ℕ → Option (List ℕ) → Option (List ℕ) → (status : ℕ) → Type 0
+EndsJob shapes job text old new status =
+    (answer : Result Answer CliFault) × AnswersJob shapes job text old new answer × (status ≡ job_status answer)
+
+-- the form of the listing that a job reads; an input that is no listing is read as it is
+abbrev pub form_of : Job → ListingForm
+form_of (Pages form present delays mode output) = form
+form_of (Bus form present delays mode f) = form
+form_of _ = Text
+
+-- whether a job has to find the format of its recording
+abbrev pub finds_format : Job → Bool
+finds_format (Decode is_found input output) = is_found
+finds_format _ = false
+
+-- how it ends a job that reads a listing in this form: by the text that the listing has, or it refuses the listing and writes nothing
+abbrev pub EndsListing : Shapes → Job → ListingForm → List ℕ → Option (List ℕ) → Option (List ℕ) → (status : ℕ) → Type 0
+EndsListing shapes job form bytes old new status =
+    ((text : List ℕ) × HasText form bytes text × EndsJob shapes job text old new status)
+    ⊎ ((fault : TextFault) × IsTextFault form script_limit bytes fault × (new ≡ old) × (status ≡ text_status fault))
+
+-- how it ends a job on an input's bytes: an input that is no listing in another form is read as it is
+abbrev pub EndsInput : Shapes → Job → ListingForm → List ℕ → Option (List ℕ) → Option (List ℕ) → (status : ℕ) → Type 0
+EndsInput shapes job Text bytes old new status = EndsJob shapes job bytes old new status
+EndsInput shapes job form bytes old new status = EndsListing shapes job form bytes old new status
 
 -- Whatever the reader gives.
 

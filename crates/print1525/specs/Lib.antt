@@ -1,3 +1,4 @@
 pub mod Jobs
 pub mod Statuses
 pub mod Characters
+pub mod Progress

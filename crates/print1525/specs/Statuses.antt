@@ -1,5 +1,5 @@
 -- Trusted: the program's exit statuses.
-use Rattle.std.specs.Prelude.{ℕ}
+use Rattle.std.specs.Prelude.{ℕ, Result, Ok, Err}
 use Rattle.clap.specs.Values.{kind_of}
 use Rattle.clap.specs.declared.error.kind.ErrorKind.{ErrorKind}
 use Rattle.clap.specs.declared.error.kind.ErrorKind.TheVariants.{DisplayHelp, DisplayVersion}
@@ -39,6 +39,11 @@ fault_status TooLarge = 2
 fault_status NoMemory = 3
 fault_status ReadFailed = 3
 fault_status WriteFailed = 3
+
+-- of a job with its answer or its fault
+abbrev pub job_status : Result Answer CliFault → ℕ
+job_status (Ok answer) = answer_status answer
+job_status (Err fault) = fault_status fault
 
 -- 0 when the words ask for help or for the version, 2 when clap refuses them
 abbrev pub line_status : ErrorKind → ℕ

@@ -1,6 +1,7 @@
 //! A task done: its files opened, its job done over them, and what there is to say on standard error.
 
-ghost use Rattle.std.specs.Prelude.{◌≡◌};
+ghost use Rattle.std.specs.Prelude.{◌≡◌, None, false, IfSome};
+ghost use Rattle.print1525.specs.Jobs.{EndsInput, EndsJob, EndsListing, finds_format, form_of};
 ghost use Rattle.print1525.specs.Statuses.{answer_status, fault_status, text_status};
 
 use crate::characters::shapes_for;
@@ -185,19 +186,29 @@ fn answer_job<R: Read + Drop, W: Write + Drop>(
     names: Names<'_>,
     work: Work<'_>,
     aside: Aside<'_>,
-) -> (u8, W) {
+) -> (u8, W)
+    ensures { finds_format work.entry.job ≡ false → work.entry.before ≡ None →
+        IfSome (R.remaining reader) (λ bytes. EndsInput work.entry.shapes.now work.entry.job (form_of work.entry.job) bytes
+        (W.contents writer) (W.contents result.1) result.0) }
+{
     if is_to_find(&work.job) || work.before.is_some() {
         return answer_recording(rt, reader, writer, names, work, aside);
     }
-    let form = form_of(&work.job);
-    if form == ListingForm::Text {
-        return answer_over(rt, reader, writer, names, work, aside);
+    match form_of(&work.job) {
+        ListingForm::Text => answer_over(rt, reader, writer, names, work, aside),
+        ListingForm::Program => {
+            answer_listing(rt, reader, writer, names, ListingForm::Program, work, aside)
+        }
+        ListingForm::Petcat => {
+            answer_listing(rt, reader, writer, names, ListingForm::Petcat, work, aside)
+        }
     }
-    answer_listing(rt, reader, writer, names, form, work, aside)
 }
 
 /// Whether a job has to find the format of its recording.
-fn is_to_find(job: &Job<'_>) -> bool {
+fn is_to_find(job: &Job<'_>) -> bool
+    ensures { result ≡ finds_format job.now }
+{
     matches!(job, Job::Decode { is_found: true, .. })
 }
 
@@ -284,7 +295,10 @@ fn answer_listing<R: Read + Drop, W: Write + Drop>(
     form: ListingForm,
     work: Work<'_>,
     aside: Aside<'_>,
-) -> (u8, W) {
+) -> (u8, W)
+    ensures { IfSome (R.remaining reader) (λ bytes. EndsListing work.entry.shapes.now work.entry.job form bytes
+        (W.contents writer) (W.contents result.1) result.0) }
+{
     let kept = TeeReader::new(rt.alloc(), reader, aside.is_explained);
     let mut input = Watched::new(Noting::new(kept));
     match read_text(rt.alloc(), &mut input, form, SCRIPT_LIMIT) {
@@ -308,7 +322,9 @@ fn answer_listing<R: Read + Drop, W: Write + Drop>(
 }
 
 /// The form of the listing that a job reads; an input that is no listing is read as it is.
-fn form_of(job: &Job<'_>) -> ListingForm {
+fn form_of(job: &Job<'_>) -> ListingForm
+    ensures { result ≡ form_of job.now }
+{
     match job {
         Job::Pages(form, _, _, _, _) | Job::Bus(form, _, _, _, _) => *form,
         Job::Check(..) | Job::Decode { .. } | Job::Raw { .. } => ListingForm::Text,
@@ -325,7 +341,10 @@ fn answer_over<R: Read + Drop, W: Write + Drop>(
     names: Names<'_>,
     work: Work<'_>,
     aside: Aside<'_>,
-) -> (u8, W) {
+) -> (u8, W)
+    ensures { IfSome (R.remaining reader) (λ text. EndsJob work.entry.shapes.now work.entry.job text
+        (W.contents writer) (W.contents result.1) result.0) }
+{
     let Work { job, shapes, .. } = work;
     let subject = subject_of(&job);
     let is_kept = aside.is_explained && !aside.is_file;

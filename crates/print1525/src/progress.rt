@@ -1,5 +1,10 @@
 //! How far a run has read, shown on a terminal.
 
+ghost use Rattle.std.specs.Prelude.{◌≡◌};
+ghost use Rattle.std.specs.Io.{ReadsAtMost};
+ghost use Rattle.std.specs.Io.KnownBytes.{ReadConsumes};
+ghost use Rattle.print1525.specs.Progress.{counted};
+
 use std::cell::Cell;
 use std::io;
 use std::io::Read;
@@ -33,7 +38,9 @@ impl<'a, T: Clock + Eprint, R> Progress<'a, T, R> {
         is_watched: bool,
         count: &'a Cell<u64>,
         is_shown: &'a Cell<bool>,
-    ) -> Progress<'a, T, R> {
+    ) -> Progress<'a, T, R>
+        ensures { counted result ≡ inner }
+    {
         let next = if is_watched { after(rt, QUIET) } else { None };
         Progress {
             rt,
@@ -45,7 +52,9 @@ impl<'a, T: Clock + Eprint, R> Progress<'a, T, R> {
     }
 
     /// Shows how many bytes have come, if it is time, and nothing any more at the end.
-    fn note(&mut self, n: usize) {
+    fn note(&mut self, n: usize)
+        ensures { counted self.new ≡ counted self.old }
+    {
         let bytes = self.count.get().wrapping_add(n as u64);
         self.count.set(bytes);
         if n == 0 {
@@ -89,7 +98,12 @@ fn after(rt: &impl Clock, milliseconds: u64) -> Option<Duration> {
 }
 
 impl<T: Clock + Eprint, R: Read> Read for Progress<'_, T, R> {
-    fn read(&mut self, buf: &mut [u8]) -> io::Result<usize> {
+    ghost remaining = { λ p. R.remaining (counted p) };
+
+    fn read(&mut self, buf: &mut [u8]) -> io::Result<usize>
+        ensures bound { ReadsAtMost result buf.new }
+        ensures bytes { ReadConsumes (R.remaining (counted self.old)) (R.remaining (counted self.new)) result buf.new }
+    {
         let answer = self.inner.read(buf);
         if let Ok(n) = &answer {
             self.note(*n);
