@@ -1,7 +1,7 @@
--- Trusted: what the program answers for each job, and what it leaves in the reader and in the
--- writer. The answer uses the printers present, the delays, the mode, the input, the character set
+-- Trusted: what the program answers for each job, what it leaves in the reader and in the writer,
+-- and with which exit status it ends. The answer uses the printers present, the delays, the mode, the input, the character set
 -- and the output of the job, and the shapes of characters that it is given.
-use Rattle.std.specs.Prelude.{◌≡◌, ◌⊎◌, ℕ, Bool, true, false, List, Option, Result, Ok, Err}
+use Rattle.std.specs.Prelude.{◌≡◌, ◌⊎◌, ◌≤◌, ℕ, Bool, true, false, List, length, Option, Result, Ok, Err}
 use Rattle.pr_capture.specs.declared.format.Source.{Source}
 use Rattle.pr_capture.specs.declared.format.Source.TheVariants as source
 use Rattle.pr_capture.specs.declared.format.TraceInput.{TraceInput}
@@ -132,7 +132,8 @@ AnswersJob shapes (Decode is_found input output) text old new result =
 AnswersJob shapes (Raw lower f) text old new result =
     IsDone (AnswersRaw shapes lower f text old new) result
 
--- how the program ends a job: the writer holds what the job's answer leaves in it, and the exit status is that answer's
+-- how the program ends a job: the writer holds what an answer of the job leaves in it, and the exit status is that answer's; an
+-- answer that is always allowed is `NoMemory`, where at most a beginning was written
 abbrev pub EndsJob : Shapes → Job → List ℕ → Option (List ℕ) → Option (List ℕ) → (status : ℕ) → Type 0
 EndsJob shapes job text old new status =
     (answer : Result Answer CliFault) × AnswersJob shapes job text old new answer × (status ≡ job_status answer)
@@ -148,13 +149,13 @@ abbrev pub finds_format : Job → Bool
 finds_format (Decode is_found input output) = is_found
 finds_format _ = false
 
--- how it ends a job that reads a listing in this form: by the text that the listing has, or it refuses the listing and writes nothing
+-- how it ends a job that reads a listing in this form: by the text that the listing has, or it gets no text of it, and writes nothing
 abbrev pub EndsListing : Shapes → Job → ListingForm → List ℕ → Option (List ℕ) → Option (List ℕ) → (status : ℕ) → Type 0
 EndsListing shapes job form bytes old new status =
-    ((text : List ℕ) × HasText form bytes text × EndsJob shapes job text old new status)
+    ((text : List ℕ) × (length bytes ≤ script_limit) × HasText form bytes text × EndsJob shapes job text old new status)
     ⊎ ((fault : TextFault) × IsTextFault form script_limit bytes fault × (new ≡ old) × (status ≡ text_status fault))
 
--- how it ends a job on an input's bytes: an input that is no listing in another form is read as it is
+-- how it ends a job on an input's bytes: by the bytes themselves where the form is a script's text, else as a listing
 abbrev pub EndsInput : Shapes → Job → ListingForm → List ℕ → Option (List ℕ) → Option (List ℕ) → (status : ℕ) → Type 0
 EndsInput shapes job Text bytes old new status = EndsJob shapes job bytes old new status
 EndsInput shapes job form bytes old new status = EndsListing shapes job form bytes old new status

@@ -2,7 +2,7 @@
 
 ghost use Rattle.std.specs.Prelude.{◌≡◌, None, false, IfSome};
 ghost use Rattle.print1525.specs.Jobs.{EndsInput, EndsJob, EndsListing, finds_format, form_of};
-ghost use Rattle.print1525.specs.Statuses.{answer_status, fault_status, text_status};
+ghost use Rattle.print1525.specs.Statuses.{answer_status, fault_status, job_status, text_status};
 
 use crate::characters::shapes_for;
 use crate::jobs::{Answer, do_job, found_job};
@@ -355,19 +355,7 @@ fn answer_over<R: Read + Drop, W: Write + Drop>(
     clear(rt, aside.is_shown);
     let input = input.into_inner();
     let output = output.into_inner();
-    let status = match answer {
-        Ok(answer) => tell_answer(rt, subject, answer),
-        Err(CliFault::ReadFailed) => tell_failed(
-            rt,
-            CliFault::ReadFailed,
-            names.input,
-            input.error(),
-        ),
-        Err(CliFault::WriteFailed) => {
-            tell_failed(rt, CliFault::WriteFailed, names.output, output.error())
-        }
-        Err(fault) => tell(rt, fault),
-    };
+    let status = tell_end(rt, subject, names, answer, input.error(), output.error());
     let bytes = match names.input {
         Some(name) if aside.is_file => read_again(rt, name, aside.count.get()),
         _ => input.into_inner().into_bytes(),
@@ -391,6 +379,30 @@ fn ending_of(answer: Result<Answer, CliFault>) -> Result<Ending, CliFault> {
         Ok(Answer::Ended(ending) | Answer::Heard(ending, _)) => Ok(ending),
         Ok(Answer::Overheard(_, _) | Answer::Remarked(_)) => Ok(Ending::Done),
         Err(fault) => Err(fault),
+    }
+}
+
+/// Reports in one line on standard error why a job failed, or what else there is to say of its answer, and gives the exit
+/// status. A read that failed did so for the one reason, and a write for the other.
+fn tell_end(
+    rt: &(impl Eprint + AllocGlobal),
+    subject: Subject<'_>,
+    names: Names<'_>,
+    answer: Result<Answer, CliFault>,
+    read_error: Option<Error>,
+    write_error: Option<Error>,
+) -> u8
+    ensures { result ≡ job_status answer }
+{
+    match answer {
+        Ok(answer) => tell_answer(rt, subject, answer),
+        Err(CliFault::ReadFailed) => {
+            tell_failed(rt, CliFault::ReadFailed, names.input, read_error)
+        }
+        Err(CliFault::WriteFailed) => {
+            tell_failed(rt, CliFault::WriteFailed, names.output, write_error)
+        }
+        Err(fault) => tell(rt, fault),
     }
 }
 
