@@ -143,7 +143,18 @@ export const loadPrint1525 = (() => {
       return { code, fault, place, length, made: code === 4 ? null : kind.read(exports.memory.buffer, out, length) };
     }
 
-    return { attempt, size: () => exports.memory.buffer.byteLength };
+    // Calls an export that puts texts into two buffers with this room: the status, and both texts; null where a buffer is too small.
+    function attemptTwo(name, words, rooms) {
+      heap = makeHeap(exports);
+      const passed = words.map(it => (ArrayBuffer.isView(it) ? slice(it) : [it]));
+      const answer = heap.get(24), outs = rooms.map(room => heap.get(Math.max(room, 1)));
+      if ([...passed, answer, ...outs].some(it => !it)) return { status: 3, lengths: [0, 0], texts: [new Uint8Array(0), new Uint8Array(0)] };
+      exports[name](...passed.flat(), ...outs.flatMap((out, index) => [BigInt(out), BigInt(rooms[index])]), BigInt(answer));
+      const [status, ...lengths] = Array.from(new BigUint64Array(exports.memory.buffer, answer, 3), Number);
+      return { status, lengths, texts: status === 4 ? null : lengths.map((length, index) => TEXT.read(exports.memory.buffer, outs[index], length)) };
+    }
+
+    return { attempt, attemptTwo, size: () => exports.memory.buffer.byteLength };
   }
 
   // A text, and numbers of 64 bits, of which those above 2^53 are rounded.
@@ -301,10 +312,26 @@ export const loadPrint1525 = (() => {
 
     // Calls an export, and makes what its buffer has then; `room` is what the buffer has room for at first.
     function made(name, passed, kind, room) {
-      if (instance === null || instance.size() > KEPT) instance = makeInstance(compiled);
-      try {
+      return whole(() => {
         const told = instance.attempt(name, passed, room, kind);
         return told.code === 4 ? instance.attempt(name, passed, told.length, kind) : told;
+      });
+    }
+
+    // The status and the two texts of a call that gives them.
+    function said(name, passed, room) {
+      return whole(() => {
+        const told = instance.attemptTwo(name, passed, [room, 65536]);
+        const { status, texts: [output, messages] } = told.status === 4 ? instance.attemptTwo(name, passed, told.lengths) : told;
+        return { status, output, messages };
+      });
+    }
+
+    // Makes a call of the instance.
+    function whole(call) {
+      if (instance === null || instance.size() > KEPT) instance = makeInstance(compiled);
+      try {
+        return call();
       } catch (error) {
         // What a call that was cut off leaves is not used again.
         instance = null;
@@ -353,6 +380,19 @@ export const loadPrint1525 = (() => {
     return {
       words,
       faultName,
+      // What the program does with the words of a command line, with `input` in the place of the file that they name or of standard
+      // input, and `characters` in that of the file of characters: its exit status, what it writes, and its lines for people.
+      answer({ words, explained = false, input = new Uint8Array(0), characters = new Uint8Array(0) }) {
+        const bytes = bytesOf(input), room = Math.max(ROOM, Math.min(WIDER * bytes.byteLength, KEPT / 4));
+        return said('print1525_answer', [lineOf(words), explained ? 1 : 0, bytes, bytesOf(characters)], room);
+      },
+      // The names of the files that words name, or null: that which is read, that which is written and that of characters; and what is
+      // said where the input comes from a terminal. With another status than 0 words ask for no task, as `answer` says.
+      names({ words }) {
+        const { status, output, messages } = said('print1525_names', [lineOf(words)], ROOM);
+        const names = new TextDecoder().decode(output).split('\0').slice(0, 3).map(name => (name ? name.slice(1) : null));
+        return { status, names, messages };
+      },
       // Which printers are present: 0 none, 1 printer 4, 2 printer 5, 3 both; whether the status is kept from statement to
       // statement (1) or not (0); the numbers of the delays of the computer, of printer 4 and of printer 5.
       // `device` (4 or 5) and `sheet` (from 1) show a part of the pages, where the format can. `characters` is a file of the

@@ -156,6 +156,10 @@ export interface Print1525 {
   intervals(asked: Recording): Answer & { intervals: Interval[] };
   /** the least and the greatest delay of each kind, in microseconds */
   bounds(): Record<Delay, [number, number]>;
+  /** what the program does with the words of a command line, over memory */
+  answer(asked: { words: string[]; explained?: boolean; input?: Uint8Array; characters?: Uint8Array }): { status: 0 | 1 | 2 | 3; output: Uint8Array; messages: Uint8Array };
+  /** the files that words name: which is read, which is written, and that of characters; and what is said where the input is a terminal */
+  names(asked: { words: string[] }): { status: 0 | 2 | 3; names: (string | null)[]; messages: Uint8Array };
   /** the task that the words of a command line ask for (crates/pr_web/src/words.rt has its numbers); code 2 where they ask for none */
   task(asked: { words: string[] }): Answer & { numbers: BigUint64Array };
   /** what the program writes about such words, and its exit status */

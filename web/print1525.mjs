@@ -4,10 +4,8 @@
 //     node print1525.mjs pages hello.bas -o hello.pdf
 //     import { openPrint1525 } from './print1525.mjs';
 //
-// The texts come from the WebAssembly module of the proved crates, which reads the words too. It is beside this file, as
-// print1525.wasm or in print1525.html. What is done here is not proved: files are opened and written, the module's calls
-// are chosen by the job that the words ask for, and hints are given. README.md says what the program does that this one
-// does not.
+// The WebAssembly module of the proved crates, beside this file as print1525.wasm or in print1525.html, does what the program
+// does, over memory. What is done here is not proved: files are opened, read and written.
 
 import { loadPrint1525 } from './module.mjs';
 
@@ -35,21 +33,8 @@ class NoJob extends Error {
 /** A text with its control characters escaped, as the program shows a name. */
 const shown = text => text.replace(/[\0-\x1f\x7f-\x9f]/g, sign => ({ '\t': '\\t', '\n': '\\n', '\r': '\\r' }[sign] || `\\u{${sign.charCodeAt(0).toString(16)}}`));
 
-// what the program says beside the module's texts
-
-const SAVED_PROGRAM = 'this looks like a saved program: --from prg reads one';
-const TYPED_STRINGS = 'strings are sent as they are: small letters print graphics, or capitals after OPEN file,device,7, and {name} prints its ' +
-  'letters; --from petcat reads both as typed';
-const PETCAT_TEXT = 'this may be petcat\'s text: --from petcat reads it';
-const PROGRAM_FORM = 'a saved program is a load address of two bytes, then lines: a link and a number of two bytes each, the line\'s bytes and 0; ' +
-  'a link of 0 ends it';
-const PLAIN_TEXT = 'this looks like text: --from text or petcat reads one';
-const PETCAT_NAMES = 'in a string { begins a name of petcat\'s and } ends it, as {down}, {3 down} or {$8e}';
-const PETCAT_BYTES = 'a string of petcat\'s text has the bytes 32 to 126';
-const SAVED_BYTES = 'this looks like a saved program, and not like a printer\'s bytes: pages --from prg runs one';
-const DISK_BYTES = 'this looks like an image of a disk, and not like a printer\'s bytes';
 const STANDARD_OUTPUT = ['/dev/stdout', '/dev/fd/1', '/proc/self/fd/1'];      // it is written on, and not replaced
-const WAITS_FOR = { pages: 'a script', bus: 'a script', check: 'a trace', decode: 'a recording', raw: 'a printer\'s bytes' };
+const CHARACTERS_LIMIT = 65536;                                               // bytes of a file of characters
 
 /** What the system says of an error, in the words of Linux, which the program has too. */
 const REASONS = {
@@ -63,149 +48,6 @@ const REASONS = {
 /** A failed read or write: its line on standard error, and exit status 3. */
 const failed = words => new NoJob(3, `print1525: ${words}\n`);
 const failedFile = (name, error) => failed(`${shown(name)}: ${REASONS[error.code] || error.message} (os error ${-error.errno})`);
-
-const isSaved = bytes => bytes.length >= 2 && bytes[0] === 1 && bytes[1] === 8;
-const isDisk = bytes => [174848, 175531, 196608, 197376].includes(bytes.length);
-
-/** Whether a string of a script, before a line's remark, has a small letter or a brace. */
-function hasTypedStrings(bytes) {
-  return Buffer.from(bytes).toString('latin1').split('\n').some(line => {
-    let isQuoted = false;
-    for (let at = 0; at < line.length; at++) {
-      if (!isQuoted && /^rem/i.test(line.slice(at, at + 3))) return false;
-      if (line[at] === '"') isQuoted = !isQuoted;
-      else if (isQuoted && /[a-z{]/.test(line[at])) return true;
-    }
-    return false;
-  });
-}
-
-/** Whether a refused script may be petcat's text. */
-const mayBePetcat = bytes => hasTypedStrings(bytes) || bytes.find(byte => ![32, 13, 10].includes(byte)) === 59;
-
-const isText = bytes => bytes.length > 0 && bytes.every(byte => byte >= 32 || byte === 9 || byte === 10 || byte === 13);
-
-/** The hints on a listing that has no text, by the number of its fault. */
-function hintsOnListing({ fault, column }, bytes) {
-  if (fault === 61 || fault === 62) return [PROGRAM_FORM, ...(isText(bytes) ? [PLAIN_TEXT] : [])];
-  return fault === 63 ? [PETCAT_NAMES] : fault === 64 && column ? [PETCAT_BYTES] : [];
-}
-
-/** The hints on a script that is run as its text is. */
-function hintsOnScript({ code, line }, bytes) {
-  if (code === 2 && line && isSaved(bytes)) return [SAVED_PROGRAM];
-  if (code === 2 && line && mayBePetcat(bytes)) return [PETCAT_TEXT];
-  return code < 2 && hasTypedStrings(bytes) ? [TYPED_STRINGS] : [];
-}
-
-const INPUTS = ['text', 'vcd', 'csv'], FORMATS = ['list', 'text', 'svg', 'png', 'pdf'], FORMS = ['text', 'prg', 'petcat'];
-
-const REPORTS = ['frames', 'story', 'json'];
-
-/** The job of a task's numbers, as the module gives them: crates/pr_web/src/words.rt says in which order. */
-function jobOf(numbers) {
-  let at = 0;
-  const exactly = () => numbers[at++], next = () => Number(exactly()), flag = () => next() === 1;
-  const text = () => { const length = next(); return Uint8Array.from(numbers.subarray(at, at += length), Number); };
-  const name = () => (flag() ? Buffer.from(text()).toString() : null);
-  const format = () => ({ format: FORMATS[next()], device: next(), sheet: exactly() });
-  const output = () => {
-    const [kind, wording, device, sheet] = [next(), next(), next(), exactly()];
-    if (kind === 0) return { format: FORMATS[wording], device, sheet };
-    return kind === 1 ? { format: 'bytes', device } : { format: wording === 4 ? 'json' : 'readings', intervals: wording % 2 === 1, bounds: wording > 1 ? 'guide' : 'profile' };
-  };
-  const recording = () => ({ input: INPUTS[next()], inverted: flag(), start: exactly(), rate: exactly(), names: [text(), text(), text()] });
-  const before = () => [flag(), exactly()][0];
-  const run = () => ({ form: FORMS[next()], printers: next() + 2 * next(), status: next() });
-  const jobs = {
-    pages: () => ({ ...run(), ...output() }),
-    bus: () => ({ ...run(), format: ['text', 'vcd'][next()] }),
-    check: () => ({ format: REPORTS[next()], ...recording() }),
-    decode: () => ({ isFound: flag(), ...output(), ...recording() }),
-    raw: () => ({ set: next(), ...format() }),
-  };
-  const [command, job] = Object.entries(jobs)[next()];
-  return { command, ...job(), isBefore: before(), file: name(), output: name(), characters: name() };
-}
-
-/** The job that words ask for, or throws what the program writes about them where they ask for none. `help COMMAND` is `COMMAND --help`. */
-function readJob(module, given) {
-  const words = given[0] === 'help' && given.length < 3 ? [...given.slice(1), '--help'] : given;
-  const isExplained = words.includes('--explain') || process.env.PRINT1525_EXPLAIN === '1', { code, numbers } = module.task({ words });
-  const job = code === 0 ? { ...jobOf(numbers), words, isExplained } : null;
-  if (job && job.isBefore) throw new NoJob(2, 'print1525: here --from-time is not below 0\n');
-  if (job) return job;
-  if (code === 3) throw new NoJob(3, 'print1525: out of memory\n');
-  const { status, text } = module.refusal({ words, explained: isExplained });
-  throw new NoJob(status, Buffer.from(text).toString());
-}
-
-const CHARACTERS_LIMIT = 65536;      // bytes of a file of characters
-
-/** What a printer's bytes do not say, and what to do about it. */
-function heardTold({ lower, reselected }) {
-  if (!reselected) return lower ? 'the bytes are for the lower case set: raw --set lower prints them' : '';
-  return `the character set changes after the first byte: raw prints all bytes in one set${lower ? ', with --set lower in that of the first byte' : ''}`;
-}
-
-/** What --explain says of a sheet that there is not, and else what a call of the module explains. */
-function explained(answer, call) {
-  if (!answer.code) return '';
-  if (answer.fault === 50) return `  the paper has ${answer.sheets === 1 ? 'one sheet' : `${answer.sheets} sheets`}\n`;
-  return answer.fault === 51 ? '' : Buffer.from(call().text).toString('latin1');
-}
-
-/** What is odd about a recording, each line after two blanks, and how many microseconds later than asked for its trace begins. */
-function oddOf(module, asked) {
-  const { later, text } = module.remarks(asked), lines = Buffer.from(text).toString('latin1').split('\n').slice(0, -1);
-  return { later, odd: lines.map(line => `  ${line}\n`).join('') };
-}
-
-/** What --explain says of a trace: why it is refused, and of a recording where its trace begins, if later than asked for, and what is odd about it. */
-function traceTold(module, asked, answer) {
-  if (answer.fault === 9) return '';
-  const why = explained(answer, () => module.explainTrace(asked));
-  const { later, odd } = oddOf(module, asked);
-  const begins = `  the trace begins at microsecond ${BigInt(asked.start) + BigInt(later)} of the recording, where the levels of all three lines are first known\n`;
-  return (later && asked.input !== 'text' ? begins : '') + why + odd;
-}
-
-/** The file of characters that a job names, or throws the line that says why it has none. No other file is opened before. */
-function charactersOf(module, { characters: name }, files) {
-  if (name === null) return undefined;
-  const bytes = trying(() => files.readAll(files.open(name), CHARACTERS_LIMIT), error => failedFile(name, error));
-  if (bytes.length > CHARACTERS_LIMIT) throw new NoJob(2, `print1525: ${shown(name)}: too large for a file of characters\n`);
-  const answer = bytes.length ? module.print({ inputs: [], characters: bytes }) : { code: 2, fault: 52, line: 1 };
-  if (answer.code) throw new NoJob(answer.code, `print1525: ${shown(name)}: ${module.words(answer)}\n`);
-  return bytes;
-}
-
-/** Calls the module for a job over an input: the answer, and what --explain says of it. */
-function answerOf(module, job, bytes, characters) {
-  if (job.command === 'raw') {
-    const answer = module.raw({ ...job, bytes, characters });
-    const hints = answer.code ? [] : isSaved(bytes) ? [SAVED_BYTES] : isDisk(bytes) ? [DISK_BYTES] : [];
-    return { answer, explain: () => explained(answer, () => ({ text: '' })), hints };
-  }
-  if (job.command === 'check') {
-    const asked = { ...job, bytes, story: job.format === 'story' }, isPlain = job.input === 'text' && job.format === 'frames';
-    const answer = isPlain ? module.check({ text: bytes }) : job.format === 'json' ? module.checkJson(asked) : module.report(asked);
-    return { answer, explain: () => traceTold(module, asked, answer), hints: [] };
-  }
-  if (job.command === 'decode') {
-    const asked = { ...job, bytes, characters, input: job.isFound ? (job.input === 'csv' ? 'found csv' : 'found') : job.input };
-    const answer = module.decode({ ...asked, output: job.format });
-    // a list says itself what is odd; pages and bytes cannot
-    const odd = answer.code || job.format === 'readings' || job.format === 'json' ? '' : oddOf(module, asked).odd;
-    return { answer, odd, explain: () => explained(answer, () => module.explainReading(asked)), hints: [] };
-  }
-  const listing = job.form === 'text' ? { code: 0, text: bytes } : module.listing({ bytes, form: job.form });
-  if (listing.code) return { answer: listing, explain: () => '', hints: hintsOnListing(listing, bytes) };
-  const asked = { ...job, script: listing.text, characters };
-  const answer = job.command === 'bus' ? module.busAsked(asked) : job.format === 'bytes' ? module.runBytes(asked) : module.pages(asked);
-  const why = () => answer.code === 1 ? module.explainStop({ ...asked, stop: answer.fault, statement: answer.statement }) : module.explainScript(asked);
-  return { answer, explain: () => explained(answer, why), hints: job.form === 'text' ? hintsOnScript(answer, bytes) : [] };
-}
 
 /** The files of a job, read and written with Node. */
 async function makeFiles() {
@@ -280,27 +122,30 @@ function trying(call, tellOf) {
   try { return call(); } catch (error) { throw error.errno === undefined ? error : tellOf(error); }
 }
 
-/** Does the job that words ask for, and gives the exit status. */
+/** Does what words ask for, and gives the exit status: the module answers, and here files are read and written. */
 async function run(words, files) {
-  const tell = text => { try { files.writeAll(2, Buffer.from(text)); } catch { /* there is nowhere to report it */ } };
+  const tell = text => { try { files.writeAll(2, text); } catch { /* there is nowhere to report it */ } };
   const module = await openPrint1525().catch(error => { throw failed(error.message); });
-  const job = readJob(module, words), characters = charactersOf(module, job, files);
-  const inputFailed = error => (job.file === null ? failed('read failed') : failedFile(job.file, error));
-  const outputFailed = error => (job.output === null || STANDARD_OUTPUT.includes(job.output) ? failed('write failed') : failedFile(job.output, error));
-  if (job.file === null && process.stdin.isTTY) tell(`print1525: reading ${WAITS_FOR[job.command]} from the terminal; Ctrl-D on a new line ends it\n`);
-  const input = job.file === null ? 0 : trying(() => files.open(job.file), inputFailed);
+  const { status: isRefused, names: [file, name, characters], messages: waits } = module.names({ words });
+  const explained = process.env.PRINT1525_EXPLAIN === '1';
+  const isFile = name !== null && !STANDARD_OUTPUT.includes(name);
+  const inputFailed = error => (file === null ? failed('read failed') : failedFile(file, error));
+  const outputFailed = error => (isFile ? failedFile(name, error) : failed('write failed'));
   const standard = { write: bytes => files.writeAll(1, bytes), keep() {}, discard() {} };
-  const output = job.output === null || STANDARD_OUTPUT.includes(job.output) ? standard : trying(() => files.save(job.output), outputFailed);
+  const asked = { words, explained };
+  if (!isRefused) {
+    if (characters !== null) asked.characters = trying(() => files.readAll(files.open(characters), CHARACTERS_LIMIT), error => failedFile(characters, error));
+    if (file === null && process.stdin.isTTY) tell(waits);
+  }
+  const input = isRefused || file === null ? 0 : trying(() => files.open(file), inputFailed);
+  const output = isFile && !isRefused ? trying(() => files.save(name), outputFailed) : standard;
   try {
-    const bytes = trying(() => files.readAll(input), inputFailed);
-    const { answer, explain, hints, odd = '' } = answerOf(module, job, bytes, characters);
-    trying(() => output.write(answer.text), outputFailed);
-    if (answer.code > 1) tell(`print1525: ${module.words(answer)}\n`);
-    else if (answer.heard && heardTold(answer.heard)) tell(`print1525: ${heardTold(answer.heard)}\n`);
-    if (odd) tell(odd);
-    if (job.isExplained) tell((answer.code < 3 ? explain() : '') + hints.map(hint => `  ${hint}\n`).join(''));
-    if (answer.code > 1) output.discard(); else trying(() => output.keep(), outputFailed);
-    return answer.code;
+    if (!isRefused) asked.input = trying(() => files.readAll(input), inputFailed);
+    const { status, output: text, messages } = module.answer(asked);
+    trying(() => output.write(text), outputFailed);
+    tell(messages);
+    if (status > 1) output.discard(); else trying(() => output.keep(), outputFailed);
+    return status;
   } catch (error) {
     output.discard();
     throw error;

@@ -9,7 +9,7 @@ use Rattle.pr_page.specs.Page.{IsPage}
 use Rattle.pr_page.specs.declared.input.Input.TheVariants.{Byte, Select}
 use Rattle.pr_dots.specs.declared.character_sets.Shapes.{Shapes}
 use Rattle.pr_render.specs.declared.format.Format.{Format}
-use Rattle.pr_cli.specs.Raw.{raw_inputs}
+use Rattle.pr_jobs.specs.Raw.{raw_inputs}
 use Rattle.pr_c.specs.Answers.{IsPaperText, Stopping}
 use Rattle.pr_c.specs.Laws.{selection_of}
 use Rattle.pr_c.specs.Printing.{IsPrintedText, input_of, is_no_input}

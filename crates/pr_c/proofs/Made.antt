@@ -4,14 +4,14 @@ use Rattle.pr_dots.specs.declared.character_sets.Shapes.{Shapes}
 use Rattle.pr_render.specs.declared.format.Format.{Format}
 use Rattle.pr_capture.specs.declared.format.TraceFormat.{TraceFormat}
 use Rattle.pr_basic.specs.Runs.{run_of}
-use Rattle.pr_cli.specs.Bus.{AnswersBus}
-use Rattle.pr_cli.specs.Check.{AnswersCheck}
-use Rattle.pr_cli.specs.Pages.{AnswersPages, IsTextOf, Start, ending_of}
-use Rattle.pr_cli.specs.Raw.{AnswersRaw, IsRawText}
-use Rattle.pr_cli.specs.declared.pages.Ending.{Ending}
-use Rattle.pr_cli.specs.declared.pages.Ending.TheVariants.{Done, Stopped}
-use Rattle.pr_cli.specs.declared.fault.CliFault.{CliFault}
-use Rattle.pr_cli.specs.declared.fault.CliFault.TheVariants.{Script, Trace, Wave, Capture, Picture, TooLarge, NoMemory, ReadFailed, WriteFailed}
+use Rattle.pr_jobs.specs.Bus.{AnswersBus}
+use Rattle.pr_jobs.specs.Check.{AnswersCheck}
+use Rattle.pr_jobs.specs.Pages.{AnswersPages, IsTextOf, Start, ending_of}
+use Rattle.pr_jobs.specs.Raw.{AnswersRaw, IsRawText}
+use Rattle.pr_jobs.specs.declared.pages.Ending.{Ending}
+use Rattle.pr_jobs.specs.declared.pages.Ending.TheVariants.{Done, Stopped}
+use Rattle.pr_jobs.specs.declared.fault.CliFault.{CliFault}
+use Rattle.pr_jobs.specs.declared.fault.CliFault.TheVariants.{Script, Trace, Wave, Capture, Picture, TooLarge, NoMemory, ReadFailed, WriteFailed}
 use Rattle.pr_c.specs.Answers.{IsBusText, IsFramesText, IsPagesRefusal, IsPagesText, IsPaperRefusal, IsPaperText, IsScriptRefusal, IsTraceRefusal, Stopping, Tells}
 use Rattle.pr_c.specs.Giving.{Gives, GivesStop, IsFound, in_memory, without_run}
 use Rattle.pr_c.specs.declared.told.Told.{Told}

@@ -17,15 +17,15 @@ use Rattle.pr_system.specs.declared.outcome.Outcome.{Outcome}
 use Rattle.pr_dots.specs.declared.character_sets.Shapes.{Shapes}
 use Rattle.pr_render.specs.declared.format.Format.{Format}
 use Rattle.pr_capture.specs.declared.format.TraceFormat.{TraceFormat}
-use Rattle.pr_cli.specs.Bus.{bus_text}
-use Rattle.pr_cli.specs.Check.{IsBadText, IsFaultyText, IsLawfulText, trace_limit}
-use Rattle.pr_cli.specs.FrameText.{frame_lines}
-use Rattle.pr_cli.specs.Pages.{Start, IsTextOf, IsUnshown, script_limit}
-use Rattle.pr_cli.specs.Raw.{IsRawText, IsRawUnshown, raw_limit}
-use Rattle.pr_cli.specs.declared.fault.CliFault.{CliFault}
-use Rattle.pr_cli.specs.declared.fault.CliFault.TheVariants.{Script, Trace, Wave, Capture, Picture, TooLarge, NoMemory, ReadFailed, WriteFailed}
-use Rattle.pr_cli.specs.declared.fault.PictureFault.{PictureFault}
-use Rattle.pr_cli.specs.declared.fault.PictureFault.TheVariants as picture
+use Rattle.pr_jobs.specs.Bus.{bus_text}
+use Rattle.pr_jobs.specs.Check.{IsBadText, IsFaultyText, IsLawfulText, trace_limit}
+use Rattle.pr_jobs.specs.FrameText.{frame_lines}
+use Rattle.pr_jobs.specs.Pages.{Start, IsTextOf, IsUnshown, script_limit}
+use Rattle.pr_jobs.specs.Raw.{IsRawText, IsRawUnshown, raw_limit}
+use Rattle.pr_jobs.specs.declared.fault.CliFault.{CliFault}
+use Rattle.pr_jobs.specs.declared.fault.CliFault.TheVariants.{Script, Trace, Wave, Capture, Picture, TooLarge, NoMemory, ReadFailed, WriteFailed}
+use Rattle.pr_jobs.specs.declared.fault.PictureFault.{PictureFault}
+use Rattle.pr_jobs.specs.declared.fault.PictureFault.TheVariants as picture
 use Rattle.pr_c.specs.declared.told.Answer.{Answer}
 use Rattle.pr_c.specs.declared.told.Told.{Told}
 use Rattle.pr_c.specs.declared.told.Told.TheVariants.{Written, TooSmall, Refused, NoInput}

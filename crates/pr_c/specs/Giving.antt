@@ -5,10 +5,10 @@ use Rattle.pr_basic.specs.declared.session.StatusMode.{StatusMode}
 use Rattle.pr_basic.specs.declared.statement.Statement.{Statement}
 use Rattle.pr_basic.specs.Grammar.{IsScript}
 use Rattle.pr_basic.specs.Runs.{run_of}
-use Rattle.pr_cli.specs.declared.pages.Ending.{Ending}
-use Rattle.pr_cli.specs.declared.pages.Ending.TheVariants.{Done, Stopped}
-use Rattle.pr_cli.specs.declared.fault.CliFault.{CliFault}
-use Rattle.pr_cli.specs.declared.fault.CliFault.TheVariants.{Script, Trace, Wave, Capture, Picture, TooLarge, NoMemory}
+use Rattle.pr_jobs.specs.declared.pages.Ending.{Ending}
+use Rattle.pr_jobs.specs.declared.pages.Ending.TheVariants.{Done, Stopped}
+use Rattle.pr_jobs.specs.declared.fault.CliFault.{CliFault}
+use Rattle.pr_jobs.specs.declared.fault.CliFault.TheVariants.{Script, Trace, Wave, Capture, Picture, TooLarge, NoMemory}
 use Rattle.pr_c.specs.Answers.{Stopping}
 use Rattle.pr_c.specs.declared.told.Told.{Told}
 use Rattle.pr_c.specs.declared.told.Told.TheVariants.{Written, TooSmall, Refused, NoInput}

@@ -4,8 +4,8 @@ use Rattle.std.specs.Global.{Global}
 use Rattle.pr_page.specs.declared.input.Input.{Input}
 use Rattle.pr_dots.specs.declared.character_sets.Shapes.{Shapes}
 use Rattle.pr_render.specs.declared.format.Format.{Format}
-use Rattle.pr_cli.specs.declared.fault.CliFault.{CliFault}
-use Rattle.pr_cli.specs.declared.fault.CliFault.TheVariants.{Picture, NoMemory}
+use Rattle.pr_jobs.specs.declared.fault.CliFault.{CliFault}
+use Rattle.pr_jobs.specs.declared.fault.CliFault.TheVariants.{Picture, NoMemory}
 use Rattle.pr_c.specs.Printing.{IsInputsText, IsInputsUnshown}
 
 -- the text of the page, or why it is not shown, unless memory was refused

@@ -7,11 +7,11 @@ use Rattle.pr_page.specs.declared.input.Input.TheVariants.{Byte, Select}
 use Rattle.pr_page.specs.declared.paper.Paper.{Paper}
 use Rattle.pr_dots.specs.declared.character_sets.Shapes.{Shapes}
 use Rattle.pr_render.specs.declared.format.Format.{Format}
-use Rattle.pr_cli.specs.Formats.{text_in}
-use Rattle.pr_cli.specs.Raw.{four_alone, printed_on}
-use Rattle.pr_cli.specs.declared.fault.CliFault.{CliFault}
-use Rattle.pr_cli.specs.declared.fault.CliFault.TheVariants.{Picture, TooLarge, NoMemory}
-use Rattle.pr_cli.specs.declared.fault.PictureFault.{PictureFault}
+use Rattle.pr_jobs.specs.Formats.{text_in}
+use Rattle.pr_jobs.specs.Raw.{four_alone, printed_on}
+use Rattle.pr_jobs.specs.declared.fault.CliFault.{CliFault}
+use Rattle.pr_jobs.specs.declared.fault.CliFault.TheVariants.{Picture, TooLarge, NoMemory}
+use Rattle.pr_jobs.specs.declared.fault.PictureFault.{PictureFault}
 use Rattle.pr_c.specs.Answers.{Stopping, Tells}
 use Rattle.pr_c.specs.declared.told.Told.{Told}
 use Rattle.pr_c.specs.declared.told.Told.TheVariants.{NoInput}

@@ -4,7 +4,7 @@
 ghost use Rattle.std.specs.Prelude.{◌≡◌, length};
 ghost use Rattle.pr_c.specs.Answers.{IsBusText, IsFramesText, IsPagesRefusal, IsPagesText, IsPaperRefusal, IsPaperText, IsScriptRefusal, IsTraceRefusal, Tells};
 ghost use Rattle.pr_c.specs.Giving.{without_run};
-ghost use Rattle.pr_cli.specs.Pages.{start_of};
+ghost use Rattle.pr_jobs.specs.Pages.{start_of};
 
 use crate::stops::with_stop;
 use crate::told::{Told, give};
@@ -12,18 +12,18 @@ use pr_basic::StatusMode;
 use pr_bus::Delays;
 use pr_capture::TraceFormat;
 use pr_channels::Stop;
-use pr_cli::{CliFault, Watched, bus_as_over, check_over, pages_as_over, raw_over};
+use pr_jobs::{CliFault, Watched, bus_as_over, check_over, pages_as_over, raw_over};
 use pr_dots::Shapes;
 use pr_render::Format;
 use pr_serial::Present;
 use std::alloc::Global;
 
 /// Runs a script over wires, and puts the text of its pages in a format at the front of a buffer:
-/// the text that [`pr_cli::pages_as_over`] writes, with characters of these shapes. The rest of the
+/// the text that [`pr_jobs::pages_as_over`] writes, with characters of these shapes. The rest of the
 /// buffer stays as it was. The BASIC error that stopped the run is there exactly if one did, with its
 /// statement.
 ///
-/// It is refused with the faults of [`pr_cli::pages_as_over`] but for reads and writes, and where
+/// It is refused with the faults of [`pr_jobs::pages_as_over`] but for reads and writes, and where
 /// the text has more bytes than the buffer has room for, with their number. The buffer is then as
 /// it was.
 pub fn pages(
@@ -57,7 +57,7 @@ pub fn pages(
 }
 
 /// Runs a script over wires, and puts the trace of its run in a format at the front of a buffer:
-/// the text that [`pr_cli::bus_as_over`] writes, with its faults. The rest is as with [`pages`].
+/// the text that [`pr_jobs::bus_as_over`] writes, with its faults. The rest is as with [`pages`].
 pub fn bus(
     alloc: Global,
     script: &[u8],
@@ -86,7 +86,7 @@ pub fn bus(
 }
 
 /// Puts the text of the page that a printer prints of some bytes at the front of a buffer: the text
-/// that [`pr_cli::raw_over`] writes, with its faults. The rest is as with [`pages`], but nothing
+/// that [`pr_jobs::raw_over`] writes, with its faults. The rest is as with [`pages`], but nothing
 /// can stop.
 pub fn raw(
     alloc: Global,
@@ -107,7 +107,7 @@ pub fn raw(
 }
 
 /// Puts the frames that a trace text spells at the front of a buffer, a line for each, and then
-/// `lawful`: the text that [`pr_cli::check_over`] writes, with its faults. The rest is as with
+/// `lawful`: the text that [`pr_jobs::check_over`] writes, with its faults. The rest is as with
 /// [`pages`], but nothing can stop.
 pub fn check(alloc: Global, text: &[u8], out: &mut [u8]) -> Told
     ensures tells { Tells (IsFramesText text.now) (IsTraceRefusal text.now) out.old out.new result }

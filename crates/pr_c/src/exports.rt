@@ -16,7 +16,7 @@ use crate::settings::{
 use crate::told::{Answer, Told, numbered, refused};
 use pr_bus::Delays;
 use pr_characters::{CharactersFault, read_shapes};
-use pr_cli::CliFault;
+use pr_jobs::CliFault;
 use pr_dots::Shapes;
 use pr_render::Format;
 use pr_wire::Choices;

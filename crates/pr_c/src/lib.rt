@@ -6,7 +6,7 @@
 //!
 //! - `exports` has the calls of the header, in plain numbers: no enum, bool or returned pointer crosses.
 //!   `settings` gives the numbers their meaning.
-//! - `calls` calls pr_cli with a slice as the reader and a `Vec` as the writer, and copies the text out.
+//! - `calls` calls pr_jobs with a slice as the reader and a `Vec` as the writer, and copies the text out.
 //!   `told` has what a call found, as values and as the numbers of the header.
 //! - `listings` gives a listing's text of a script, with an enum and numbers of its own.
 //! - `printing` gives a printer its inputs and takes the text of its page. `stops` runs a script that

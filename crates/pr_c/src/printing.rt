@@ -2,14 +2,14 @@
 
 ghost use Rattle.std.specs.Prelude.{◌≡◌, ◌≤◌, length, map, IfOk};
 ghost use Rattle.std.specs.List.{position};
-ghost use Rattle.pr_cli.specs.Raw.{printed_on};
+ghost use Rattle.pr_jobs.specs.Raw.{printed_on};
 ghost use Rattle.pr_page.specs.Page.{IsPage};
 ghost use Rattle.pr_c.specs.Laws.{BytesAreInputs};
 ghost use Rattle.pr_c.specs.Printed.{GivesInputsText};
 ghost use Rattle.pr_c.specs.Printing.{TellsInputs, input_of, is_no_input, inputs_limit};
 
 use crate::told::{Told, give};
-use pr_cli::{CliFault, text_in_format};
+use pr_jobs::{CliFault, text_in_format};
 use pr_dots::Shapes;
 use pr_page::{Input, NoMemory, Paper, Printer, Sequence};
 use pr_render::Format;

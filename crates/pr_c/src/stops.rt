@@ -8,7 +8,7 @@ ghost use Rattle.pr_system.specs.StepByStep.{stepped_through};
 use pr_basic::{Statement, StatusMode, read_script};
 use pr_bus::Delays;
 use pr_channels::Stop;
-use pr_cli::{CliFault, Ending};
+use pr_jobs::{CliFault, Ending};
 use pr_serial::Present;
 use pr_system::laws::steps_make_the_run;
 use pr_system::{NoMemory, Running};

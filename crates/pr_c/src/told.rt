@@ -6,7 +6,7 @@ ghost use Rattle.pr_c.specs.Giving.{Gives, in_memory};
 
 use pr_basic::ScriptFault;
 use pr_channels::Stop;
-use pr_cli::{CliFault, PictureFault};
+use pr_jobs::{CliFault, PictureFault};
 use pr_wire::{TraceFault, WaveFault};
 
 /// What came of a call.

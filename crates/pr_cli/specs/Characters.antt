@@ -1,18 +1,19 @@
--- Trusted: the shapes that a file of characters has, or why it has none.
-use Rattle.std.specs.Prelude.{ℕ, ◌<◌, ◌≤◌, List, length, Result, Ok, Err}
+-- Trusted: the shapes that the program draws characters in, where words name a file of them.
+use Rattle.std.specs.Prelude.{◌≡◌, ℕ, List, Option, Some, None, Result, Ok, Err}
+use Rattle.clap.specs.Words.{Text}
+use Rattle.pr_dots.specs.Shapes.{own_shapes}
 use Rattle.pr_dots.specs.declared.character_sets.Shapes.{Shapes}
-use Rattle.pr_characters.specs.File.{AnswersFile}
-use Rattle.pr_cli.specs.declared.characters.ShapesFault.{ShapesFault}
-use Rattle.pr_cli.specs.declared.characters.ShapesFault.TheVariants.{Characters, TooLarge, ReadFailed, NoMemory}
+use Rattle.pr_jobs.specs.Characters.{AnswersCharacters}
+use Rattle.pr_jobs.specs.declared.characters.ShapesFault.{ShapesFault}
+use Rattle.pr_cli.specs.Statuses.{characters_status}
 
--- the most bytes of a file of characters
-abbrev pub characters_limit : ℕ
-characters_limit = 65536
+-- the file's shapes, or the exit status of its fault
+abbrev pub GivesShapes : List ℕ → Result Shapes ℕ → Type 0
+GivesShapes text (Ok shapes) = AnswersCharacters text (Ok shapes)
+GivesShapes text (Err status) =
+    (fault : ShapesFault) × AnswersCharacters text (Err fault) × (status ≡ characters_status fault)
 
--- the answer for a file's bytes; memory can be refused and a read can fail at any time
-abbrev pub AnswersCharacters : List ℕ → Result Shapes ShapesFault → Type 0
-AnswersCharacters text (Ok shapes) = (length text ≤ characters_limit) × AnswersFile text (Ok shapes)
-AnswersCharacters text (Err (Characters fault)) = (length text ≤ characters_limit) × AnswersFile text (Err fault)
-AnswersCharacters text (Err TooLarge) = characters_limit < length text
-AnswersCharacters text (Err ReadFailed) = Unit {0}
-AnswersCharacters text (Err NoMemory) = Unit {0}
+-- the same of the file that words name, or else this project's own shapes
+abbrev pub GivenShapes : (name : Option Text) → (file : List ℕ) → Result Shapes ℕ → Type 0
+GivenShapes None file result = result ≡ Ok own_shapes
+GivenShapes (Some name) file result = GivesShapes file result

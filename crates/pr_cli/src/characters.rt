@@ -1,68 +1,87 @@
-//! A file of the shapes of characters, from a reader.
+//! The shapes in which a task draws characters.
 
-ghost use Rattle.std.specs.Prelude.{◌≡◌, ◌↔◌, false, true, IfOk, IfSome, IsErrOf};
-ghost use Rattle.std.specs.Io.KnownBytes.{IsAtEnd};
-ghost use Rattle.pr_cli.specs.Characters.{AnswersCharacters};
-ghost use Rattle.pr_input.specs.Watched.{has_failed, wrapped};
+ghost use Rattle.std.specs.Prelude.{◌≡◌, None, Ok, IfSome, option_map};
+ghost use Rattle.pr_dots.specs.Shapes.{own_shapes};
+ghost use Rattle.pr_cli.specs.Characters.{GivenShapes, GivesShapes};
+ghost use Rattle.pr_cli.specs.Statuses.{characters_status};
 
-use pr_characters::{CharactersFault, read_shapes};
+use crate::answers::tell_file;
+use crate::outside::Outside;
+use crate::shown::Shown;
+use crate::statuses::characters_status;
+use pr_jobs::{ShapesFault, Watched, read_characters};
 use pr_dots::Shapes;
-use pr_input::{ReadFault, Watched, read_whole};
-use std::alloc::Global;
-use std::io::Read;
-use thiserror::Error;
+use pr_files::Noting;
+use std::fs::{File, Files};
+use std::io::{Error, Read};
 
-/// The longest file of characters, in bytes (profile). A file with all its lines has 14,976.
-pub const CHARACTERS_LIMIT: usize = 65_536;
-
-/// Why the shapes of characters cannot be had from a reader.
-#[derive(Clone, Copy, Debug, PartialEq, Eq, Error)]
-pub enum ShapesFault {
-    /// The file has a bad line, or one too few.
-    #[error(transparent)]
-    Characters(CharactersFault),
-    /// The file has more bytes than [`CHARACTERS_LIMIT`].
-    #[error("too large for a file of characters")]
-    TooLarge,
-    /// A read failed.
-    #[error("read failed")]
-    ReadFailed,
-    /// Memory was refused.
-    #[error("out of memory")]
-    NoMemory,
+/// Returns the shapes of the file of this name, or this project's own where there is none. A file without shapes is
+/// reported in one line on standard error; the answer is then the exit status.
+pub fn shapes_for(
+    rt: &(impl Files + Eprint + AllocGlobal),
+    name: Option<&str>,
+) -> Result<Shapes, u8>
+    ensures own { name.entry ≡ None → result ≡ Ok own_shapes }
+{
+    let Some(name) = name else {
+        return Ok(Shapes::own());
+    };
+    match File::open(rt, name) {
+        Ok(file) => shapes_from(rt, file, name),
+        Err(error) => Err(tell_file(rt, name, &error)),
+    }
 }
 
-/// Reads a file of the shapes of characters, as [`read_shapes`] takes it, and gives the shapes. The reader has then been read
-/// to its end.
-///
-/// # Errors
-///
-/// - [`ShapesFault::Characters`]: the file has no shapes, with its first bad line.
-/// - [`ShapesFault::TooLarge`]: only if the reader had more than [`CHARACTERS_LIMIT`] bytes left.
-/// - [`ShapesFault::ReadFailed`] exactly if a read failed.
-/// - [`ShapesFault::NoMemory`]: memory was refused.
-///
-/// After an error some of the bytes may have been taken from the reader.
-pub fn read_characters<R: Read>(
-    alloc: Global,
-    input: &mut Watched<R>,
-) -> Result<Shapes, ShapesFault>
-    // the caller's part
-    requires fresh { has_failed input.old ≡ false }
-    // what it gives
-    ensures shapes { IfSome (R.remaining (wrapped input.old)) (λ text. AnswersCharacters text result) }
-    ensures at_end { IfOk result (λ _. IsAtEnd (R.remaining (wrapped input.new))) }
-    // when it refuses, and what that leaves
-    ensures failed { IsErrOf result ShapesFault.ReadFailed ↔ (has_failed input.new ≡ true) }
+/// Returns the shapes that a file in memory has, where a task names one, or this project's own.
+pub fn shapes_given(
+    rt: &(impl Outside + Eprint + AllocGlobal),
+    name: Option<&str>,
+    file: &[u8],
+) -> Result<Shapes, u8>
+    ensures { GivenShapes (option_map (λ name. name.now) name.entry) file.now result }
 {
-    let text = match read_whole(alloc, input, CHARACTERS_LIMIT) {
-        Ok(text) => text,
-        Err(ReadFault::TooLarge) => return Err(ShapesFault::TooLarge),
-        Err(ReadFault::NoMemory) => return Err(ShapesFault::NoMemory),
-        Err(ReadFault::ReadFailed) => return Err(ShapesFault::ReadFailed),
-    };
-    match read_shapes(&text) {
+    match name {
+        None => Ok(Shapes::own()),
+        Some(name) => shapes_from(rt, file, name),
+    }
+}
+
+/// Reads the shapes of a file of this name. It has a frame of its own, so a task without a file is spared the room for the
+/// block that it reads into.
+#[inline(never)]
+fn shapes_from<R: Read + Drop>(
+    rt: &(impl Outside + Eprint + AllocGlobal),
+    file: R,
+    name: &str,
+) -> Result<Shapes, u8>
+    ensures { IfSome (R.remaining file) (λ text. GivesShapes text result) }
+{
+    let mut input = Watched::new(Noting::new(file));
+    match read_characters(rt.alloc(), &mut input) {
         Ok(shapes) => Ok(shapes),
-        Err(fault) => Err(ShapesFault::Characters(fault)),
+        Err(fault) => Err(refuse_characters(rt, fault, name, input.into_inner().error())),
+    }
+}
+
+/// Reports in one line on standard error why a file has no shapes, and gives the exit status.
+fn refuse_characters(
+    rt: &(impl Outside + Eprint),
+    fault: ShapesFault,
+    name: &str,
+    error: Option<Error>,
+) -> u8
+    ensures { result ≡ characters_status fault }
+{
+    match (fault, error) {
+        (ShapesFault::ReadFailed, Some(error)) => tell_file(rt, name, &error),
+        (ShapesFault::Characters(_) | ShapesFault::TooLarge, _) => {
+            let name = Shown(name);
+            let _ = rt.eprintln(format_args!("print1525: {name}: {fault}"));
+            characters_status(fault)
+        }
+        _ => {
+            let _ = rt.eprintln(format_args!("print1525: {fault}"));
+            characters_status(fault)
+        }
     }
 }

@@ -17,8 +17,8 @@ use Rattle.pr_wire.specs.Laws.{AllowedIsReached, OneEdgeMore}
 use Rattle.pr_wire.specs.Reached.{Reached, begin, first_step, indexed, led, one_more, onto, reached, step_of}
 use Rattle.pr_wire.specs.Table.{IsAllowed, fault_of, verdict}
 use Rattle.pr_capture.specs.declared.format.TraceInput.{TraceInput}
-use Rattle.pr_cli.specs.Report.{Says, edges_checked}
-use Rattle.pr_cli.specs.declared.fault.CliFault.{CliFault}
+use Rattle.pr_jobs.specs.Report.{Says, edges_checked}
+use Rattle.pr_jobs.specs.declared.fault.CliFault.{CliFault}
 use Rattle.pr_explain.specs.declared.edges.EdgePlace.{EdgePlace}
 use Rattle.pr_explain.specs.declared.edges.Followed.{Followed}
 use Rattle.pr_explain.specs.declared.edges.Refused.{Refused}

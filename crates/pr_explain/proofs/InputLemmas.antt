@@ -5,13 +5,13 @@ use Rattle.std.specs.Prelude.{IfSome}
 use Rattle.pr_wire.specs.declared.Edge.{Edge}
 use Rattle.pr_capture.specs.declared.format.Source.{Source}
 use Rattle.pr_capture.specs.declared.format.TraceInput.{TraceInput}
-use Rattle.pr_cli.specs.Begun.{CountsOn, HasBegun}
-use Rattle.pr_cli.specs.Inputs.{HasEdges, edges_in}
-use Rattle.pr_cli.specs.InputReads.{GivesEdges, SaysAll}
-use Rattle.pr_cli.specs.Report.{Says, IsOwnFault, edges_checked}
-use Rattle.pr_cli.specs.declared.beginning.Beginning.{Beginning}
-use Rattle.pr_cli.specs.declared.edge_reader.EdgeReader.{EdgeReader}
-use Rattle.pr_cli.specs.declared.edge_reader.LastEdges.{LastEdges}
+use Rattle.pr_jobs.specs.Begun.{CountsOn, HasBegun}
+use Rattle.pr_jobs.specs.Inputs.{HasEdges, edges_in}
+use Rattle.pr_jobs.specs.InputReads.{GivesEdges, SaysAll}
+use Rattle.pr_jobs.specs.Report.{Says, IsOwnFault, edges_checked}
+use Rattle.pr_jobs.specs.declared.beginning.Beginning.{Beginning}
+use Rattle.pr_jobs.specs.declared.edge_reader.EdgeReader.{EdgeReader}
+use Rattle.pr_jobs.specs.declared.edge_reader.LastEdges.{LastEdges}
 
 -- what an input says that is one block
 pub said_whole : (input : TraceInput) (bytes : List ℕ) (old new : EdgeReader) (last : LastEdges) → HasEdges input [] [] old → edges_in old ≡ []

@@ -12,8 +12,8 @@ use Rattle.pr_report.specs.Oddities.{is_acknowledged, oddities_of, oddities_text
 use Rattle.pr_report.specs.Taking.{HasSeen}
 use Rattle.pr_report.specs.declared.oddities.Oddities.{Oddities}
 use Rattle.pr_capture.specs.declared.format.TraceInput.{TraceInput}
-use Rattle.pr_cli.specs.Report.{Says}
-use Rattle.pr_cli.specs.declared.fault.CliFault.{CliFault}
+use Rattle.pr_jobs.specs.Report.{Says}
+use Rattle.pr_jobs.specs.declared.fault.CliFault.{CliFault}
 use Rattle.pr_explain.specs.OddLines.{AreInOrderAfter, AreOddLines, AreRemarks, HasLooked, first_moment}
 use Rattle.pr_explain.specs.TracePlaces.{AreInOrder, AreInOrderBehind, IsPlaceRead}
 use Rattle.pr_explain.specs.declared.oddities.Looked.{Looked}

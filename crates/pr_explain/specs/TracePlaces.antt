@@ -9,9 +9,9 @@ use Rattle.pr_wire.specs.Table.{IsAllowed, differ, fault_of}
 use Rattle.pr_capture.specs.declared.fault.CaptureFault.{CaptureFault}
 use Rattle.pr_capture.specs.declared.fault.CaptureFault.TheVariants as capture
 use Rattle.pr_capture.specs.declared.format.TraceInput.{TraceInput}
-use Rattle.pr_cli.specs.Report.{Says, edges_checked}
-use Rattle.pr_cli.specs.declared.fault.CliFault.{CliFault}
-use Rattle.pr_cli.specs.declared.fault.CliFault.TheVariants.{Trace, Capture}
+use Rattle.pr_jobs.specs.Report.{Says, edges_checked}
+use Rattle.pr_jobs.specs.declared.fault.CliFault.{CliFault}
+use Rattle.pr_jobs.specs.declared.fault.CliFault.TheVariants.{Trace, Capture}
 use Rattle.pr_explain.specs.Rows.{all_lead_apart, has_moment, takes}
 use Rattle.pr_explain.specs.declared.edges.EdgePlace.{EdgePlace}
 use Rattle.pr_explain.specs.declared.rows.Miss.{Miss}

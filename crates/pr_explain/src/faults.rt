@@ -1,7 +1,7 @@
 //! The line of a trace text or of a recording that cannot be read, and what it should have.
 
 ghost use Rattle.std.specs.Prelude.{◌≡◌, Some};
-ghost use Rattle.pr_cli.specs.Report.{IsOwnFault};
+ghost use Rattle.pr_jobs.specs.Report.{IsOwnFault};
 ghost use Rattle.pr_explain.specs.TracePlaces.{capture_line, fault_line};
 
 use crate::names::{
@@ -10,7 +10,7 @@ use crate::names::{
 };
 use crate::texts::{Cut, line_with, without_end};
 use pr_capture::{CaptureFault, Signals, Source, TraceInput, Wire};
-use pr_cli::CliFault;
+use pr_jobs::CliFault;
 use pr_wire::{NoMemory, TraceFault};
 use std::alloc::Global;
 

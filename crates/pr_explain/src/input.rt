@@ -1,10 +1,10 @@
 //! Reading a trace whole, in any format.
 
 ghost use Rattle.std.specs.Prelude.{◌≡◌, IfOk, IfSome};
-ghost use Rattle.pr_cli.specs.Report.{Says, IsOwnFault, edges_checked};
+ghost use Rattle.pr_jobs.specs.Report.{Says, IsOwnFault, edges_checked};
 
 use pr_capture::{Source, TraceInput};
-use pr_cli::{Beginning, EdgeReader, LastEdges};
+use pr_jobs::{Beginning, EdgeReader, LastEdges};
 use pr_wire::{Edge, NoMemory};
 use std::alloc::Global;
 

@@ -7,14 +7,14 @@ ghost use Rattle.pr_wire.specs.declared.Edge.{Edge};
 ghost use Rattle.pr_decode.specs.Readings.{readings_of};
 ghost use Rattle.pr_decode.specs.Taking.{IsBefore, last_time};
 ghost use Rattle.pr_report.specs.Oddities.{is_acknowledged, oddities_of};
-ghost use Rattle.pr_cli.specs.Report.{IsOwnFault};
+ghost use Rattle.pr_jobs.specs.Report.{IsOwnFault};
 ghost use Rattle.pr_explain.specs.OddLines.{AreOddLines, AreRemarks, ComesAfter, HasLooked, first_moment};
 ghost use Rattle.pr_explain.specs.TracePlaces.{AreInOrder};
 
 use crate::input::read_input;
 use crate::traces::place_read;
 use pr_capture::TraceInput;
-use pr_cli::CliFault;
+use pr_jobs::CliFault;
 use pr_decode::{Decoder, Reading};
 use pr_report::{LinesSeen, Oddities, is_acknowledged, push_oddities};
 use pr_wire::{Edge, NoMemory};

@@ -3,7 +3,7 @@
 ghost use Rattle.std.specs.Prelude.{◌≡◌, List, [], None, IfOk, IfSome, MatchOption};
 ghost use Rattle.std.specs.String.{string_bytes};
 ghost use Rattle.pr_wire.specs.declared.Edge.{Edge};
-ghost use Rattle.pr_cli.specs.Report.{IsOwnFault};
+ghost use Rattle.pr_jobs.specs.Report.{IsOwnFault};
 ghost use Rattle.pr_explain.specs.Followed.{Follows, back_from, stands_before};
 ghost use Rattle.pr_explain.specs.TracePlaces.{AreInOrder, GoesBackAt, IsPlaceOf, IsPlaceRead, IsReadingPlace, IsTracePlace, nowhere};
 
@@ -14,7 +14,7 @@ use crate::input::{counted, read_input};
 use crate::texts::{Shown, start_of, trace_start};
 use crate::trace_text::{BRACKETS, TraceSaid, push_index, push_stop};
 use pr_capture::TraceInput;
-use pr_cli::CliFault;
+use pr_jobs::CliFault;
 use pr_wire::{Edge, NoMemory};
 use std::alloc::Global;
 

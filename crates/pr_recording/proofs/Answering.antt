@@ -13,21 +13,21 @@ use Rattle.pr_capture.specs.declared.fault.CaptureFault.TheVariants as capture
 use Rattle.pr_capture.specs.declared.format.Source.{Source}
 use Rattle.pr_capture.specs.declared.format.TraceInput.{TraceInput}
 use Rattle.pr_input.specs.PartlyWritten.{AppendsFront}
-use Rattle.pr_cli.specs.Inputs.{EachTextSaysEdges, HasReadEdges, ReadEdgesComeFirst, SaysFirst, edges_read, fault_read}
-use Rattle.pr_cli.specs.EdgesTaken.{HasTakenAll, HasTakenBefore}
-use Rattle.pr_cli.specs.Report.{IsNoReading, IsOwnFault, IsReportFault, SaysWhole, edges_checked}
-use Rattle.pr_cli.specs.Report as report
-use Rattle.pr_cli.specs.Check.{trace_limit}
+use Rattle.pr_jobs.specs.Inputs.{EachTextSaysEdges, HasReadEdges, ReadEdgesComeFirst, SaysFirst, edges_read, fault_read}
+use Rattle.pr_jobs.specs.EdgesTaken.{HasTakenAll, HasTakenBefore}
+use Rattle.pr_jobs.specs.Report.{IsNoReading, IsOwnFault, IsReportFault, SaysWhole, edges_checked}
+use Rattle.pr_jobs.specs.Report as report
+use Rattle.pr_jobs.specs.Check.{trace_limit}
 use Rattle.pr_decode.specs.Readings.{readings_of}
 use Rattle.pr_report.specs.Oddities.{oddities_of}
 use Rattle.pr_report.specs.declared.oddities.Oddities.{Oddities}
 use Rattle.pr_report.specs.declared.report.Report.TheVariants.{Story}
-use Rattle.pr_cli.specs.InputReads.{IsTooLong, ReadsEdges}
+use Rattle.pr_jobs.specs.InputReads.{IsTooLong, ReadsEdges}
 use Rattle.pr_basic.specs.declared.fault.ScriptFault.{ScriptFault}
-use Rattle.pr_cli.specs.declared.fault.PictureFault.{PictureFault}
-use Rattle.pr_cli.specs.declared.fault.CliFault.{CliFault}
-use Rattle.pr_cli.specs.declared.fault.CliFault.TheVariants.{Script, Trace, Wave, Capture, Picture, TooLarge, NoMemory, ReadFailed, WriteFailed}
-use Rattle.pr_cli.specs.declared.input_reader.InputReader.{InputReader}
+use Rattle.pr_jobs.specs.declared.fault.PictureFault.{PictureFault}
+use Rattle.pr_jobs.specs.declared.fault.CliFault.{CliFault}
+use Rattle.pr_jobs.specs.declared.fault.CliFault.TheVariants.{Script, Trace, Wave, Capture, Picture, TooLarge, NoMemory, ReadFailed, WriteFailed}
+use Rattle.pr_jobs.specs.declared.input_reader.InputReader.{InputReader}
 use Rattle.pr_recording.specs.declared.wording.Wording.{Wording}
 use Rattle.pr_recording.specs.declared.decode_report.DecodeReport.{DecodeReport}
 use Rattle.pr_recording.specs.declared.decode_report.Ended.{Ended}

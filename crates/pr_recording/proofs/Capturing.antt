@@ -7,7 +7,7 @@ use Rattle.pr_decode.specs.declared.reading.Reading.{Reading}
 use Rattle.pr_decode.specs.Readings.{readings_of}
 use Rattle.pr_decode.specs.Taking.{GivenAreSettled, IsBefore, StandsBefore, last_time}
 use Rattle.pr_report.specs.Oddities.{oddities_of}
-use Rattle.pr_cli.specs.declared.fault.CliFault.{CliFault}
+use Rattle.pr_jobs.specs.declared.fault.CliFault.{CliFault}
 use Rattle.pr_recording.specs.declared.byte_log.HeardBytes.{HeardBytes}
 use Rattle.pr_recording.specs.declared.device_capture.DeviceCapture.{DeviceCapture}
 use Rattle.pr_recording.specs.declared.device_capture.Overheard.{Overheard}

@@ -14,8 +14,8 @@ use Rattle.pr_decode.specs.Taking.{AreInOrder, GivenAreSettled, HasReadings, IsB
 use Rattle.pr_report.specs.Taking as survey
 use Rattle.pr_report.specs.Oddities.{oddities_of}
 use Rattle.pr_report.specs.declared.oddities.Oddities.{Oddities}
-use Rattle.pr_cli.specs.Report.{edges_checked, refusal}
-use Rattle.pr_cli.specs.declared.fault.CliFault.{CliFault}
+use Rattle.pr_jobs.specs.Report.{edges_checked, refusal}
+use Rattle.pr_jobs.specs.declared.fault.CliFault.{CliFault}
 use Rattle.pr_recording.specs.declared.wording.Wording.{Wording}
 use Rattle.pr_recording.specs.declared.reading_log.ReadingLog.{ReadingLog}
 use Rattle.pr_recording.specs.declared.decode_report.Ended.{Ended}

@@ -14,9 +14,9 @@ use Rattle.pr_wire.specs.Reached.{Reached, begin, led, onto, reached, step_of}
 use Rattle.pr_capture.specs.Samples.{counted_from}
 use Rattle.pr_capture.specs.declared.format.Source.{Source}
 use Rattle.pr_capture.specs.declared.format.Source.TheVariants as source
-use Rattle.pr_cli.specs.Begun.{CountsOn, HasBegun, KeepsTimes}
-use Rattle.pr_cli.specs.Report.{counted_from_first, edges_checked}
-use Rattle.pr_cli.specs.declared.beginning.Beginning.{Beginning}
+use Rattle.pr_jobs.specs.Begun.{CountsOn, HasBegun, KeepsTimes}
+use Rattle.pr_jobs.specs.Report.{counted_from_first, edges_checked}
+use Rattle.pr_jobs.specs.declared.beginning.Beginning.{Beginning}
 use Rattle.pr_recording.specs.declared.judge.Judge.{Judge}
 use Rattle.pr_recording.specs.Judged.{HasJudged, IsFollowed, JudgesMore}
 

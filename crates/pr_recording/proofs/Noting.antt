@@ -3,11 +3,11 @@ use Rattle.std.proofs.Common.{◌≡◌, ℕ, ◌+◌, ◌<◌, List, [], ◌∷
 use Rattle.std.proofs.lemmas.List.{take_more}
 use Rattle.std.specs.Prelude.{IfOk, OnOk}
 use Rattle.pr_wire.specs.declared.Edge.{Edge}
-use Rattle.pr_cli.specs.InputReads.{EndsInputs}
-use Rattle.pr_cli.specs.EdgesTaken.{EndsReading}
-use Rattle.pr_cli.specs.declared.edge_reader.LastEdges.{LastEdges}
-use Rattle.pr_cli.specs.declared.input_reader.InputReader.{InputReader}
-use Rattle.pr_cli.specs.declared.fault.CliFault.{CliFault}
+use Rattle.pr_jobs.specs.InputReads.{EndsInputs}
+use Rattle.pr_jobs.specs.EdgesTaken.{EndsReading}
+use Rattle.pr_jobs.specs.declared.edge_reader.LastEdges.{LastEdges}
+use Rattle.pr_jobs.specs.declared.input_reader.InputReader.{InputReader}
+use Rattle.pr_jobs.specs.declared.fault.CliFault.{CliFault}
 
 -- what holds where a call went well holds of what follows from it
 pub on_ok : {X E : Type 0} (r : Result X E) (P Q : Type 0) → OnOk r P → (P → Q) → OnOk r Q

@@ -9,14 +9,14 @@ use Rattle.pr_report.specs.Oddities.{oddities_of}
 use Rattle.pr_report.specs.declared.oddities.Oddities.{Oddities}
 use Rattle.pr_render.specs.declared.format.Device.{Device}
 use Rattle.pr_capture.specs.declared.format.TraceInput.{TraceInput}
-use Rattle.pr_cli.specs.Check.{trace_limit}
-use Rattle.pr_cli.specs.Inputs.{EachTextSaysEdges, HasReadEdges, edges_read, fault_read}
-use Rattle.pr_cli.specs.EdgesTaken.{HasTakenAll, HasTakenBefore}
-use Rattle.pr_cli.specs.Report.{IsNoReading, SaysWhole, IsOwnFault}
-use Rattle.pr_cli.specs.InputReads.{IsTooLong, ReadsEdges}
-use Rattle.pr_cli.specs.declared.fault.CliFault.{CliFault}
-use Rattle.pr_cli.specs.declared.fault.CliFault.TheVariants.{Script, Trace, Wave, Capture, Picture, TooLarge, NoMemory, ReadFailed, WriteFailed}
-use Rattle.pr_cli.specs.declared.input_reader.InputReader.{InputReader}
+use Rattle.pr_jobs.specs.Check.{trace_limit}
+use Rattle.pr_jobs.specs.Inputs.{EachTextSaysEdges, HasReadEdges, edges_read, fault_read}
+use Rattle.pr_jobs.specs.EdgesTaken.{HasTakenAll, HasTakenBefore}
+use Rattle.pr_jobs.specs.Report.{IsNoReading, SaysWhole, IsOwnFault}
+use Rattle.pr_jobs.specs.InputReads.{IsTooLong, ReadsEdges}
+use Rattle.pr_jobs.specs.declared.fault.CliFault.{CliFault}
+use Rattle.pr_jobs.specs.declared.fault.CliFault.TheVariants.{Script, Trace, Wave, Capture, Picture, TooLarge, NoMemory, ReadFailed, WriteFailed}
+use Rattle.pr_jobs.specs.declared.input_reader.InputReader.{InputReader}
 use Rattle.pr_recording.specs.declared.byte_log.Heard.{Heard}
 use Rattle.pr_recording.specs.declared.device_capture.DeviceCapture.{DeviceCapture}
 use Rattle.pr_recording.specs.declared.device_capture.Overheard.{Overheard}

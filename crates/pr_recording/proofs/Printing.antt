@@ -9,15 +9,15 @@ use Rattle.pr_report.specs.declared.oddities.Oddities.{Oddities}
 use Rattle.pr_dots.specs.declared.character_sets.Shapes.{Shapes}
 use Rattle.pr_render.specs.declared.format.Format.{Format}
 use Rattle.pr_capture.specs.declared.format.TraceInput.{TraceInput}
-use Rattle.pr_cli.specs.Inputs.{EachTextSaysEdges, HasReadEdges, edges_read, fault_read}
-use Rattle.pr_cli.specs.EdgesTaken.{HasTakenAll, HasTakenBefore}
-use Rattle.pr_cli.specs.Report.{IsNoReading, SaysWhole, IsOwnFault}
-use Rattle.pr_cli.specs.InputReads.{IsTooLong, ReadsEdges}
-use Rattle.pr_cli.specs.Shown.{GivesShown}
-use Rattle.pr_cli.specs.declared.fault.PictureFault.{PictureFault}
-use Rattle.pr_cli.specs.declared.fault.CliFault.{CliFault}
-use Rattle.pr_cli.specs.declared.fault.CliFault.TheVariants.{Script, Trace, Wave, Capture, Picture, TooLarge, NoMemory, ReadFailed, WriteFailed}
-use Rattle.pr_cli.specs.declared.input_reader.InputReader.{InputReader}
+use Rattle.pr_jobs.specs.Inputs.{EachTextSaysEdges, HasReadEdges, edges_read, fault_read}
+use Rattle.pr_jobs.specs.EdgesTaken.{HasTakenAll, HasTakenBefore}
+use Rattle.pr_jobs.specs.Report.{IsNoReading, SaysWhole, IsOwnFault}
+use Rattle.pr_jobs.specs.InputReads.{IsTooLong, ReadsEdges}
+use Rattle.pr_jobs.specs.Shown.{GivesShown}
+use Rattle.pr_jobs.specs.declared.fault.PictureFault.{PictureFault}
+use Rattle.pr_jobs.specs.declared.fault.CliFault.{CliFault}
+use Rattle.pr_jobs.specs.declared.fault.CliFault.TheVariants.{Script, Trace, Wave, Capture, Picture, TooLarge, NoMemory, ReadFailed, WriteFailed}
+use Rattle.pr_jobs.specs.declared.input_reader.InputReader.{InputReader}
 use Rattle.pr_recording.specs.declared.capture_printer.CapturePrinter.{CapturePrinter}
 use Rattle.pr_recording.specs.declared.capture_printer.Printed.{Printed}
 use Rattle.pr_recording.specs.Copied.{CopiesMore, EndsCopy, EndsPrinted, HasCopied}

@@ -13,7 +13,7 @@ use Rattle.pr_system.specs.Laws.{StepsMakeTheRun}
 use Rattle.pr_system.specs.RunningState.{RunningState, begun}
 use Rattle.pr_system.specs.StepByStep.{IsWhole, stepped_through}
 use Rattle.pr_render.specs.declared.format.Device.{Device}
-use Rattle.pr_cli.specs.Pages.{Start, ending_of}
+use Rattle.pr_jobs.specs.Pages.{Start, ending_of}
 use Rattle.pr_recording.specs.declared.byte_log.HeardBytes.{HeardBytes}
 use Rattle.pr_recording.specs.declared.run_bytes.HeardRun.{HeardRun}
 use Rattle.pr_recording.specs.Bytes.{number_of}

@@ -13,10 +13,10 @@ use Rattle.pr_render.specs.declared.format.Device.{Device}
 use Rattle.pr_render.specs.declared.format.Device.TheVariants.{Four, Five}
 use Rattle.pr_capture.specs.declared.format.TraceInput.{TraceInput}
 use Rattle.pr_input.specs.PartlyWritten.{AppendsFront}
-use Rattle.pr_cli.specs.Check.{trace_limit}
-use Rattle.pr_cli.specs.Report.{Says}
-use Rattle.pr_cli.specs.declared.fault.CliFault.{CliFault}
-use Rattle.pr_cli.specs.declared.fault.CliFault.TheVariants.{Script, Trace, Wave, Capture, Picture, TooLarge, NoMemory, ReadFailed, WriteFailed}
+use Rattle.pr_jobs.specs.Check.{trace_limit}
+use Rattle.pr_jobs.specs.Report.{Says}
+use Rattle.pr_jobs.specs.declared.fault.CliFault.{CliFault}
+use Rattle.pr_jobs.specs.declared.fault.CliFault.TheVariants.{Script, Trace, Wave, Capture, Picture, TooLarge, NoMemory, ReadFailed, WriteFailed}
 use Rattle.pr_recording.specs.declared.byte_log.Heard.{Heard}
 use Rattle.pr_recording.specs.Decoded.{back_in, stop_at}
 use Rattle.pr_recording.specs.Pages.{readings_up_to}

@@ -3,9 +3,9 @@ use Rattle.std.specs.Prelude.{ℕ, List, length, Option, Result}
 use Rattle.pr_wire.specs.declared.Edge.{Edge}
 use Rattle.pr_wire.specs.Table.{fault_of}
 use Rattle.pr_capture.specs.declared.format.TraceInput.{TraceInput}
-use Rattle.pr_cli.specs.Check.{trace_limit}
-use Rattle.pr_cli.specs.Report.{Says, edges_checked, refusal}
-use Rattle.pr_cli.specs.declared.fault.CliFault.{CliFault}
+use Rattle.pr_jobs.specs.Check.{trace_limit}
+use Rattle.pr_jobs.specs.Report.{Says, edges_checked, refusal}
+use Rattle.pr_jobs.specs.declared.fault.CliFault.{CliFault}
 use Rattle.pr_recording.specs.declared.wording.Wording.TheVariants.{Json}
 use Rattle.pr_recording.specs.Decoded.{Leaves, back_in, stop_at, told_of}
 

@@ -6,12 +6,12 @@ use Rattle.pr_dots.specs.declared.character_sets.Shapes.{Shapes}
 use Rattle.pr_render.specs.declared.format.Format.{Format}
 use Rattle.pr_report.specs.declared.oddities.Oddities.{Oddities}
 use Rattle.pr_capture.specs.declared.format.TraceInput.{TraceInput}
-use Rattle.pr_cli.specs.Formats.{text_in}
+use Rattle.pr_jobs.specs.Formats.{text_in}
 use Rattle.pr_input.specs.PartlyWritten.{AppendsFront}
-use Rattle.pr_cli.specs.Report.{SaysWhole, IsOwnFault}
-use Rattle.pr_cli.specs.declared.fault.CliFault.{CliFault}
-use Rattle.pr_cli.specs.declared.fault.CliFault.TheVariants.{Picture, TooLarge, NoMemory, ReadFailed, WriteFailed}
-use Rattle.pr_cli.specs.declared.fault.PictureFault.{PictureFault}
+use Rattle.pr_jobs.specs.Report.{SaysWhole, IsOwnFault}
+use Rattle.pr_jobs.specs.declared.fault.CliFault.{CliFault}
+use Rattle.pr_jobs.specs.declared.fault.CliFault.TheVariants.{Picture, TooLarge, NoMemory, ReadFailed, WriteFailed}
+use Rattle.pr_jobs.specs.declared.fault.PictureFault.{PictureFault}
 use Rattle.pr_recording.specs.declared.capture_printer.Printed.{Printed}
 use Rattle.pr_recording.specs.Copied.{EndsCopy}
 use Rattle.pr_recording.specs.Pages.{papers_alone}

@@ -18,12 +18,12 @@ use Rattle.pr_report.specs.Oddities.{oddities_of, oddities_text}
 use Rattle.pr_report.specs.declared.oddities.Oddities.{Oddities}
 use Rattle.pr_capture.specs.declared.format.TraceInput.{TraceInput}
 use Rattle.pr_input.specs.PartlyWritten.{AppendsFront}
-use Rattle.pr_cli.specs.Check.{trace_limit}
-use Rattle.pr_cli.specs.Report.{Says, edges_checked}
+use Rattle.pr_jobs.specs.Check.{trace_limit}
+use Rattle.pr_jobs.specs.Report.{Says, edges_checked}
 use Rattle.pr_recording.specs.declared.wording.Wording.{Wording}
 use Rattle.pr_recording.specs.declared.wording.Wording.TheVariants.{Json, Lines}
-use Rattle.pr_cli.specs.declared.fault.CliFault.{CliFault}
-use Rattle.pr_cli.specs.declared.fault.CliFault.TheVariants.{Script, Trace, Wave, Capture, Picture, TooLarge, NoMemory, ReadFailed, WriteFailed}
+use Rattle.pr_jobs.specs.declared.fault.CliFault.{CliFault}
+use Rattle.pr_jobs.specs.declared.fault.CliFault.TheVariants.{Script, Trace, Wave, Capture, Picture, TooLarge, NoMemory, ReadFailed, WriteFailed}
 
 -- Where a recording stops.
 

@@ -5,8 +5,8 @@ use Rattle.pr_wire.specs.declared.Frame.{Frame}
 use Rattle.pr_wire.specs.declared.follower.TraceFollower.{TraceFollower}
 use Rattle.pr_wire.specs.Following.{HasFollowed}
 use Rattle.pr_capture.specs.declared.format.Source.{Source}
-use Rattle.pr_cli.specs.Begun.{HasBegun}
-use Rattle.pr_cli.specs.Report.{edges_checked}
+use Rattle.pr_jobs.specs.Begun.{HasBegun}
+use Rattle.pr_jobs.specs.Report.{edges_checked}
 use Rattle.pr_recording.specs.declared.judge.Judge.{Judge}
 
 -- a follower was given these edges

@@ -22,12 +22,12 @@ use Rattle.pr_report.specs.declared.oddities.Oddities.{Oddities}
 use Rattle.pr_report.specs.Taking as survey
 use Rattle.pr_report.specs.declared.report.Report.TheVariants.{Story}
 use Rattle.pr_input.specs.PartlyWritten.{AppendsFront}
-use Rattle.pr_cli.specs.EdgesTaken.{EndsReading}
-use Rattle.pr_cli.specs.Report.{IsOwnFault, IsReportFault, Says, edges_checked, refusal}
-use Rattle.pr_cli.specs.Report as report
-use Rattle.pr_cli.specs.declared.fault.CliFault.{CliFault}
-use Rattle.pr_cli.specs.declared.fault.CliFault.TheVariants.{Wave, WriteFailed}
-use Rattle.pr_cli.specs.declared.input_reader.InputReader.{InputReader}
+use Rattle.pr_jobs.specs.EdgesTaken.{EndsReading}
+use Rattle.pr_jobs.specs.Report.{IsOwnFault, IsReportFault, Says, edges_checked, refusal}
+use Rattle.pr_jobs.specs.Report as report
+use Rattle.pr_jobs.specs.declared.fault.CliFault.{CliFault}
+use Rattle.pr_jobs.specs.declared.fault.CliFault.TheVariants.{Wave, WriteFailed}
+use Rattle.pr_jobs.specs.declared.input_reader.InputReader.{InputReader}
 use Rattle.pr_recording.specs.declared.wording.Wording.{Wording}
 use Rattle.pr_recording.specs.declared.wording.Wording.TheVariants.{Json, Lines}
 use Rattle.pr_recording.specs.declared.reading_log.ReadingLog.{ReadingLog}

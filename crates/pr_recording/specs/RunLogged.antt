@@ -10,9 +10,9 @@ use Rattle.pr_basic.specs.Faults.{IsFirstFault}
 use Rattle.pr_basic.specs.Runs.{run_of}
 use Rattle.pr_system.specs.RunningState.{RunningState, trace_so_far}
 use Rattle.pr_render.specs.declared.format.Device.{Device}
-use Rattle.pr_cli.specs.Pages.{Start, ending_of}
-use Rattle.pr_cli.specs.declared.fault.CliFault.{CliFault}
-use Rattle.pr_cli.specs.declared.fault.CliFault.TheVariants.{Script, NoMemory}
+use Rattle.pr_jobs.specs.Pages.{Start, ending_of}
+use Rattle.pr_jobs.specs.declared.fault.CliFault.{CliFault}
+use Rattle.pr_jobs.specs.declared.fault.CliFault.TheVariants.{Script, NoMemory}
 use Rattle.pr_recording.specs.declared.run_bytes.HeardRun.{HeardRun}
 use Rattle.pr_recording.specs.declared.run_log.RunLog.{RunLog}
 use Rattle.pr_recording.specs.Decoded.{back_in}

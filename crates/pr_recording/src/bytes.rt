@@ -1,8 +1,8 @@
 //! A recording in any format in, the bytes that one printer hears in it out.
 
 ghost use Rattle.std.specs.Prelude.{◌≡◌, ◌+◌, ◌^◌, ◌<◌, ◌≤◌, ◌↔◌, ℕ, length, false, true, IfErr, IfOk, IfSome, IsErrOf, OnOk};
-ghost use Rattle.pr_cli.specs.Inputs.{edges_read, lines_ahead};
-ghost use Rattle.pr_cli.specs.Report.{IsNoReading};
+ghost use Rattle.pr_jobs.specs.Inputs.{edges_read, lines_ahead};
+ghost use Rattle.pr_jobs.specs.Report.{IsNoReading};
 ghost use Rattle.pr_input.specs.Watched.{has_failed, is_flushed, wrapped};
 ghost use Rattle.pr_recording.specs.Bytes.{AnswersBytes, HasReadBytes, number_of};
 ghost use Rattle.pr_recording.specs.Decoded.{IsDecodeFault};
@@ -13,7 +13,7 @@ use crate::byte_log::Heard;
 use crate::device_capture::{DeviceCapture, Overheard};
 use pr_base::{FIRST_PRINTER, SECOND_PRINTER};
 use pr_capture::TraceInput;
-use pr_cli::{
+use pr_jobs::{
     BLOCK, CHECK_LIMIT, CliFault, InputReader, Watched, WriteFault, read_edges_come_first,
     write_whole,
 };

@@ -3,19 +3,19 @@
 ghost use Rattle.std.specs.Prelude.{◌≡◌, ◌↔◌, false, true, IfErr, IfSome, IsErrOf, OnOk};
 ghost use Rattle.pr_input.specs.Watched.{has_failed, is_flushed, wrapped};
 ghost use Rattle.pr_report.specs.declared.report.Report.TheVariants.{Story};
-ghost use Rattle.pr_cli.specs.Report.{IsReportFault, ReadsAll};
+ghost use Rattle.pr_jobs.specs.Report.{IsReportFault, ReadsAll};
 ghost use Rattle.pr_recording.specs.Checked.{AnswersJson};
 
 use crate::decode::{tell_input, without_odd};
 use crate::wording::Wording;
 use pr_capture::TraceInput;
-use pr_cli::{CHECK_LIMIT, CliFault, Watched};
+use pr_jobs::{CHECK_LIMIT, CliFault, Watched};
 use std::alloc::Global;
 use std::io::{Read, Write};
 
 /// Reads a trace in any format and writes its readings as lines of JSON, and a line that says whether it is lawful: the
 /// lines that [`crate::decode_over`] writes, as it writes them. A trace that is not lawful is refused with the fault that
-/// [`pr_cli::check_as_over`] reports of it.
+/// [`pr_jobs::check_as_over`] reports of it.
 ///
 /// # Errors
 ///

@@ -2,9 +2,9 @@
 
 ghost use Rattle.std.specs.Prelude.{◌≡◌, ◌≢◌, ◌+◌, ◌*◌, ◌^◌, ◌<◌, ◌≤◌, ◌↔◌, length, false, true, None, IfErr, IfOk, IfSome, IsErr, IsErrOf, OnErr, OnOk, Some};
 ghost use Rattle.std.specs.Io.KnownBytes.{Appends};
-ghost use Rattle.pr_cli.specs.Check.{trace_limit};
+ghost use Rattle.pr_jobs.specs.Check.{trace_limit};
 ghost use Rattle.pr_input.specs.PartlyWritten.{AppendsFront};
-ghost use Rattle.pr_cli.specs.Inputs.{edges_read, lines_ahead};
+ghost use Rattle.pr_jobs.specs.Inputs.{edges_read, lines_ahead};
 ghost use Rattle.pr_input.specs.Watched.{has_failed, is_flushed, wrapped};
 ghost use Rattle.pr_recording.specs.Decoded.{AnswersDecode, AnswersDecodeJson, IsDecodeFault, ReadsAll, without_odd};
 ghost use Rattle.pr_recording.specs.Narrated.{AnswersTold, EndsNarrated, GivesUp, HasReadTo, IsRefusal, WritesEnd, lines_in, load};
@@ -12,7 +12,7 @@ ghost use Rattle.pr_recording.specs.Narrated.{AnswersTold, EndsNarrated, GivesUp
 use crate::decode_report::{DecodeReport, Ended};
 use crate::wording::Wording;
 use pr_capture::TraceInput;
-use pr_cli::{
+use pr_jobs::{
     BLOCK, CHECK_LIMIT, CliFault, InputReader, Watched, WriteFault, read_edges_come_first,
     write_piece, write_whole,
 };
@@ -73,7 +73,7 @@ pub fn decode_over<R: Read, W: Write>(
 ///
 /// # Errors
 ///
-/// Those of [`decode_over`], with `limit` instead of [`CHECK_LIMIT`](pr_cli::CHECK_LIMIT), and
+/// Those of [`decode_over`], with `limit` instead of [`CHECK_LIMIT`](pr_jobs::CHECK_LIMIT), and
 /// what they leave is the same.
 pub fn decode_input<R: Read, W: Write>(
     alloc: Global,

@@ -10,7 +10,7 @@ use crate::byte_log::HeardBytes;
 use crate::decode_report::stop_at;
 use crate::device_log::DeviceLog;
 use crate::observer::Observer;
-use pr_cli::CliFault;
+use pr_jobs::CliFault;
 use pr_decode::{GoesBack, Reading, readings_add_up};
 use pr_page::NoMemory;
 use pr_report::Oddities;

@@ -4,11 +4,11 @@ ghost use Rattle.std.specs.Prelude.{◌≡◌, ◌+◌, ◌^◌, ◌<◌, ◌≤
 ghost use Rattle.pr_wire.specs.declared.Edge.{Edge};
 ghost use Rattle.pr_wire.specs.Table.{fault_of};
 ghost use Rattle.pr_capture.specs.declared.format.Source.{Source};
-ghost use Rattle.pr_cli.specs.Report.{edges_checked};
+ghost use Rattle.pr_jobs.specs.Report.{edges_checked};
 ghost use Rattle.pr_recording.specs.Judged.{HasJudged, JudgesMore, edges_judged};
 
 use pr_capture::Source;
-use pr_cli::Beginning;
+use pr_jobs::Beginning;
 use pr_wire::{Edge, TraceFollower, WaveFault};
 
 /// Judges edges that come one by one: whether they are a lawful trace, counted from where `check` counts them.

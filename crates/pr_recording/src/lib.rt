@@ -7,7 +7,7 @@
 //! (`specs/Bytes.antt`). [`run_bytes_over`] writes those of a script's run (`specs/RunBytes.antt`).
 //!
 //! - `decode` reads block by block, and writes what a block settles before it reads the next.
-//!   `decode_report` takes the edges that pr_cli's `InputReader` gives, and hands those up to where time goes
+//!   `decode_report` takes the edges that pr_jobs's `InputReader` gives, and hands those up to where time goes
 //!   back to a decoder, and all to `judge`, which says whether they are a lawful trace, as `check` counts them;
 //!   `reading_log` has the lines that are not written yet, and a survey of all readings. `checked` does the
 //!   same in JSON, and refuses a trace that is not lawful ([`check_json_over`], `specs/Checked.antt`).

@@ -2,8 +2,8 @@
 
 ghost use Rattle.std.specs.Prelude.{◌≡◌, ◌≢◌, ◌+◌, ◌^◌, ◌<◌, ◌≤◌, ◌↔◌, length, false, true, None, IfErr, IfOk, IfSome, IsErrOf, OnOk};
 ghost use Rattle.std.specs.Io.KnownBytes.{Keeps};
-ghost use Rattle.pr_cli.specs.Inputs.{edges_read, lines_ahead};
-ghost use Rattle.pr_cli.specs.Report.{IsNoReading};
+ghost use Rattle.pr_jobs.specs.Inputs.{edges_read, lines_ahead};
+ghost use Rattle.pr_jobs.specs.Report.{IsNoReading};
 ghost use Rattle.pr_input.specs.Watched.{has_failed, is_flushed, wrapped};
 ghost use Rattle.pr_recording.specs.Copied.{EndsPrinted, edges_copied, inputs_printed};
 ghost use Rattle.pr_recording.specs.Copying.{GivesPrint, HasReadPages, WritesPrint};
@@ -13,7 +13,7 @@ ghost use Rattle.pr_recording.specs.Pages.{AnswersPages, IsReprintFault, ReadsPa
 use crate::capture_printer::{CapturePrinter, Printed};
 use crate::printer_pair::PrintedPages;
 use pr_capture::TraceInput;
-use pr_cli::{
+use pr_jobs::{
     BLOCK, CliFault, InputReader, Watched, WriteFault, read_edges_come_first, text_in_format,
 };
 use pr_dots::Shapes;

@@ -8,7 +8,7 @@
 //!   `texts`, tables of `short_text`.
 //! - `laws` says what is drawn, without the folds.
 //!
-//! A further format is a definition in `specs/` and a file in `src/`, and an arm in pr_cli's `text_in` and
+//! A further format is a definition in `specs/` and a file in `src/`, and an arm in pr_jobs's `text_in` and
 //! `text_in_format`.
 #![tactic(auto)]
 

@@ -1,7 +1,7 @@
 //! The limits of recordings, tried with small ones: the program's are 4,294,967,296 and 1,099,511,627,776 bytes.
 
 use pr_capture::{Signals, Source, TraceInput};
-use pr_cli::{CliFault, Watched};
+use pr_jobs::{CliFault, Watched};
 use pr_recording::{Wording, decode_input, print_input};
 use pr_report::{Bounds, Detail};
 

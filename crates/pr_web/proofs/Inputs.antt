@@ -2,11 +2,11 @@
 use Rattle.std.proofs.Common.{◌≡◌, ℕ, List, [], refl, subst, append-nil}
 use Rattle.std.specs.Prelude.{IfSome}
 use Rattle.pr_capture.specs.declared.format.TraceInput.{TraceInput}
-use Rattle.pr_cli.specs.Inputs.{HasEdges, edges_in}
-use Rattle.pr_cli.specs.InputReads.{GivesEdges, SaysAll}
-use Rattle.pr_cli.specs.Report.{Says, IsOwnFault}
-use Rattle.pr_cli.specs.declared.edge_reader.EdgeReader.{EdgeReader}
-use Rattle.pr_cli.specs.declared.edge_reader.LastEdges.{LastEdges}
+use Rattle.pr_jobs.specs.Inputs.{HasEdges, edges_in}
+use Rattle.pr_jobs.specs.InputReads.{GivesEdges, SaysAll}
+use Rattle.pr_jobs.specs.Report.{Says, IsOwnFault}
+use Rattle.pr_jobs.specs.declared.edge_reader.EdgeReader.{EdgeReader}
+use Rattle.pr_jobs.specs.declared.edge_reader.LastEdges.{LastEdges}
 
 -- what an input says that is one block
 pub said_whole : (input : TraceInput) (bytes : List ℕ) (old new : EdgeReader) (last : LastEdges) → HasEdges input [] [] old → edges_in old ≡ []

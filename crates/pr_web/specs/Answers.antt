@@ -10,10 +10,10 @@ use Rattle.pr_capture.specs.declared.fault.CaptureFault.{CaptureFault}
 use Rattle.pr_capture.specs.declared.fault.CaptureFault.TheVariants as capture
 use Rattle.pr_capture.specs.declared.fault.Wire.{Wire}
 use Rattle.pr_capture.specs.declared.fault.Wire.TheVariants as wire
-use Rattle.pr_cli.specs.declared.fault.CliFault.{CliFault}
-use Rattle.pr_cli.specs.declared.fault.CliFault.TheVariants.{Script, Trace, Wave, Capture, Picture, TooLarge}
-use Rattle.pr_cli.specs.declared.fault.PictureFault.{PictureFault}
-use Rattle.pr_cli.specs.declared.fault.PictureFault.TheVariants as picture
+use Rattle.pr_jobs.specs.declared.fault.CliFault.{CliFault}
+use Rattle.pr_jobs.specs.declared.fault.CliFault.TheVariants.{Script, Trace, Wave, Capture, Picture, TooLarge}
+use Rattle.pr_jobs.specs.declared.fault.PictureFault.{PictureFault}
+use Rattle.pr_jobs.specs.declared.fault.PictureFault.TheVariants as picture
 use Rattle.pr_explain.specs.declared.traces.ReadingPlace.{ReadingPlace}
 use Rattle.pr_explain.specs.declared.traces.ReadingPlace.TheVariants.{Edge, Line}
 use Rattle.pr_explain.specs.declared.traces.TracePlace.{TracePlace}

@@ -10,7 +10,7 @@ use Rattle.pr_serial.specs.declared.Present.{Present}
 use Rattle.pr_capture.specs.declared.format.Source.{Source}
 use Rattle.pr_capture.specs.declared.format.TraceInput.{TraceInput}
 use Rattle.pr_basic.specs.declared.session.StatusMode.{StatusMode}
-use Rattle.pr_cli.specs.Pages.{Start}
+use Rattle.pr_jobs.specs.Pages.{Start}
 use Rattle.pr_characters.specs.declared.fault.CharactersFault.{CharactersFault}
 use Rattle.pr_characters.specs.declared.fault.CharactersFault.TheVariants.{BadLine}
 use Rattle.pr_dots.specs.declared.character_sets.Shapes.{Shapes}

@@ -9,14 +9,14 @@ use Rattle.pr_basic.specs.declared.session.StatusMode.{StatusMode}
 use Rattle.pr_basic.specs.declared.fault.ScriptFault.{ScriptFault}
 use Rattle.pr_basic.specs.declared.statement.Statement.{Statement}
 use Rattle.pr_capture.specs.declared.format.TraceFormat.{TraceFormat}
-use Rattle.pr_cli.specs.Bus.{AnswersBus}
-use Rattle.pr_cli.specs.Check.{trace_limit}
-use Rattle.pr_cli.specs.Pages.{AnswersPages as AnswersRun, Start}
-use Rattle.pr_cli.specs.Raw.{AnswersRaw}
-use Rattle.pr_cli.specs.Report.{AnswersReport, Says}
-use Rattle.pr_cli.specs.declared.pages.Ending.{Ending}
-use Rattle.pr_cli.specs.declared.fault.CliFault.{CliFault}
-use Rattle.pr_cli.specs.declared.fault.CliFault.TheVariants.{Script, Trace, Wave, Capture, NoMemory}
+use Rattle.pr_jobs.specs.Bus.{AnswersBus}
+use Rattle.pr_jobs.specs.Check.{trace_limit}
+use Rattle.pr_jobs.specs.Pages.{AnswersPages as AnswersRun, Start}
+use Rattle.pr_jobs.specs.Raw.{AnswersRaw}
+use Rattle.pr_jobs.specs.Report.{AnswersReport, Says}
+use Rattle.pr_jobs.specs.declared.pages.Ending.{Ending}
+use Rattle.pr_jobs.specs.declared.fault.CliFault.{CliFault}
+use Rattle.pr_jobs.specs.declared.fault.CliFault.TheVariants.{Script, Trace, Wave, Capture, NoMemory}
 use Rattle.pr_render.specs.declared.format.Device.{Device}
 use Rattle.pr_render.specs.declared.format.Format.{Format}
 use Rattle.pr_capture.specs.declared.format.TraceInput.{TraceInput}

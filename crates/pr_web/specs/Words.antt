@@ -10,7 +10,7 @@ use Rattle.pr_capture.specs.declared.format.Source.{Source}
 use Rattle.pr_capture.specs.declared.format.Source.TheVariants as source
 use Rattle.pr_capture.specs.declared.format.TraceFormat.{TraceFormat}
 use Rattle.pr_capture.specs.declared.format.TraceFormat.TheVariants as trace
-use Rattle.pr_cli.specs.Pages.{Start}
+use Rattle.pr_jobs.specs.Pages.{Start}
 use Rattle.pr_listing.specs.declared.form.ListingForm.{ListingForm}
 use Rattle.pr_listing.specs.declared.form.ListingForm.TheVariants as form
 use Rattle.pr_options.specs.Jobs.{InputView, IsRefused, JobView, Pages, Bus, Check, Decode, Raw, RunView, TaskView, asked}

@@ -6,7 +6,7 @@ ghost use Rattle.pr_web.specs.Giving.{FindsText, Gives, beside, heard_number, is
 
 use pr_basic::ScriptFault;
 use pr_capture::{CaptureFault, Wire};
-use pr_cli::{CliFault, PictureFault};
+use pr_jobs::{CliFault, PictureFault};
 use pr_recording::Heard;
 use pr_wire::{TraceFault, WaveFault};
 

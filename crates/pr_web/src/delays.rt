@@ -10,7 +10,7 @@ use crate::answer::{Answer, Told, ended, give, numbered, refused};
 use crate::numbers::read_input;
 use crate::settings::{input_for, source_for};
 use pr_capture::TraceInput;
-use pr_cli::CliFault;
+use pr_jobs::CliFault;
 use pr_wire::{BusState, ByteRole, Edge, EdgeError, Kind, Levels, NoMemory};
 use std::alloc::Global;
 

@@ -10,7 +10,7 @@ ghost use Rattle.pr_web.specs.Settings.{presence, source_of, stop_of};
 use crate::answer::{Answer, Told, give, numbered, refused};
 use crate::settings::{input_for, mode_for, source_for, stop_for};
 use pr_capture::TraceInput;
-use pr_cli::CliFault;
+use pr_jobs::CliFault;
 use pr_explain::{
     ReadingPlace, ScriptPlace, StopPlace, TracePlace, explain_reading, explain_script,
     explain_stop, explain_trace, remark_on,

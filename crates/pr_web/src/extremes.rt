@@ -19,7 +19,7 @@ use pr_base::UNLISTEN;
 use pr_basic::laws::statuses_are_exact;
 use pr_basic::{ScriptFault, Session, Statement, StatusMode, perform, read_script};
 use pr_channels::Channels;
-use pr_cli::CliFault;
+use pr_jobs::CliFault;
 use pr_serial::laws::items_make_listeners;
 use pr_serial::{Item, NoMemory, Present};
 use pr_wire::{Kind, bounds};

@@ -2,7 +2,7 @@
 
 ghost use Rattle.std.specs.Prelude.{◌≡◌, ◌+◌, ◌-◌, ◌<◌, ◌≤◌, ◌++◌, ◌∷◌, [], List, length, IfErr, IfOk, IfSome, OnOk};
 ghost use Rattle.pr_wire.specs.Delays.{bounds_of};
-ghost use Rattle.pr_cli.specs.Report.{IsOwnFault, Says};
+ghost use Rattle.pr_jobs.specs.Report.{IsOwnFault, Says};
 ghost use Rattle.pr_web.specs.Asked.{TellsBounds, TellsEdges, TellsIntervals, TellsRows};
 ghost use Rattle.pr_web.specs.Giving.{GivesEdges, GivesIntervals, GivesRows};
 ghost use Rattle.pr_web.specs.Numbers.{bounds_numbers, edge_numbers, kind_numbers, level_number};
@@ -14,7 +14,7 @@ use crate::lengths::all_figures;
 use crate::rows::{Ended, RecordingReadings, flag, longest_answer, rows_of};
 use crate::settings::{detail_for, input_for, source_for};
 use pr_capture::TraceInput;
-use pr_cli::{CliFault, EdgeReader, LastEdges};
+use pr_jobs::{CliFault, EdgeReader, LastEdges};
 use pr_report::Detail;
 use pr_wire::{Edge, Kind, Levels, NoMemory, bounds};
 use std::alloc::Global;

@@ -11,7 +11,7 @@ use crate::settings::{
 };
 use pr_capture::TraceInput;
 use pr_characters::CharactersFault;
-use pr_cli::{CliFault, Watched, check_as_over};
+use pr_jobs::{CliFault, Watched, check_as_over};
 use pr_dots::Shapes;
 use pr_recording::{Heard, Wording, bytes_over, check_json_over, decode_over, reprint_over};
 use pr_render::{Device, Format};
@@ -244,7 +244,7 @@ pub extern "C" fn print1525_heard(
 /// front of the page's buffer. The trace is passed as to [`print1525_readings`]; `story` is whether
 /// the story is wanted (0 for no).
 ///
-/// It is refused with the faults of [`pr_cli::check_as_over`] but for reads and writes, for a number
+/// It is refused with the faults of [`pr_jobs::check_as_over`] but for reads and writes, for a number
 /// that means no format of a recording, and where the text has more bytes than the buffer has room
 /// for. The story of a trace that is refused is in the buffer up to the fault, with code 2.
 #[unsafe(no_mangle)]

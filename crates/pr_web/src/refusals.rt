@@ -8,7 +8,7 @@ use crate::answer::{Answer, Told, numbered, refused};
 use crate::explanations::explained;
 use crate::words::words_in;
 use clap::error::{Error as UsageError, ErrorKind as UsageKind};
-use pr_cli::CliFault;
+use pr_jobs::CliFault;
 use pr_options::{JobFault, bad_value, read_task};
 use std::alloc::{AllocError, Global};
 

@@ -10,7 +10,7 @@ ghost use Rattle.pr_recording.specs.Decoded.{stop_at};
 ghost use Rattle.pr_web.specs.Numbers.{end_of, flag, reading_rows, row_of, row_with};
 ghost use Rattle.pr_web.specs.Rows.{EndsReadings, HasTaken, TakesMore};
 
-use pr_cli::CliFault;
+use pr_jobs::CliFault;
 use pr_decode::{
     Decoder, FrameEnd, GoesBack, IncompleteEnd, Pulse, Reading, Transfer, readings_add_up,
 };

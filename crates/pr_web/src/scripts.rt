@@ -9,7 +9,7 @@ ghost use Rattle.pr_basic.specs.Grammar.{IsScript};
 ghost use Rattle.pr_basic.specs.LineAt.{IsLineAt};
 ghost use Rattle.pr_basic.specs.declared.statement.Statement.{Statement};
 ghost use Rattle.pr_bus.specs.DelaysLeft.{numbers_left};
-ghost use Rattle.pr_cli.specs.Pages.{start_of};
+ghost use Rattle.pr_jobs.specs.Pages.{start_of};
 ghost use Rattle.pr_web.specs.Asked.{TellsFault, TellsLines, TellsRaw, TellsRun, TellsRunBytes};
 ghost use Rattle.pr_web.specs.Giving.{GivesFault, GivesLines, GivesRaw, GivesRun, HandsRunBytes, HasNoMemory, heard_in_run};
 ghost use Rattle.pr_web.specs.Numbers.{AreLineNumbers, IsFaultRow, IsLabelNumber, IsWidth};
@@ -25,7 +25,7 @@ use pr_basic::{
 };
 use pr_bus::Delays;
 use pr_characters::CharactersFault;
-use pr_cli::{CliFault, Ending, Watched, pages_as_over, raw_over};
+use pr_jobs::{CliFault, Ending, Watched, pages_as_over, raw_over};
 use pr_dots::Shapes;
 use pr_recording::{Heard, run_bytes_over};
 use pr_render::{Device, Format};
@@ -172,7 +172,7 @@ fn raw(
 /// no); `computer`, `printer_four` and `printer_five` are the delay numbers. `format`, `device`,
 /// `sheet` and `characters` are those of [`crate::print1525_reprint`].
 ///
-/// It is refused with the faults of [`pr_cli::pages_as_over`] but for reads and writes, for numbers
+/// It is refused with the faults of [`pr_jobs::pages_as_over`] but for reads and writes, for numbers
 /// that mean no such format, and where the text has more bytes than the buffer has room for. The
 /// buffer is then as it was. A run that a BASIC error stopped is answered as one that is done:
 /// `print1525_pages` answers the error.
@@ -270,7 +270,7 @@ pub extern "C" fn print1525_run_bytes(
 /// buffer. `lower` is whether the lower/upper case set is selected before them (0 for no); `format`,
 /// `device`, `sheet` and `characters` are those of [`crate::print1525_reprint`].
 ///
-/// It is refused with the faults of [`pr_cli::raw_over`] but for reads and writes, and as
+/// It is refused with the faults of [`pr_jobs::raw_over`] but for reads and writes, and as
 /// [`print1525_part_of_pages`] is.
 #[unsafe(no_mangle)]
 pub extern "C" fn print1525_part_of_raw(

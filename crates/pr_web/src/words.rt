@@ -3,7 +3,7 @@
 
 ghost use Rattle.std.specs.Prelude.{◌≡◌, ◌++◌, ◌∷◌, [], map, length, option_map, IfOk, OnOk};
 ghost use Rattle.std.specs.Option.{unwrap_or};
-ghost use Rattle.pr_cli.specs.Pages.{start_of};
+ghost use Rattle.pr_jobs.specs.Pages.{start_of};
 ghost use Rattle.pr_options.specs.Jobs.{input_view, job_view, task_view};
 ghost use Rattle.pr_web.specs.Giving.{GivesBus};
 ghost use Rattle.pr_web.specs.Numbers.{flag};
@@ -14,7 +14,7 @@ use crate::rows::flag;
 use pr_basic::StatusMode;
 use pr_bus::Delays;
 use pr_capture::{Source, TraceFormat, TraceInput};
-use pr_cli::{CliFault, Watched, bus_as_over};
+use pr_jobs::{CliFault, Watched, bus_as_over};
 use pr_listing::ListingForm;
 use pr_options::{CheckOutput, DecodeOutput, Job, JobFault, PagesOutput, Task, read_task};
 use pr_render::{Device, Format};
@@ -380,7 +380,7 @@ fn bus_of(alloc: Global, job: Job<'_>, script: &[u8], out: &mut [u8]) -> Answer
 /// Runs a script as the words of a command line ask for it, which are passed as to [`print1525_task`], and puts the trace
 /// of its run at the front of the page's buffer. The script is the text of a listing in any form.
 ///
-/// It is refused with the faults of [`pr_cli::bus_as_over`] but for reads and writes, with 53 for words that are not
+/// It is refused with the faults of [`pr_jobs::bus_as_over`] but for reads and writes, with 53 for words that are not
 /// UTF-8, with 54 where they do not ask for the trace of a run, and where the text has more bytes than the buffer has room
 /// for. The buffer is then as it was. A run that a BASIC error stopped is answered as one that is done.
 #[unsafe(no_mangle)]

@@ -7,7 +7,7 @@ use crate::cli::pictures::{drawn, sheet_alone};
 use pr_basic::StatusMode;
 use pr_bus::Delays;
 use pr_capture::{Signals, Source, TraceFormat, TraceInput, write_vcd};
-use pr_cli::{
+use pr_jobs::{
     CliFault, Ending, Watched, bus_as_over, check_as_over, check_over, pages_as_over, raw_over,
 };
 use pr_dots::Shapes;

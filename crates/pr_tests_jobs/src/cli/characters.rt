@@ -6,7 +6,7 @@ use crate::cli::slow::SlowReader;
 use pr_basic::StatusMode;
 use pr_capture::Source;
 use pr_characters::CharactersFault;
-use pr_cli::{
+use pr_jobs::{
     CHARACTERS_LIMIT, CliFault, Ending, ShapesFault, Watched, pages_as_over, raw_over,
     read_characters,
 };

@@ -1,7 +1,7 @@
 //! Each growth of memory refused in turn.
 
 use crate::cli::calls::{Row, rows};
-use pr_cli::{BLOCK, CliFault, Ending, Watched};
+use pr_jobs::{BLOCK, CliFault, Ending, Watched};
 use pr_refusals::most_refusals;
 use std::process::Abort;
 

@@ -6,7 +6,7 @@ ghost use Rattle.pr_input.specs.Watched.{has_failed};
 use crate::cli::calls::{EXAMPLE_LINES, HI, HI_BYTES, usual};
 use crate::cli::slow::SlowReader;
 use pr_capture::Source;
-use pr_cli::{BLOCK, CliFault, Watched, check_input, print_input, read_whole, report_input};
+use pr_jobs::{BLOCK, CliFault, Watched, check_input, print_input, read_whole, report_input};
 use pr_report::Report;
 use pr_wire::example::TRACE_TEXT;
 use std::alloc::Global;

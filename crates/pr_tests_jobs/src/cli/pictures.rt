@@ -2,7 +2,7 @@
 
 use crate::cli::calls::{BOTH, Call, HI, NONE, SVG, typical};
 use pr_basic::{StatusMode, read_script};
-use pr_cli::{CliFault, Ending, PictureFault, pages_text};
+use pr_jobs::{CliFault, Ending, PictureFault, pages_text};
 use pr_dots::Shapes;
 use pr_page::Sequence;
 use pr_png::png;

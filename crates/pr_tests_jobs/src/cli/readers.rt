@@ -2,7 +2,7 @@
 
 use crate::cli::calls::{Call, HI, PAGES, Row, rows};
 use crate::cli::slow::{SlowReader, SlowWriter};
-use pr_cli::{BLOCK, CliFault, Ending, TeeReader, Watched};
+use pr_jobs::{BLOCK, CliFault, Ending, TeeReader, Watched};
 use std::alloc::{AllocError, Global};
 use std::io::Read;
 use std::process::Abort;

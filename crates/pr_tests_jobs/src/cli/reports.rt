@@ -2,7 +2,7 @@
 
 use crate::cli::calls::{Call, ONE_ATTENTION, ONE_ATTENTION_TABLE};
 use pr_capture::{CaptureFault, Source, Wire};
-use pr_cli::CliFault;
+use pr_jobs::CliFault;
 use pr_report::Report;
 use pr_wire::{TraceFault, WaveFault};
 use std::alloc::Global;

@@ -1,6 +1,6 @@
 use Rattle.std.proofs.Common.{[], Some}
-use Rattle.pr_cli.specs.Bus.{AnswersBus}
-use Rattle.pr_cli.specs.Pages.{start_of}
+use Rattle.pr_jobs.specs.Bus.{AnswersBus}
+use Rattle.pr_jobs.specs.Pages.{start_of}
 use Rattle.pr_c.proofs.Made.{bus-made, tells}
 use Rattle.pr_c.proofs.calls.bus.Goals as goal
 

@@ -1,6 +1,6 @@
 use Rattle.std.proofs.Common.{[], Some}
-use Rattle.pr_cli.specs.Pages.{AnswersPages}
-use Rattle.pr_cli.specs.Pages.{start_of}
+use Rattle.pr_jobs.specs.Pages.{AnswersPages}
+use Rattle.pr_jobs.specs.Pages.{start_of}
 use Rattle.pr_c.proofs.Made.{pages-made, tells}
 use Rattle.pr_c.proofs.calls.pages.Goals as goal
 

@@ -1,6 +1,6 @@
 use Rattle.std.proofs.Common.{◌∙◌, ap, arith}
 use Rattle.std.proofs.lemmas.List.{take_all}
-use Rattle.pr_cli.specs.Report.{edges_checked}
+use Rattle.pr_jobs.specs.Report.{edges_checked}
 use Rattle.pr_explain.proofs.InputLemmas.{counted_more}
 use Rattle.pr_explain.proofs.input.counted.Goals as goal
 

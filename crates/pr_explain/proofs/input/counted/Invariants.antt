@@ -1,6 +1,6 @@
 use Rattle.std.proofs.Common.{◌≡◌, take}
-use Rattle.pr_cli.specs.Begun.{HasBegun}
-use Rattle.pr_cli.specs.Report.{edges_checked}
+use Rattle.pr_jobs.specs.Begun.{HasBegun}
+use Rattle.pr_jobs.specs.Report.{edges_checked}
 use Rattle.pr_explain.proofs.input.counted.Given as goal
 
 -- the edges so far are counted

@@ -1,5 +1,5 @@
 use Rattle.std.proofs.Common.{◌∙◌, ap}
-use Rattle.pr_cli.specs.Report.{edges_checked}
+use Rattle.pr_jobs.specs.Report.{edges_checked}
 use Rattle.pr_explain.proofs.EdgeLemmas.{trace_place}
 use Rattle.pr_explain.proofs.traces.explain_trace.Goals as goal
 

@@ -1,7 +1,7 @@
 use Rattle.std.proofs.Common.{◌≡◌, ap, arith, false, length, refl, rules, true}
-use Rattle.pr_cli.specs.Check.{trace_limit}
-use Rattle.pr_cli.specs.Inputs.{edges_read}
-use Rattle.pr_cli.specs.InputReads.{StopsWell}
+use Rattle.pr_jobs.specs.Check.{trace_limit}
+use Rattle.pr_jobs.specs.Inputs.{edges_read}
+use Rattle.pr_jobs.specs.InputReads.{StopsWell}
 use Rattle.pr_recording.specs.Captured.{CapturesMore, HasCaptured}
 use Rattle.pr_recording.proofs.Overhearing.{captured_all, captured_before, hears_last, hears_none}
 use Rattle.pr_recording.proofs.bytes.hear_input.Goals as goal

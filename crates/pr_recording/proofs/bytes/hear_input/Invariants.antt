@@ -1,7 +1,7 @@
 use Rattle.std.proofs.Common.{◌≡◌, ◌+◌, ◌<◌, ◌≤◌, false, length, None}
-use Rattle.pr_cli.specs.Check.{trace_limit}
-use Rattle.pr_cli.specs.Inputs.{bytes_left, fault_read, lines_ahead}
-use Rattle.pr_cli.specs.EdgesTaken.{HasTakenAll}
+use Rattle.pr_jobs.specs.Check.{trace_limit}
+use Rattle.pr_jobs.specs.Inputs.{bytes_left, fault_read, lines_ahead}
+use Rattle.pr_jobs.specs.EdgesTaken.{HasTakenAll}
 use Rattle.pr_recording.specs.Captured.{HasCaptured, edges_captured}
 use Rattle.pr_recording.proofs.bytes.hear_input.Given as goal
 

@@ -1,5 +1,5 @@
 use Rattle.pr_recording.proofs.Answering.{checked, err_without, ok_without, own_checked}
-use Rattle.pr_cli.specs.declared.fault.CliFault.TheVariants.{ReadFailed, WriteFailed}
+use Rattle.pr_jobs.specs.declared.fault.CliFault.TheVariants.{ReadFailed, WriteFailed}
 use Rattle.pr_recording.proofs.checked.check_json_over.Goals as goal
 
 pub returns-clause-check : goal.returns-clause-check

@@ -1,5 +1,5 @@
 use Rattle.pr_recording.proofs.Answering.{decoded, err_without, ok_without, own_decoded}
-use Rattle.pr_cli.specs.declared.fault.CliFault.TheVariants.{ReadFailed, WriteFailed}
+use Rattle.pr_jobs.specs.declared.fault.CliFault.TheVariants.{ReadFailed, WriteFailed}
 use Rattle.pr_recording.proofs.decode.decode_input.Goals as goal
 
 pub returns-clause-decode : goal.returns-clause-decode

@@ -1,8 +1,8 @@
 use Rattle.std.proofs.Common.{◌≡◌, ap, arith, false, length, refl, rules, true}
-use Rattle.pr_cli.specs.Inputs.{edges_read}
-use Rattle.pr_cli.specs.InputReads.{StopsWell}
+use Rattle.pr_jobs.specs.Inputs.{edges_read}
+use Rattle.pr_jobs.specs.InputReads.{StopsWell}
 use Rattle.pr_recording.specs.Narrated.{NarratesMore}
-use Rattle.pr_cli.specs.declared.fault.CliFault.TheVariants.{NoMemory}
+use Rattle.pr_jobs.specs.declared.fault.CliFault.TheVariants.{NoMemory}
 use Rattle.pr_recording.proofs.Answering.{at_first, at_last, failed_read, last_refusal, left_unread, left_unwritten, no_write, partly, reading_fault, refused, told_all, told_before, told_none, told_written, unwritten, writing_fault}
 use Rattle.pr_recording.proofs.Coming.{Laws}
 use Rattle.pr_recording.proofs.decode.tell_input.Goals as goal

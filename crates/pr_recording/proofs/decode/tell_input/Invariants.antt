@@ -1,6 +1,6 @@
 use Rattle.std.proofs.Common.{◌≡◌, ◌+◌, ◌*◌, ◌<◌, ◌≤◌, false, length, None}
-use Rattle.pr_cli.specs.Inputs.{bytes_left, fault_read, lines_ahead}
-use Rattle.pr_cli.specs.EdgesTaken.{HasTakenAll}
+use Rattle.pr_jobs.specs.Inputs.{bytes_left, fault_read, lines_ahead}
+use Rattle.pr_jobs.specs.EdgesTaken.{HasTakenAll}
 use Rattle.pr_recording.specs.Narrated.{load}
 use Rattle.pr_recording.proofs.Answering.{HasWritten}
 use Rattle.pr_recording.proofs.decode.tell_input.Given as goal

@@ -1,6 +1,6 @@
 use Rattle.std.proofs.Common.{◌≡◌, ap, arith, false, length, refl, rules, true}
-use Rattle.pr_cli.specs.Inputs.{edges_read}
-use Rattle.pr_cli.specs.InputReads.{StopsWell}
+use Rattle.pr_jobs.specs.Inputs.{edges_read}
+use Rattle.pr_jobs.specs.InputReads.{StopsWell}
 use Rattle.pr_recording.specs.Copied.{CopiesMore, HasCopied}
 use Rattle.pr_recording.proofs.Printing.{no_room, prints_last, prints_none, printed_all, printed_before}
 use Rattle.pr_recording.proofs.pages.print_input.Goals as goal

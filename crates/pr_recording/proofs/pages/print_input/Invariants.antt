@@ -1,6 +1,6 @@
 use Rattle.std.proofs.Common.{◌≡◌, ◌+◌, ◌<◌, ◌≤◌, false, length, None}
-use Rattle.pr_cli.specs.Inputs.{bytes_left, fault_read, lines_ahead}
-use Rattle.pr_cli.specs.EdgesTaken.{HasTakenAll}
+use Rattle.pr_jobs.specs.Inputs.{bytes_left, fault_read, lines_ahead}
+use Rattle.pr_jobs.specs.EdgesTaken.{HasTakenAll}
 use Rattle.pr_recording.specs.Copied.{HasCopied, edges_copied, inputs_printed}
 use Rattle.pr_recording.proofs.pages.print_input.Given as goal
 

@@ -1,5 +1,5 @@
 use Rattle.std.proofs.Common.{◌≡◌, ap, sym, ◌∙◌, Ok}
-use Rattle.pr_cli.specs.Formats.{text_in}
+use Rattle.pr_jobs.specs.Formats.{text_in}
 use Rattle.pr_recording.specs.Copying.{text_of_print}
 use Rattle.pr_recording.proofs.pages.write_pages.Goals as goal
 

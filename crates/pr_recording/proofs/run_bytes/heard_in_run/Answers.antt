@@ -5,7 +5,7 @@ use Rattle.pr_basic.specs.declared.statement.Statement.{Statement}
 use Rattle.pr_basic.specs.Grammar.{IsScript}
 use Rattle.pr_receiver.specs.Heard.{heard_of}
 use Rattle.pr_system.specs.StepByStep.{stepped_through}
-use Rattle.pr_cli.specs.Pages.{Start}
+use Rattle.pr_jobs.specs.Pages.{Start}
 use Rattle.pr_recording.specs.Logged.{AreHeard}
 use Rattle.pr_recording.proofs.RunAnswering.{run_given}
 use Rattle.pr_recording.proofs.run_bytes.heard_in_run.Goals as goal

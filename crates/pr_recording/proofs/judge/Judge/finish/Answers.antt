@@ -1,5 +1,5 @@
 use Rattle.std.proofs.Common.{◌∙◌}
-use Rattle.pr_cli.specs.Report.{edges_checked}
+use Rattle.pr_jobs.specs.Report.{edges_checked}
 use Rattle.pr_recording.proofs.judge.Judge.finish.Goals as goal
 
 pub returns : goal.returns

@@ -1,0 +1,32 @@
+-- The first bytes of an input, and all of it.
+use Rattle.std.proofs.Common.{◌≡◌, ◌≤◌, ℕ, List, ◌++◌, length, take, ap, sym, ◌∙◌, arith, Option, Some, None, IfSome, append-nil}
+use Rattle.std.proofs.lemmas.List.{take_all, take-append-le}
+use Rattle.std.specs.Io.KnownBytes.{Consumes, IsAtEnd}
+use Rattle.std.specs.Fmt.{option_append}
+
+-- at the end of the input the bytes so far are its first bytes
+pub all_first : (limit : ℕ) (a b c : Option (List ℕ)) (first f : List ℕ) (n : ℕ) → n ≡ 0 → Consumes a b first → Consumes b c (take n f) → IsAtEnd c
+    → length first ≤ limit → IfSome a (λ s. first ≡ take limit s)
+all_first limit None b c first f n z h k e within = tt
+all_first limit (Some xs) None c first f n z h k e within = absurd h
+all_first limit (Some xs) (Some ys) None first f n z h k e within = absurd k
+all_first limit (Some xs) (Some ys) (Some zs) first f n z h k e within =
+    let none : ys ≡ take 0 f ++ zs = rw z at k in
+    let whole : xs ≡ first = h ∙ ap (λ l. first ++ l) (none ∙ e) ∙ append-nil first in
+    sym (ap (λ l. take limit l) whole ∙ take_all limit first within)
+
+-- as many as are wanted are the first bytes
+pub enough_first : (limit : ℕ) (a b : Option (List ℕ)) (first : List ℕ) → Consumes a b first → limit ≡ length first → IfSome a (λ s. first ≡ take limit s)
+enough_first limit None b first h e = tt
+enough_first limit (Some xs) None first h e = absurd h
+enough_first limit (Some xs) (Some ys) first h e =
+    sym (ap (λ l. take limit l) h ∙ take-append-le limit first ys (omega (arith, e)) ∙ take_all limit first (omega (arith, e)))
+
+-- what holds of the first bytes and the rest holds of all
+pub of_whole : (a b whole : Option (List ℕ)) (first : List ℕ) (P Q R : List ℕ → Type 0) → Consumes a b first → whole ≡ option_append (Some first) b
+    → IfSome a P → IfSome whole Q → ((xs : List ℕ) → P xs → Q xs → R xs) → IfSome a R
+of_whole None b whole first P Q R h e p q both = tt
+of_whole (Some xs) None whole first P Q R h e p q both = absurd h
+of_whole (Some xs) (Some ys) whole first P Q R h e p q both =
+    let known : IfSome (Some (first ++ ys)) Q = rw e at q in
+    both xs p (rw h known)

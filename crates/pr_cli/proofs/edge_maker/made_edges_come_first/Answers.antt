@@ -1,5 +1,0 @@
-use Rattle.pr_cli.proofs.EdgeLemmas.{made_first}
-use Rattle.pr_cli.proofs.edge_maker.made_edges_come_first.Goals as goal
-
-pub returns : goal.returns
-returns c = made_first c.given_edges_come_first.ensures

@@ -1,6 +1,0 @@
-use Rattle.pr_cli.proofs.InputLemmas.{ends_well}
-use Rattle.pr_cli.proofs.edge_reader.end_source.Goals as goal
-
-pub returns-in_ok-push_last-in-Ok-clause-says : goal.returns-in_ok-push_last-in-Ok-clause-says
-returns-in_ok-push_last-in-Ok-clause-says c =
-    ends_well c.args.reader c.args.maker c.push_sample.new.maker c.args.edges.now.items _ _ c.in-Ok.sample c.in-Ok.ensures c.in_ok-push_sample-in-Ok.ensures.known c.in_ok-push_last-in-Ok.ensures.known

@@ -1,0 +1,251 @@
+-- Trusted: what the program answers for each job, what it leaves in the reader and in the writer,
+-- and with which exit status it ends. The answer uses the printers present, the delays, the mode, the input, the character set
+-- and the output of the job, and the shapes of characters that it is given.
+use Rattle.std.specs.Prelude.{◌≡◌, ◌⊎◌, ◌≤◌, ◌-◌, ℕ, Bool, true, false, List, length, Option, Some, None, take, Result, Ok, Err}
+use Rattle.pr_capture.specs.declared.format.Source.{Source}
+use Rattle.pr_capture.specs.declared.format.Source.TheVariants as source
+use Rattle.pr_capture.specs.declared.format.TraceInput.{TraceInput}
+use Rattle.pr_report.specs.declared.oddities.Oddities.{Oddities}
+use Rattle.pr_report.specs.declared.report.Report.{Report}
+use Rattle.pr_report.specs.declared.report.Report.TheVariants as report
+use Rattle.pr_dots.specs.declared.character_sets.Shapes.{Shapes}
+use Rattle.pr_listing.specs.declared.form.ListingForm.{ListingForm}
+use Rattle.pr_listing.specs.declared.form.ListingForm.TheVariants.{Text}
+use Rattle.pr_listing.specs.declared.input.TextFault.{TextFault}
+use Rattle.pr_listing.specs.Forms.{HasText}
+use Rattle.pr_listing.specs.Inputs.{IsTextFault}
+use Rattle.pr_options.specs.declared.command_line.Job.{Job}
+use Rattle.pr_options.specs.declared.command_line.Job.TheVariants.{Pages, Bus, Check, Decode, Raw}
+use Rattle.pr_options.specs.declared.outputs.CheckOutput.{CheckOutput}
+use Rattle.pr_options.specs.declared.outputs.CheckOutput.TheVariants as checked
+use Rattle.pr_options.specs.declared.outputs.DecodeOutput.{DecodeOutput}
+use Rattle.pr_options.specs.declared.outputs.DecodeOutput.TheVariants as reading
+use Rattle.pr_options.specs.declared.outputs.PagesOutput.{PagesOutput}
+use Rattle.pr_options.specs.declared.outputs.PagesOutput.TheVariants as output
+use Rattle.pr_options.specs.Found.{found_source}
+use Rattle.pr_jobs.specs.declared.fault.CliFault.{CliFault}
+use Rattle.pr_jobs.specs.declared.pages.Ending.{Ending}
+use Rattle.pr_jobs.specs.declared.pages.Ending.TheVariants.{Done}
+use Rattle.pr_jobs.specs.Pages.{AnswersPages, IsPagesFault, IsRunFault, ReadsToEnd, Start, WritesNothing, script_limit, start_of}
+use Rattle.pr_jobs.specs.Bus.{AnswersBus, WritesNoEdge}
+use Rattle.pr_jobs.specs.Check.{AnswersCheck, trace_limit}
+use Rattle.pr_jobs.specs.Report.{AnswersReport, IsReportFault, WritesNoReport}
+use Rattle.pr_jobs.specs.Report as check
+use Rattle.pr_jobs.specs.Raw.{AnswersRaw, IsRawFault}
+use Rattle.pr_recording.specs.declared.byte_log.Heard.{Heard}
+use Rattle.pr_recording.specs.declared.wording.Wording.TheVariants.{Lines}
+use Rattle.pr_recording.specs.Bytes.{AnswersBytes, HasReadBytes}
+use Rattle.pr_recording.specs.Checked.{AnswersJson}
+use Rattle.pr_recording.specs.Decoded.{AnswersDecode, AnswersDecodeJson, IsDecodeFault, without_odd}
+use Rattle.pr_recording.specs.Decoded as decode
+use Rattle.pr_recording.specs.Pages as reprint
+use Rattle.pr_recording.specs.RunBytes.{AnswersRunBytes}
+use Rattle.pr_cli.specs.declared.jobs.Answer.{Answer}
+use Rattle.pr_cli.specs.declared.jobs.Answer.TheVariants as answer
+use Rattle.pr_cli.specs.Statuses.{job_status, text_status}
+
+-- a job whose recording's format has to be found, with the format that the first bytes show; all else of it stays
+abbrev pub found_job : (first : List ℕ) → Job → Job
+found_job first (Decode true input f) = Decode false (record input { source = found_source input.source first }) f
+found_job first job = job
+
+-- a job with another start of its trace, where it reads one; all else of it stays
+abbrev pub restarted_job : (start : ℕ) → Job → Job
+restarted_job start (Check input r) = Check (record input { start = start }) r
+restarted_job start (Decode is_found input f) = Decode is_found (record input { start = start }) f
+restarted_job start job = job
+
+-- what `check` answers: the frames of a trace text, or else a report on an input of any format
+abbrev pub AnswersFrames :
+    TraceInput → Source → Report → List ℕ → Option (List ℕ) → Option (List ℕ)
+    → Result (Unit {0}) CliFault → Type 0
+AnswersFrames input source.Text report.Frames text old new result = AnswersCheck text old new result
+AnswersFrames input _ r text old new result = AnswersReport input r text old new result
+
+-- or its readings as JSON
+abbrev pub AnswersTrace :
+    TraceInput → CheckOutput → List ℕ → Option (List ℕ) → Option (List ℕ) → Result (Unit {0}) CliFault → Type 0
+AnswersTrace input (checked.Report r) text old new result = AnswersFrames input input.source r text old new result
+AnswersTrace input checked.Json text old new result = AnswersJson input text old new result
+
+-- an answer without a printer's bytes
+abbrev pub IsPlain : (Result Ending CliFault → Type 0) → Result Answer CliFault → Type 0
+IsPlain answers (Ok (answer.Ended ending)) = answers (Ok ending)
+IsPlain answers (Ok _) = ⊥
+IsPlain answers (Err fault) = answers (Err fault)
+
+-- an answer with a printer's bytes
+abbrev pub IsHeard : (Result (Ending × Heard) CliFault → Type 0) → Result Answer CliFault → Type 0
+IsHeard answers (Ok (answer.Heard ending heard)) = answers (Ok (ending, heard))
+IsHeard answers (Ok _) = ⊥
+IsHeard answers (Err fault) = answers (Err fault)
+
+-- an answer that no BASIC error can stop: it is done, or has a fault
+abbrev pub IsDone : (Result (Unit {0}) CliFault → Type 0) → Result Answer CliFault → Type 0
+IsDone answers (Ok (answer.Ended Done)) = answers (Ok tt)
+IsDone answers (Ok _) = ⊥
+IsDone answers (Err fault) = answers (Err fault)
+
+-- the same with a printer's bytes in a recording, and with what is odd about it
+abbrev pub IsOverheard : (Result (Heard × Oddities) CliFault → Type 0) → Result Answer CliFault → Type 0
+IsOverheard answers (Ok (answer.Overheard heard odd)) = answers (Ok (heard, odd))
+IsOverheard answers (Ok _) = ⊥
+IsOverheard answers (Err fault) = answers (Err fault)
+
+-- the same with what is odd about a recording whose pages or JSON do not say it
+abbrev pub IsRemarked : (Result Oddities CliFault → Type 0) → Result Answer CliFault → Type 0
+IsRemarked answers (Ok (answer.Remarked odd)) = answers (Ok odd)
+IsRemarked answers (Ok _) = ⊥
+IsRemarked answers (Err fault) = answers (Err fault)
+
+-- what `pages` answers: the pages of a script, or the bytes that a printer hears in its run
+abbrev pub AnswersRun :
+    Shapes → Start → PagesOutput → List ℕ → Option (List ℕ) → Option (List ℕ) → Result Answer CliFault → Type 0
+AnswersRun shapes start (output.Pages f) text old new result = IsPlain (AnswersPages shapes start f text old new) result
+AnswersRun shapes start (output.Bytes device) text old new result = IsHeard (AnswersRunBytes start device text old new) result
+
+-- what `decode` answers: the readings of a recording, the bytes that a printer hears in it, or the pages that printers print of it
+abbrev pub AnswersRecording :
+    Shapes → TraceInput → DecodeOutput → List ℕ → Option (List ℕ) → Option (List ℕ) → Result Answer CliFault → Type 0
+AnswersRecording shapes input (reading.Readings detail) text old new result =
+    IsDone (AnswersDecode trace_limit (Lines detail) input text old new) result
+AnswersRecording shapes input reading.Json text old new result =
+    IsRemarked (AnswersDecodeJson input text old new) result
+AnswersRecording shapes input (reading.Bytes device) text old new result =
+    IsOverheard (AnswersBytes input device text old new) result
+AnswersRecording shapes input (reading.Pages f) text old new result =
+    IsRemarked (reprint.AnswersPages shapes input f text old new) result
+
+-- the answer of a job, by the input's bytes and by what the writer held before and after; for a run
+-- they are the bytes of a script text, also where the listing has another form; the format of a
+-- recording is the input's, also where it was found in the first bytes
+abbrev pub AnswersJob :
+    Shapes → Job → List ℕ → Option (List ℕ) → Option (List ℕ) → Result Answer CliFault → Type 0
+AnswersJob shapes (Pages form present delays mode output) text old new result =
+    AnswersRun shapes (start_of present delays mode) output text old new result
+AnswersJob shapes (Bus form present delays mode f) text old new result =
+    IsPlain (AnswersBus (start_of present delays mode) f text old new) result
+AnswersJob shapes (Check input output) text old new result =
+    IsDone (AnswersTrace input output text old new) result
+AnswersJob shapes (Decode is_found input output) text old new result =
+    AnswersRecording shapes input output text old new result
+AnswersJob shapes (Raw lower f) text old new result =
+    IsDone (AnswersRaw shapes lower f text old new) result
+
+-- how the program ends a job: the writer holds what an answer of the job leaves in it, and the exit status is that answer's; an
+-- answer that is always allowed is `NoMemory`, where at most a beginning was written
+abbrev pub EndsJob : Shapes → Job → List ℕ → Option (List ℕ) → Option (List ℕ) → (status : ℕ) → Type 0
+EndsJob shapes job text old new status =
+    (answer : Result Answer CliFault) × AnswersJob shapes job text old new answer × (status ≡ job_status answer)
+
+-- the form of the listing that a job reads; an input that is no listing is read as it is
+abbrev pub form_of : Job → ListingForm
+form_of (Pages form present delays mode output) = form
+form_of (Bus form present delays mode f) = form
+form_of _ = Text
+
+-- whether a job has to find the format of its recording
+abbrev pub finds_format : Job → Bool
+finds_format (Decode is_found input output) = is_found
+finds_format _ = false
+
+-- how it ends a job that reads a listing in this form: by the text that the listing has, or it gets no text of it, and writes nothing
+abbrev pub EndsListing : Shapes → Job → ListingForm → List ℕ → Option (List ℕ) → Option (List ℕ) → (status : ℕ) → Type 0
+EndsListing shapes job form bytes old new status =
+    ((text : List ℕ) × (length bytes ≤ script_limit) × HasText form bytes text × EndsJob shapes job text old new status)
+    ⊎ ((fault : TextFault) × IsTextFault form script_limit bytes fault × (new ≡ old) × (status ≡ text_status fault))
+
+-- how it ends a job on an input's bytes: by the bytes themselves where the form is a script's text, else as a listing
+abbrev pub EndsInput : Shapes → Job → ListingForm → List ℕ → Option (List ℕ) → Option (List ℕ) → (status : ℕ) → Type 0
+EndsInput shapes job Text bytes old new status = EndsJob shapes job bytes old new status
+EndsInput shapes job form bytes old new status = EndsListing shapes job form bytes old new status
+
+-- how many bytes of a recording show its format, at most
+abbrev pub first_bytes : ℕ
+first_bytes = 4096
+
+-- a job reads a table
+abbrev pub is_csv : Source → Bool
+is_csv source.Csv = true
+is_csv _ = false
+
+abbrev pub reads_table : Job → Bool
+reads_table (Check input output) = is_csv input.source
+reads_table (Decode is_found input output) = is_csv input.source
+reads_table _ = false
+
+-- a job starts where it says, or so long before its recording's own moment 0, which only a table has later than at its first moment
+abbrev pub IsStarted : (before : Option ℕ) → (job started : Job) → Type 0
+IsStarted None job started = started ≡ job
+IsStarted (Some before) job started =
+    (zero : ℕ) × (reads_table job ≡ false → zero ≡ 0) × (started ≡ restarted_job (zero - before) job)
+
+-- how it ends a job on a recording's bytes in the format that the first of them show, where the job has to find it, and from its
+-- start; or it does not get so far, and writes nothing
+abbrev pub EndsRecording : Shapes → (before : Option ℕ) → Job → List ℕ → Option (List ℕ) → Option (List ℕ) → (status : ℕ) → Type 0
+EndsRecording shapes before job bytes old new status =
+    ((started : Job) × IsStarted before (found_job (take first_bytes bytes) job) started × EndsJob shapes started bytes old new status)
+    ⊎ ((status ≡ 3) × (new ≡ old))
+
+-- the same where only its format may have to be found; every other job is ended as its input asks for
+abbrev pub EndsFound : Shapes → (is_to_find : Bool) → Job → List ℕ → Option (List ℕ) → Option (List ℕ) → (status : ℕ) → Type 0
+EndsFound shapes true job bytes old new status = EndsRecording shapes None job bytes old new status
+EndsFound shapes false job bytes old new status = EndsInput shapes job (form_of job) bytes old new status
+
+-- how it ends a job on an input's bytes
+abbrev pub EndsWork : Shapes → (before : Option ℕ) → Job → List ℕ → Option (List ℕ) → Option (List ℕ) → (status : ℕ) → Type 0
+EndsWork shapes (Some before) job bytes old new status = EndsRecording shapes (Some before) job bytes old new status
+EndsWork shapes None job bytes old new status = EndsFound shapes (finds_format job) job bytes old new status
+
+-- Whatever the reader gives.
+
+-- a fault of a run, and of its pages where they are asked for
+abbrev pub IsPrintFault : PagesOutput → CliFault → Type 0
+IsPrintFault (output.Pages f) fault = IsPagesFault fault
+IsPrintFault (output.Bytes device) fault = IsRunFault fault
+
+-- a fault of a recording, and of its pages where they are asked for
+abbrev pub IsRecordingFault : DecodeOutput → CliFault → Type 0
+IsRecordingFault (reading.Pages f) fault = reprint.IsReprintFault fault
+IsRecordingFault _ fault = IsDecodeFault fault
+
+-- a fault of the job; lack of memory is always `NoMemory` itself
+abbrev pub IsJobFault : Job → CliFault → Type 0
+IsJobFault (Pages form present delays mode output) fault = IsPrintFault output fault
+IsJobFault (Bus form present delays mode f) fault = IsRunFault fault
+IsJobFault (Check input output) fault = IsReportFault fault
+IsJobFault (Decode is_found input output) fault = IsRecordingFault output fault
+IsJobFault (Raw lower f) fault = IsRawFault fault
+
+-- a recording has been read to its end, unless it has a fault
+abbrev pub ReadsRecording : DecodeOutput → Option (List ℕ) → Result Answer CliFault → Type 0
+ReadsRecording (reading.Bytes device) left result = IsOverheard (HasReadBytes left) result
+ReadsRecording (reading.Pages f) left result = IsRemarked (reprint.ReadsPages left) result
+ReadsRecording reading.Json left result = IsRemarked (λ answer. decode.ReadsAll left (without_odd answer)) result
+ReadsRecording _ left result = IsDone (decode.ReadsAll left) result
+
+-- a trace has been read to its end where it is accepted, and where its edges are refused
+abbrev pub ReadsTrace : CheckOutput → Option (List ℕ) → Result (Unit {0}) CliFault → Type 0
+ReadsTrace (checked.Report r) left result = check.ReadsAll r left result
+ReadsTrace checked.Json left result = check.ReadsAll report.Story left result
+
+-- the input has been read to its end, unless the job's subcommand ends earlier
+abbrev pub ReadsInput : Job → Option (List ℕ) → Result Answer CliFault → Type 0
+ReadsInput (Pages form present delays mode output) left result = ReadsToEnd left result
+ReadsInput (Bus form present delays mode f) left result = ReadsToEnd left result
+ReadsInput (Check input output) left result = IsDone (ReadsTrace output left) result
+ReadsInput (Decode is_found input output) left result = ReadsRecording output left result
+ReadsInput (Raw lower f) left result = ReadsToEnd left result
+
+-- a refused trace leaves the writer's bytes as they were, unless JSON is written while it is read
+abbrev pub KeepsTrace : CheckOutput → Option (List ℕ) → Option (List ℕ) → Result (Unit {0}) CliFault → Type 0
+KeepsTrace (checked.Report r) old new result = WritesNoReport r old new result
+KeepsTrace checked.Json old new result = Unit {0}
+
+-- a refusal leaves the writer's bytes as they were, unless the job's subcommand writes while it reads
+abbrev pub KeepsOutput : Job → Option (List ℕ) → Option (List ℕ) → Result Answer CliFault → Type 0
+KeepsOutput (Pages form present delays mode output) old new result = WritesNothing old new result
+KeepsOutput (Bus form present delays mode f) old new result = IsPlain (WritesNoEdge old new) result
+KeepsOutput (Check input output) old new result = IsDone (KeepsTrace output old new) result
+KeepsOutput (Decode is_found input output) old new result = Unit {0}
+KeepsOutput (Raw lower f) old new result = WritesNothing old new result

@@ -1,0 +1,534 @@
+//! A task done: its files opened, its job done over them, and what there is to say on standard error.
+
+ghost use Rattle.std.specs.Prelude.{◌≡◌, None, take, IfErr, IfOk, IfSome};
+ghost use Rattle.std.specs.Io.KnownBytes.{Consumes};
+ghost use Rattle.pr_input.specs.Watched.{wrapped};
+ghost use Rattle.pr_cli.specs.Answered.{EndsTask};
+ghost use Rattle.pr_cli.specs.Jobs.{EndsJob, EndsListing, EndsRecording, EndsWork, IsStarted, finds_format, first_bytes, form_of, found_job};
+ghost use Rattle.pr_cli.specs.Statuses.{answer_status, fault_status, job_status, text_status};
+
+use crate::characters::{shapes_for, shapes_given};
+use crate::jobs::{Answer, do_job, found_job};
+use crate::outside::Outside;
+use crate::progress::{Progress, clear};
+use crate::starts::started_job;
+use crate::statuses::{FAILED, ending_status, fault_status, is_answered, text_status};
+use crate::told::{Subject, show_oddities, subject_of, tell_heard, tell_listing, tell_more};
+use pr_jobs::{CliFault, Ending, SCRIPT_LIMIT, TeeReader, Watched};
+use pr_dots::Shapes;
+use pr_files::{Noting, save};
+use pr_listing::{ListingForm, TextFault, read_text};
+use pr_options::{Job, Task};
+use std::alloc::Global;
+use std::cell::Cell;
+use std::fs::{File, Files, OpenFile};
+use std::io;
+use std::io::{Error, ErrorKind, Read, Write};
+use std::time::Clock;
+
+/// How many bytes of a recording show its format, at most.
+const FIRST: usize = 4096;
+
+/// The names of a task's files; None of standard input and of standard output.
+#[derive(Clone, Copy)]
+struct Names<'a> {
+    input: Option<&'a str>,
+    output: Option<&'a str>,
+}
+
+/// A job, and the shapes in which it draws characters.
+#[derive(Drop)]
+struct Work<'a> {
+    job: Job<'a>,
+    /// How long before its recording's own moment 0 the trace starts, if it does, in microseconds.
+    before: Option<u64>,
+    shapes: &'a Shapes,
+}
+
+/// How a task is done, beside its job.
+#[derive(Clone, Copy)]
+pub struct Manner {
+    /// An explanation follows a refusal or an error.
+    pub is_explained: bool,
+    /// Standard input is a terminal.
+    pub is_typed: bool,
+    /// Standard error is a terminal.
+    pub is_watched: bool,
+    /// Standard output is a terminal.
+    pub is_seen: bool,
+}
+
+/// What goes to standard error beside a fault.
+#[derive(Clone, Copy)]
+struct Aside<'a> {
+    /// An explanation follows a refusal or an error.
+    is_explained: bool,
+    /// The input can be read a second time for that: it is a file by name, and no pipe or device. Any other is kept.
+    is_file: bool,
+    /// How many bytes have come of the input.
+    count: &'a Cell<u64>,
+    /// A number of bytes read is on the terminal, to be cleared before anything else is said.
+    is_shown: &'a Cell<bool>,
+}
+
+/// Opens the files that a task names, does its job and gives the exit status. The file of characters is read first: where it
+/// has none, no other file is opened, and nothing is read.
+pub fn answer_task(
+    rt: &(impl Files + Clock + Input + Print + Eprint + AllocGlobal),
+    task: Task<'_>,
+    manner: Manner,
+) -> u8 {
+    let Task {
+        job,
+        before,
+        input,
+        output,
+        characters,
+    } = task;
+    let shapes = match shapes_for(rt, characters) {
+        Ok(shapes) => shapes,
+        Err(status) => return status,
+    };
+    let work = Work {
+        job,
+        before,
+        shapes: &shapes,
+    };
+    let names = Names {
+        input,
+        output: output.filter(|name| !is_standard_output(name)),
+    };
+    let is_shown = Cell::new(false);
+    let count = Cell::new(0);
+    let aside = Aside {
+        is_explained: manner.is_explained,
+        is_file: false,
+        count: &count,
+        is_shown: &is_shown,
+    };
+    let is_apart = manner.is_watched && (names.output.is_some() || !manner.is_seen);
+    let Some(name) = input else {
+        if manner.is_typed {
+            tell_waiting(rt, &work.job);
+        }
+        let is_watched = is_apart && !manner.is_typed;
+        let reader = Progress::new(rt, rt.reader(), is_watched, &count, &is_shown);
+        return answer_from(rt, reader, names, work, aside);
+    };
+    match File::open(rt, name) {
+        Ok(file) => {
+            let is_file = manner.is_explained && is_regular(&file);
+            let reader = Progress::new(rt, file, is_apart, &count, &is_shown);
+            answer_from(rt, reader, names, work, Aside { is_file, ..aside })
+        }
+        Err(error) => tell_file(rt, name, &error),
+    }
+}
+
+/// Does a task over an input in memory, with the bytes of the file of characters, where it names one. Gives the exit status
+/// and what is written.
+pub fn answer_given(
+    rt: &(impl Outside + Eprint + AllocGlobal),
+    task: Task<'_>,
+    is_explained: bool,
+    input: &[u8],
+    characters: &[u8],
+) -> (u8, Vec<u8>)
+    ensures { EndsTask task.entry input.now characters.now result.1.items result.0 }
+{
+    let writer = Vec::new(rt.alloc());
+    let shapes = match shapes_given(rt, task.characters, characters) {
+        Ok(shapes) => shapes,
+        Err(status) => return (status, writer),
+    };
+    let names = Names {
+        input: task.input,
+        output: None,
+    };
+    let work = Work {
+        job: task.job,
+        before: task.before,
+        shapes: &shapes,
+    };
+    let is_shown = Cell::new(false);
+    let count = Cell::new(0);
+    let aside = Aside {
+        is_explained,
+        is_file: false,
+        count: &count,
+        is_shown: &is_shown,
+    };
+    answer_job(rt, input, writer, names, work, aside)
+}
+
+/// Whether an open file is no pipe, device or the like, so that its bytes can be read again.
+fn is_regular(file: &impl OpenFile) -> bool {
+    match file.metadata() {
+        Ok(metadata) => metadata.is_file(),
+        Err(_) => false,
+    }
+}
+
+/// Whether a file's name is one of standard output's, which is written on: its file is not replaced.
+fn is_standard_output(name: &str) -> bool {
+    matches!(name, "/dev/stdout" | "/dev/fd/1" | "/proc/self/fd/1")
+}
+
+/// Says on standard error what a run waits for whose input comes from a terminal.
+pub fn tell_waiting(rt: &impl Eprint, job: &Job<'_>) {
+    let input = match job {
+        Job::Pages(..) | Job::Bus(..) => "a script",
+        Job::Check(..) => "a trace",
+        Job::Decode { .. } => "a recording",
+        Job::Raw { .. } => "a printer's bytes",
+    };
+    let _ = rt.eprintln(format_args!(
+        "print1525: reading {input} from the terminal; Ctrl-D on a new line ends it"
+    ));
+}
+
+/// Does a job over a reader and gives the exit status. A file that is written is put in its place
+/// only where the job is done or a BASIC error stopped it.
+fn answer_from<R: Read + Drop>(
+    rt: &(impl Files + Print + Eprint + AllocGlobal),
+    reader: R,
+    names: Names<'_>,
+    work: Work<'_>,
+    aside: Aside<'_>,
+) -> u8 {
+    let Some(name) = names.output else {
+        let (status, _output) = answer_job(rt, reader, io::writer(rt), names, work, aside);
+        return status;
+    };
+    let saving = match save(rt, name) {
+        Ok(saving) => saving,
+        Err(error) => return tell_file(rt, name, &error),
+    };
+    let (status, saving) = answer_job(rt, reader, saving, names, work, aside);
+    if is_answered(status) {
+        match saving.keep(rt) {
+            Ok(()) => status,
+            Err(error) => tell_file(rt, name, &error),
+        }
+    } else {
+        saving.discard(rt);
+        status
+    }
+}
+
+/// Does a job over a reader and a writer, and gives the exit status and the writer. A listing in
+/// another form is made a script's text first, and a recording's format or own moment 0 is found first.
+fn answer_job<R: Read + Drop, W: Write + Drop>(
+    rt: &(impl Outside + Eprint + AllocGlobal),
+    reader: R,
+    writer: W,
+    names: Names<'_>,
+    work: Work<'_>,
+    aside: Aside<'_>,
+) -> (u8, W)
+    ensures { IfSome (R.remaining reader) (λ bytes. EndsWork work.entry.shapes.now work.entry.before work.entry.job bytes
+        (W.contents writer) (W.contents result.1) result.0) }
+{
+    if let Some(_) = work.before {
+        return answer_recording(rt, reader, writer, names, work, aside);
+    }
+    if is_to_find(&work.job) {
+        return answer_recording(rt, reader, writer, names, work, aside);
+    }
+    match form_of(&work.job) {
+        ListingForm::Text => answer_over(rt, reader, writer, names, work, aside),
+        ListingForm::Program => {
+            answer_listing(rt, reader, writer, names, ListingForm::Program, work, aside)
+        }
+        ListingForm::Petcat => {
+            answer_listing(rt, reader, writer, names, ListingForm::Petcat, work, aside)
+        }
+    }
+}
+
+/// Whether a job has to find the format of its recording.
+fn is_to_find(job: &Job<'_>) -> bool
+    ensures { result ≡ finds_format job.now }
+{
+    matches!(job, Job::Decode { is_found: true, .. })
+}
+
+/// Does a job in the format, and from the moment, that a recording's first bytes show.
+fn answer_recording<R: Read + Drop, W: Write + Drop>(
+    rt: &(impl Outside + Eprint + AllocGlobal),
+    reader: R,
+    writer: W,
+    names: Names<'_>,
+    work: Work<'_>,
+    aside: Aside<'_>,
+) -> (u8, W)
+    ensures { IfSome (R.remaining reader) (λ bytes. EndsRecording work.entry.shapes.now work.entry.before work.entry.job bytes
+        (W.contents writer) (W.contents result.1) result.0) }
+{
+    let mut input = Watched::new(Noting::new(reader));
+    match found_work(rt.alloc(), work, &mut input) {
+        Ok((work, first)) => {
+            let whole = first.as_slice().chain(input.into_inner());
+            answer_over(rt, whole, writer, names, work, aside)
+        }
+        Err(CliFault::ReadFailed) => {
+            let error = input.into_inner().error();
+            clear(rt, aside.is_shown);
+            (
+                tell_failed(rt, CliFault::ReadFailed, names.input, error),
+                writer,
+            )
+        }
+        Err(fault) => {
+            clear(rt, aside.is_shown);
+            (tell(rt, fault), writer)
+        }
+    }
+}
+
+/// What to do, by the first bytes of a recording, and these bytes.
+fn found_work<'a, R: Read>(
+    alloc: Global,
+    work: Work<'a>,
+    input: &mut Watched<R>,
+) -> Result<(Work<'a>, Vec<u8>), CliFault>
+    ensures taken { IfOk result (λ found. Consumes (R.remaining (wrapped input.old)) (R.remaining (wrapped input.new)) found.1.items) }
+    ensures work { IfOk result (λ found. IfSome (R.remaining (wrapped input.old)) (λ bytes.
+        IsStarted work.entry.before (found_job (take first_bytes bytes) work.entry.job) found.0.job)) }
+    ensures shapes { IfOk result (λ found. found.0.shapes ≡ work.entry.shapes) }
+    ensures refused { IfErr result (λ fault. fault_status fault ≡ 3) }
+{
+    let Work {
+        job,
+        before,
+        shapes,
+    } = work;
+    let mut first = read_first(alloc, input)?;
+    let job = found_job(job, first.as_slice());
+    let job = match before {
+        Some(before) => started_job(alloc, job, input, &mut first, before)?,
+        None => job,
+    };
+    let work = Work {
+        job,
+        before: None,
+        shapes,
+    };
+    Ok((work, first))
+}
+
+/// The first bytes of an input: 4096, or all where there are fewer.
+fn read_first<R: Read>(alloc: Global, input: &mut Watched<R>) -> Result<Vec<u8>, CliFault>
+    ensures taken { IfOk result (λ first. Consumes (R.remaining (wrapped input.old)) (R.remaining (wrapped input.new)) first.items) }
+    ensures front { IfOk result (λ first. IfSome (R.remaining (wrapped input.old)) (λ bytes. first.items ≡ take first_bytes bytes)) }
+    ensures refused { IfErr result (λ fault. fault_status fault ≡ 3) }
+{
+    let mut first = Vec::new(alloc);
+    let mut block = [0u8; FIRST];
+    'reads: while first.len() < FIRST {
+        let wanted = FIRST - first.len();
+        match input.read(&mut block[..wanted]) {
+            Ok(0) => return Ok(first),
+            Ok(n) => {
+                if first.extend_from_slice(&block[..n]).is_err() {
+                    return Err(CliFault::NoMemory);
+                }
+            }
+            Err(_) => return Err(CliFault::ReadFailed),
+        }
+    }
+    Ok(first)
+}
+
+/// Does a job over the text of a listing in another form.
+fn answer_listing<R: Read + Drop, W: Write + Drop>(
+    rt: &(impl Outside + Eprint + AllocGlobal),
+    reader: R,
+    writer: W,
+    names: Names<'_>,
+    form: ListingForm,
+    work: Work<'_>,
+    aside: Aside<'_>,
+) -> (u8, W)
+    ensures { IfSome (R.remaining reader) (λ bytes. EndsListing work.entry.shapes.now work.entry.job form bytes
+        (W.contents writer) (W.contents result.1) result.0) }
+{
+    let kept = TeeReader::new(rt.alloc(), reader, aside.is_explained);
+    let mut input = Watched::new(Noting::new(kept));
+    match read_text(rt.alloc(), &mut input, form, SCRIPT_LIMIT) {
+        Ok(text) => {
+            let aside = Aside {
+                is_file: false,
+                ..aside
+            };
+            answer_over(rt, text.as_slice(), writer, names, work, aside)
+        }
+        Err(fault) => {
+            let input = input.into_inner();
+            clear(rt, aside.is_shown);
+            let status = refuse_listing(rt, fault, names.input, input.error());
+            if let Some(bytes) = input.into_inner().into_bytes() {
+                tell_listing(rt, bytes.as_slice(), fault);
+            }
+            (status, writer)
+        }
+    }
+}
+
+/// The form of the listing that a job reads; an input that is no listing is read as it is.
+fn form_of(job: &Job<'_>) -> ListingForm
+    ensures { result ≡ form_of job.now }
+{
+    match job {
+        Job::Pages(form, _, _, _, _) | Job::Bus(form, _, _, _, _) => *form,
+        Job::Check(..) | Job::Decode { .. } | Job::Raw { .. } => ListingForm::Text,
+    }
+}
+
+/// Does a job over a reader and a writer, and gives the exit status and the writer. Where more is to
+/// be said, the input is kept, since a trace text's first bad line may be its last; a file is read again instead, when the
+/// job has freed what it kept.
+fn answer_over<R: Read + Drop, W: Write + Drop>(
+    rt: &(impl Outside + Eprint + AllocGlobal),
+    reader: R,
+    writer: W,
+    names: Names<'_>,
+    work: Work<'_>,
+    aside: Aside<'_>,
+) -> (u8, W)
+    ensures { IfSome (R.remaining reader) (λ text. EndsJob work.entry.shapes.now work.entry.job text
+        (W.contents writer) (W.contents result.1) result.0) }
+{
+    let Work { job, shapes, .. } = work;
+    let subject = subject_of(&job);
+    let is_kept = aside.is_explained && !aside.is_file;
+    let kept = TeeReader::new(rt.alloc(), reader, is_kept);
+    let mut input = Watched::new(Noting::new(kept));
+    let mut output = Watched::new(Noting::new(writer));
+    let answer = do_job(rt.alloc(), &mut input, &mut output, job, shapes);
+    clear(rt, aside.is_shown);
+    let input = input.into_inner();
+    let output = output.into_inner();
+    let status = tell_end(rt, subject, names, answer, input.error(), output.error());
+    let bytes = match names.input {
+        Some(name) if aside.is_file => rt.again(name, aside.count.get()),
+        _ => input.into_inner().into_bytes(),
+    };
+    if let Some(bytes) = bytes {
+        tell_more(rt, bytes.as_slice(), subject, ending_of(answer));
+    }
+    (status, output.into_inner())
+}
+
+/// How a job ended, or its fault.
+fn ending_of(answer: Result<Answer, CliFault>) -> Result<Ending, CliFault> {
+    match answer {
+        Ok(Answer::Ended(ending) | Answer::Heard(ending, _)) => Ok(ending),
+        Ok(Answer::Overheard(_, _) | Answer::Remarked(_)) => Ok(Ending::Done),
+        Err(fault) => Err(fault),
+    }
+}
+
+/// Reports in one line on standard error why a job failed, or what else there is to say of its answer, and gives the exit
+/// status. A read that failed did so for the one reason, and a write for the other.
+fn tell_end(
+    rt: &(impl Outside + Eprint + AllocGlobal),
+    subject: Subject<'_>,
+    names: Names<'_>,
+    answer: Result<Answer, CliFault>,
+    read_error: Option<Error>,
+    write_error: Option<Error>,
+) -> u8
+    ensures { result ≡ job_status answer }
+{
+    match answer {
+        Ok(answer) => tell_answer(rt, subject, answer),
+        Err(CliFault::ReadFailed) => {
+            tell_failed(rt, CliFault::ReadFailed, names.input, read_error)
+        }
+        Err(CliFault::WriteFailed) => {
+            tell_failed(rt, CliFault::WriteFailed, names.output, write_error)
+        }
+        Err(fault) => tell(rt, fault),
+    }
+}
+
+/// Gives the exit status of a job that ended so. Where its bytes do not say in which character set a printer prints
+/// them, reports that in one line on standard error, and then what is odd about a recording that was not listed.
+fn tell_answer(rt: &(impl Eprint + AllocGlobal), subject: Subject<'_>, answer: Answer) -> u8
+    ensures { result ≡ answer_status answer }
+{
+    match answer {
+        Answer::Ended(ending) => ending_status(ending),
+        Answer::Heard(ending, heard) => {
+            tell_heard(rt, heard);
+            ending_status(ending)
+        }
+        Answer::Overheard(heard, odd) => {
+            tell_heard(rt, heard);
+            show_oddities(rt, subject, odd);
+            ending_status(Ending::Done)
+        }
+        Answer::Remarked(odd) => {
+            show_oddities(rt, subject, odd);
+            ending_status(Ending::Done)
+        }
+    }
+}
+
+/// Reports in one line on standard error why a listing has no text, and gives the exit status.
+fn refuse_listing(
+    rt: &(impl Outside + Eprint),
+    fault: TextFault,
+    name: Option<&str>,
+    error: Option<Error>,
+) -> u8
+    ensures { result ≡ text_status fault }
+{
+    match (fault, name, error) {
+        (TextFault::ReadFailed, Some(name), Some(error)) => tell_file(rt, name, &error),
+        _ => {
+            let _ = rt.eprintln(format_args!("print1525: {fault}"));
+            text_status(fault)
+        }
+    }
+}
+
+/// Reports a failed read or write in one line on standard error: of a file by its name and the
+/// reason. Gives the exit status.
+fn tell_failed(
+    rt: &(impl Outside + Eprint),
+    fault: CliFault,
+    name: Option<&str>,
+    error: Option<Error>,
+) -> u8
+    ensures { result ≡ fault_status fault }
+{
+    match (fault, name, error) {
+        (CliFault::ReadFailed | CliFault::WriteFailed, Some(name), Some(error)) => {
+            tell_file(rt, name, &error)
+        }
+        // (a write to memory fails for no other reason)
+        (CliFault::WriteFailed, None, Some(error)) if error.kind() == ErrorKind::OutOfMemory => {
+            tell(rt, CliFault::NoMemory)
+        }
+        _ => tell(rt, fault),
+    }
+}
+
+/// Reports in one line on standard error why a file cannot be opened, read or written, and gives the
+/// exit status.
+pub fn tell_file(rt: &impl Outside, name: &str, error: &Error) -> u8
+    ensures { result ≡ 3 }
+{
+    rt.tell_error(name, error);
+    FAILED
+}
+
+/// Reports a fault in one line on standard error and gives its exit status.
+pub fn tell(rt: &impl Eprint, fault: CliFault) -> u8
+    ensures { result ≡ fault_status fault }
+{
+    let _ = rt.eprintln(format_args!("print1525: {fault}"));
+    fault_status(fault)
+}

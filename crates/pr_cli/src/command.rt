@@ -1,0 +1,117 @@
+//! The words of the program's command line, and its task done.
+
+ghost use Rattle.std.specs.Prelude.{◌≡◌};
+
+use crate::answers::{Manner, answer_task, tell};
+use crate::meant::meant;
+use crate::refusals::{refuse, refuse_task, refuse_word};
+use crate::statuses::REFUSED;
+use pr_jobs::CliFault;
+use pr_options::{explains, read_task};
+use std::alloc::{AllocError, Global};
+use std::env::{FillError, VarError};
+use std::fs::Files;
+use std::io::ErrorKind;
+use std::rt::Env;
+use std::time::Clock;
+use std::{env, io};
+
+/// The environment's variable that, with the value 1, asks for the same as `--explain`.
+const EXPLAIN_VARIABLE: &str = "PRINT1525_EXPLAIN";
+
+/// The longest word of a command line that is shown where it is not UTF-8, in bytes.
+const SHOWN: usize = 4096;
+
+/// The standard streams that are terminals.
+#[derive(Clone, Copy)]
+pub struct Terminals {
+    pub input: bool,
+    pub output: bool,
+    pub error: bool,
+}
+
+/// Does what the command line asks for and gives the exit status.
+pub fn run(
+    rt: &(impl Files + Env + Clock + Input + Print + Eprint + AllocGlobal),
+    terminals: Terminals,
+) -> u8 {
+    match words_of(rt) {
+        Ok(words) => match answer_words(rt, words.as_slice(), terminals) {
+            Ok(status) => status,
+            Err(AllocError) => tell(rt, CliFault::NoMemory),
+        },
+        Err(error) if error.kind() == ErrorKind::OutOfMemory => tell(rt, CliFault::NoMemory),
+        Err(_) => refuse_words(rt),
+    }
+}
+
+/// The words of the command line, collected by `push`: std's `collect` goes on when a reserve is
+/// refused.
+fn words_of(rt: &(impl Env + AllocGlobal)) -> io::Result<Vec<String>> {
+    let mut words = Vec::new(rt.alloc());
+    for word in env::args(rt)? {
+        words.push(word)?;
+    }
+    Ok(words)
+}
+
+/// Reports which word of the command line is not UTF-8, and gives the exit status. The room for the word is in a frame of
+/// its own, which no other run has to clear.
+#[inline(never)]
+fn refuse_words(rt: &(impl Env + Eprint)) -> u8 {
+    let mut word = [0u8; SHOWN];
+    for i in 0..usize::MAX {
+        match rt.arg(i, &mut word) {
+            Ok(n) => {
+                if str::from_utf8(&word[..n]).is_err() {
+                    refuse_word(rt, &word[..n]);
+                    return REFUSED;
+                }
+            }
+            Err(FillError::TooLong) => {}
+            Err(FillError::NotPresent) => break,
+        }
+    }
+    refuse(rt, "bad arguments")
+}
+
+/// Reads the words and does the task that they ask for. Gives the exit status.
+fn answer_words(
+    rt: &(impl Files + Env + Clock + Input + Print + Eprint + AllocGlobal),
+    words: &[String],
+    terminals: Terminals,
+) -> Result<u8, AllocError> {
+    let texts = texts_of(rt.alloc(), words)?;
+    let texts = meant(rt.alloc(), texts.as_slice())?;
+    let is_explained = explains(texts.as_slice()) || is_variable_set(rt)?;
+    match read_task(rt.alloc(), texts.as_slice()) {
+        Ok(task) => {
+            let manner = Manner {
+                is_explained,
+                is_typed: terminals.input,
+                is_watched: terminals.error,
+                is_seen: terminals.output,
+            };
+            Ok(answer_task(rt, task, manner))
+        }
+        Err(fault) => refuse_task(rt, texts.as_slice(), fault, is_explained),
+    }
+}
+
+/// The texts of words.
+fn texts_of(alloc: Global, words: &[String]) -> Result<Vec<&str>, AllocError> {
+    let mut texts = Vec::new(alloc);
+    for word in words {
+        texts.push(word.as_str())?;
+    }
+    Ok(texts)
+}
+
+/// Whether the environment asks for explanations.
+fn is_variable_set(rt: &(impl Env + AllocGlobal)) -> Result<bool, AllocError> {
+    match env::var(rt, EXPLAIN_VARIABLE) {
+        Ok(value) => Ok(value.as_str() == "1"),
+        Err(VarError::OutOfMemory) => Err(AllocError),
+        Err(VarError::NotPresent | VarError::NotUnicode) => Ok(false),
+    }
+}

@@ -1,0 +1,283 @@
+//! A job done over any reader and writer, and the exit statuses.
+
+ghost use Rattle.std.specs.Prelude.{◌≡◌, ◌↔◌, false, true, IfErr, IfSome, IsErrOf, OnOk};
+ghost use Rattle.pr_jobs.specs.Pages.{ReadsToEnd, WritesNothing, start_of};
+ghost use Rattle.pr_jobs.specs.Report.{IsReportFault, ReadsAll, WritesNoReport};
+ghost use Rattle.pr_input.specs.Watched.{has_failed, is_flushed, wrapped};
+ghost use Rattle.pr_cli.specs.Jobs.{AnswersFrames, AnswersJob, AnswersRecording, AnswersRun, AnswersTrace, IsJobFault, IsPrintFault, IsRecordingFault, KeepsOutput, KeepsTrace, ReadsInput, ReadsRecording, ReadsTrace, found_job, restarted_job};
+
+use pr_basic::StatusMode;
+use pr_bus::Delays;
+use pr_capture::{Source, TraceInput};
+use pr_jobs::{
+    CliFault, Ending, Watched, bus_as_over, check_as_over, check_over, pages_as_over, raw_over,
+};
+use pr_dots::Shapes;
+use pr_options::{CheckOutput, DecodeOutput, Job, PagesOutput, found_source};
+use pr_recording::{
+    Heard, Wording, bytes_over, check_json_over, decode_json_over, decode_over, reprint_over,
+    run_bytes_over,
+};
+use pr_report::{Oddities, Report};
+use pr_serial::Present;
+use std::alloc::Global;
+use std::io::{Read, Write};
+
+/// How a job ended.
+#[derive(Clone, Copy, Debug, PartialEq, Eq)]
+pub enum Answer {
+    /// It wrote what was asked for.
+    Ended(Ending),
+    /// It wrote the bytes that a printer hears in a run, which do not say what [`Heard`] does.
+    Heard(Ending, Heard),
+    /// It wrote those that a printer hears in a recording, about which this is odd.
+    Overheard(Heard, Oddities),
+    /// It wrote the pages of a recording, or its readings as JSON, which do not say that this is odd about it.
+    Remarked(Oddities),
+}
+
+/// Returns the job with the format that the first bytes of its recording show, where it has to be found; every other job
+/// as it is. All else that the job says stays.
+pub fn found_job<'a>(job: Job<'a>, first: &[u8]) -> Job<'a>
+    ensures { result ≡ found_job first.now job.entry }
+{
+    match job {
+        Job::Decode {
+            is_found: true,
+            input,
+            output,
+        } => Job::Decode {
+            is_found: false,
+            input: TraceInput {
+                source: found_source(input.source, first),
+                ..input
+            },
+            output,
+        },
+        _ => job,
+    }
+}
+
+/// Returns the job with another start of its trace, where it reads one. All else that the job says stays.
+pub fn restarted_job<'a>(job: Job<'a>, start: u64) -> Job<'a>
+    ensures { result ≡ restarted_job start job.entry }
+{
+    match job {
+        Job::Check(input, report) => Job::Check(TraceInput { start, ..input }, report),
+        Job::Decode {
+            is_found,
+            input,
+            output,
+        } => Job::Decode {
+            is_found,
+            input: TraceInput { start, ..input },
+            output,
+        },
+        _ => job,
+    }
+}
+
+/// Does a job: reads the input and writes what the job's own fields ask for. The input of `pages` and
+/// `bus` is a script's text, whatever form the listing has: `answers` gives the text of a listing in
+/// another form. So it gives the format of a recording where it has to be found. Pictures draw characters in
+/// these shapes.
+///
+/// It takes the whole [`Job`]: only the form of a listing, and whether a recording's format has to be
+/// found, is read from it elsewhere, so every use of a format, a set or a delay is proved.
+///
+/// The ending is [`Ending::Stopped`] exactly if a BASIC error stopped the run of a script.
+///
+/// # Errors
+///
+/// Those of the job's call: [`pr_jobs::pages_as_over`] or, for bytes, [`pr_recording::run_bytes_over`];
+/// [`pr_jobs::bus_as_over`]; [`pr_jobs::check_over`] for the frames of a trace text,
+/// [`pr_recording::check_json_over`] for the JSON of any trace, and else
+/// [`pr_jobs::check_as_over`]; [`pr_recording::decode_over`] for a list,
+/// [`pr_recording::decode_json_over`] for JSON, [`pr_recording::bytes_over`], and [`pr_recording::reprint_over`] for
+/// pages; [`pr_jobs::raw_over`]. They leave what they leave there. A read failed exactly if the input has failed, and a write exactly if the output has.
+pub fn do_job<R: Read, W: Write>(
+    alloc: Global,
+    input: &mut Watched<R>,
+    output: &mut Watched<W>,
+    job: Job<'_>,
+    shapes: &Shapes,
+) -> Result<Answer, CliFault>
+    // the caller's part
+    requires input { has_failed input.old ≡ false }
+    requires output { has_failed output.old ≡ false }
+    // what it gives
+    ensures job { IfSome (R.remaining (wrapped input.old)) (λ text.
+        AnswersJob shapes.now job.entry text (W.contents (wrapped output.old)) (W.contents (wrapped output.new)) result) }
+    ensures at_end { ReadsInput job.entry (R.remaining (wrapped input.new)) result }
+    ensures flushed { OnOk result (is_flushed output.new ≡ true) }
+    // when it refuses, and what that leaves
+    ensures nothing { KeepsOutput job.entry (W.contents (wrapped output.old)) (W.contents (wrapped output.new)) result }
+    ensures own { IfErr result (IsJobFault job.entry) }
+    ensures read_failed { IsErrOf result CliFault.ReadFailed ↔ (has_failed input.new ≡ true) }
+    ensures write_failed { IsErrOf result CliFault.WriteFailed ↔ (has_failed output.new ≡ true) }
+{
+    match job {
+        Job::Pages(_, present, delays, mode, wanted) => {
+            print_run(alloc, input, output, present, delays, mode, wanted, shapes)
+        }
+        Job::Bus(_, present, delays, mode, format) => {
+            let ending = bus_as_over(alloc, input, output, present, delays, mode, format)?;
+            Ok(Answer::Ended(ending))
+        }
+        Job::Check(trace, wanted) => {
+            check_trace(alloc, input, output, trace, wanted)?;
+            Ok(Answer::Ended(Ending::Done))
+        }
+        Job::Decode {
+            input: trace,
+            output: wanted,
+            ..
+        } => decode_recording(alloc, input, output, trace, wanted, shapes),
+        Job::Raw { lower, format } => {
+            raw_over(alloc, input, output, lower, format, shapes)?;
+            Ok(Answer::Ended(Ending::Done))
+        }
+    }
+}
+
+/// Runs a script and writes the pages of its run, or the bytes that a printer hears in it.
+fn print_run<R: Read, W: Write>(
+    alloc: Global,
+    input: &mut Watched<R>,
+    output: &mut Watched<W>,
+    present: Present,
+    delays: Delays,
+    mode: StatusMode,
+    wanted: PagesOutput,
+    shapes: &Shapes,
+) -> Result<Answer, CliFault>
+    // the caller's part
+    requires input { has_failed input.old ≡ false }
+    requires output { has_failed output.old ≡ false }
+    // what it gives
+    ensures run { IfSome (R.remaining (wrapped input.old)) (λ text.
+        AnswersRun shapes.now (start_of present delays mode) wanted text
+        (W.contents (wrapped output.old)) (W.contents (wrapped output.new)) result) }
+    ensures at_end { ReadsToEnd (R.remaining (wrapped input.new)) result }
+    ensures flushed { OnOk result (is_flushed output.new ≡ true) }
+    // when it refuses, and what that leaves
+    ensures nothing { WritesNothing (W.contents (wrapped output.old)) (W.contents (wrapped output.new)) result }
+    ensures own { IfErr result (IsPrintFault wanted) }
+    ensures read_failed { IsErrOf result CliFault.ReadFailed ↔ (has_failed input.new ≡ true) }
+    ensures write_failed { IsErrOf result CliFault.WriteFailed ↔ (has_failed output.new ≡ true) }
+{
+    match wanted {
+        PagesOutput::Pages(format) => {
+            let ending = pages_as_over(
+                alloc, input, output, present, delays, mode, format, shapes,
+            )?;
+            Ok(Answer::Ended(ending))
+        }
+        PagesOutput::Bytes(device) => {
+            let (ending, heard) = run_bytes_over(
+                alloc, input, output, present, delays, mode, device,
+            )?;
+            Ok(Answer::Heard(ending, heard))
+        }
+    }
+}
+
+/// Checks a trace and writes what it says: its readings as JSON, or the report asked for.
+fn check_trace<R: Read, W: Write>(
+    alloc: Global,
+    input: &mut Watched<R>,
+    output: &mut Watched<W>,
+    trace: TraceInput<'_>,
+    wanted: CheckOutput,
+) -> Result<(), CliFault>
+    // the caller's part
+    requires input { has_failed input.old ≡ false }
+    requires output { has_failed output.old ≡ false }
+    // what it gives
+    ensures trace { IfSome (R.remaining (wrapped input.old)) (λ text.
+        AnswersTrace trace.entry wanted text (W.contents (wrapped output.old)) (W.contents (wrapped output.new)) result) }
+    ensures at_end { ReadsTrace wanted (R.remaining (wrapped input.new)) result }
+    ensures flushed { OnOk result (is_flushed output.new ≡ true) }
+    // when it refuses, and what that leaves
+    ensures nothing { KeepsTrace wanted (W.contents (wrapped output.old)) (W.contents (wrapped output.new)) result }
+    ensures own { IfErr result IsReportFault }
+    ensures read_failed { IsErrOf result CliFault.ReadFailed ↔ (has_failed input.new ≡ true) }
+    ensures write_failed { IsErrOf result CliFault.WriteFailed ↔ (has_failed output.new ≡ true) }
+{
+    match wanted {
+        CheckOutput::Report(report) => report_trace(alloc, input, output, trace, report),
+        CheckOutput::Json => check_json_over(alloc, input, output, trace),
+    }
+}
+
+/// Checks a trace and writes the frames of a trace text, or else the report asked for.
+fn report_trace<R: Read, W: Write>(
+    alloc: Global,
+    input: &mut Watched<R>,
+    output: &mut Watched<W>,
+    trace: TraceInput<'_>,
+    report: Report,
+) -> Result<(), CliFault>
+    // the caller's part
+    requires input { has_failed input.old ≡ false }
+    requires output { has_failed output.old ≡ false }
+    // what it gives
+    ensures trace { IfSome (R.remaining (wrapped input.old)) (λ text.
+        AnswersFrames trace.entry trace.entry.source report text
+        (W.contents (wrapped output.old)) (W.contents (wrapped output.new)) result) }
+    ensures at_end { ReadsAll report (R.remaining (wrapped input.new)) result }
+    ensures flushed { OnOk result (is_flushed output.new ≡ true) }
+    // when it refuses, and what that leaves
+    ensures nothing { WritesNoReport report (W.contents (wrapped output.old)) (W.contents (wrapped output.new)) result }
+    ensures own { IfErr result IsReportFault }
+    ensures read_failed { IsErrOf result CliFault.ReadFailed ↔ (has_failed input.new ≡ true) }
+    ensures write_failed { IsErrOf result CliFault.WriteFailed ↔ (has_failed output.new ≡ true) }
+{
+    match (trace.source, report) {
+        (Source::Text, Report::Frames) => check_over(alloc, input, output),
+        _ => check_as_over(alloc, input, output, trace, report),
+    }
+}
+
+/// Reads a recording and writes what it says: its readings, the bytes that a printer hears in it, or its pages.
+fn decode_recording<R: Read, W: Write>(
+    alloc: Global,
+    input: &mut Watched<R>,
+    output: &mut Watched<W>,
+    trace: TraceInput<'_>,
+    wanted: DecodeOutput,
+    shapes: &Shapes,
+) -> Result<Answer, CliFault>
+    // the caller's part
+    requires input { has_failed input.old ≡ false }
+    requires output { has_failed output.old ≡ false }
+    // what it gives
+    ensures recording { IfSome (R.remaining (wrapped input.old)) (λ text.
+        AnswersRecording shapes.now trace.entry wanted text
+        (W.contents (wrapped output.old)) (W.contents (wrapped output.new)) result) }
+    ensures at_end { ReadsRecording wanted (R.remaining (wrapped input.new)) result }
+    ensures flushed { OnOk result (is_flushed output.new ≡ true) }
+    // when it refuses, and what that leaves
+    ensures own { IfErr result (IsRecordingFault wanted) }
+    ensures read_failed { IsErrOf result CliFault.ReadFailed ↔ (has_failed input.new ≡ true) }
+    ensures write_failed { IsErrOf result CliFault.WriteFailed ↔ (has_failed output.new ≡ true) }
+{
+    match wanted {
+        DecodeOutput::Readings(detail) => {
+            decode_over(alloc, input, output, trace, Wording::Lines(detail))?;
+            Ok(Answer::Ended(Ending::Done))
+        }
+        DecodeOutput::Json => {
+            let odd = decode_json_over(alloc, input, output, trace)?;
+            Ok(Answer::Remarked(odd))
+        }
+        DecodeOutput::Bytes(device) => {
+            let (heard, odd) = bytes_over(alloc, input, output, trace, device)?;
+            Ok(Answer::Overheard(heard, odd))
+        }
+        DecodeOutput::Pages(format) => {
+            let odd = reprint_over(alloc, input, output, trace, format, shapes)?;
+            Ok(Answer::Remarked(odd))
+        }
+    }
+}

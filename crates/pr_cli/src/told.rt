@@ -1,0 +1,428 @@
+//! What more there is to say of a job's input, on standard error.
+
+ghost use Rattle.std.specs.Prelude.{◌≤◌, length};
+ghost use Rattle.pr_basic.specs.Limits.{statement_limit};
+
+use pr_basic::{ScriptFault, Statement, StatusMode, cut_line, read_script};
+use pr_bus::Delays;
+use pr_capture::{Source, TraceInput};
+use pr_jobs::{CliFault, Ending, PictureFault};
+use pr_explain::{
+    explain_line, explain_reading, explain_script, explain_stop, explain_trace, remark_on,
+};
+use pr_listing::{
+    ListingFault, ListingForm, TextFault, has_typed_strings, looks_like_disk, looks_like_text,
+    looks_saved,
+};
+use pr_options::{Job, read_delays};
+use pr_recording::Heard;
+use pr_report::{Oddities, push_oddities};
+use pr_serial::Present;
+use pr_system::{NoMemory, Outcome, Running};
+use std::alloc::{AllocError, Global};
+
+/// What is said of a refused script that looks like a saved program.
+const SAVED_PROGRAM: &str = "this looks like a saved program: --from prg reads one";
+
+/// What is said of a script with small letters or braces in its strings.
+const TYPED_STRINGS: &str =
+    "strings are sent as they are: small letters print graphics, or capitals \
+     after OPEN file,device,7, and {name} prints its letters; --from petcat reads both as typed";
+
+/// What is said of a refused script whose strings have them too, or that begins with petcat's heading.
+const PETCAT_TEXT: &str = "this may be petcat's text: --from petcat reads it";
+
+/// What is said of a saved program without its load address, or that ends within a line.
+const PROGRAM_FORM: &str = "a saved program is a load address of two bytes, then lines: \
+     a link and a number of two bytes each, the line's bytes and 0; a link of 0 ends it";
+
+/// What is said of one that looks like a text.
+const PLAIN_TEXT: &str = "this looks like text: --from text or petcat reads one";
+
+/// What is said of petcat's text with an unknown name.
+const PETCAT_NAMES: &str =
+    "in a string { begins a name of petcat's and } ends it, as {down}, {3 down} or {$8e}";
+
+/// What is said of petcat's text with a byte that it never has.
+const PETCAT_BYTES: &str = "a string of petcat's text has the bytes 32 to 126";
+
+/// What is said of a printer's bytes that look like a saved program.
+const SAVED_BYTES: &str =
+    "this looks like a saved program, and not like a printer's bytes: pages --from prg runs one";
+
+/// What is said of a printer's bytes that look like a disk.
+const DISK_BYTES: &str = "this looks like an image of a disk, and not like a printer's bytes";
+
+/// What is said of bytes that come in the lower/upper case set.
+const LOWER_SET: &str = "the bytes are for the lower case set: raw --set lower prints them";
+
+/// What is said of bytes that come in both sets, the first one in the graphic/upper case set.
+const BOTH_SETS: &str =
+    "the character set changes after the first byte: raw prints all bytes in one set";
+
+/// The same where the first one comes in the lower/upper case set.
+const BOTH_SETS_LOWER: &str =
+    "the character set changes after the first byte: raw prints all bytes in one set, \
+     with --set lower in that of the first byte";
+
+/// Reports what the bytes of a printer do not say, if there is anything, in one line on standard error.
+pub fn tell_heard(rt: &impl Eprint, heard: Heard) {
+    if let Some(line) = heard_told(heard) {
+        let _ = rt.eprintln(format_args!("print1525: {line}"));
+    }
+}
+
+/// What the bytes of a printer do not say, and what to do about it.
+fn heard_told(heard: Heard) -> Option<&'static str> {
+    match (heard.reselected, heard.lower) {
+        (false, false) => None,
+        (false, true) => Some(LOWER_SET),
+        (true, false) => Some(BOTH_SETS),
+        (true, true) => Some(BOTH_SETS_LOWER),
+    }
+}
+
+/// Writes what more there is to say of an input, by the answer of its job.
+pub fn tell_more(
+    rt: &(impl Eprint + AllocGlobal),
+    bytes: &[u8],
+    subject: Subject<'_>,
+    answer: Result<Ending, CliFault>,
+) {
+    show(rt, told(rt, bytes, subject, answer));
+    show_hint(rt, hint_of(bytes, subject, answer));
+}
+
+/// A run of a script, but for its delays and what it writes.
+#[derive(Clone, Copy)]
+pub struct ScriptRun {
+    /// The form of the listing that was given.
+    form: ListingForm,
+    present: Present,
+    mode: StatusMode,
+}
+
+/// The input of which more can be said.
+#[derive(Clone, Copy)]
+pub enum Subject<'a> {
+    Script(ScriptRun),
+    Trace(TraceInput<'a>),
+    Recording(TraceInput<'a>),
+    Bytes,
+}
+
+/// The input of a job.
+pub fn subject_of<'a>(job: &Job<'a>) -> Subject<'a> {
+    match job {
+        Job::Pages(form, present, _, mode, _) => Subject::Script(ScriptRun {
+            form: *form,
+            present: *present,
+            mode: *mode,
+        }),
+        Job::Bus(form, present, _, mode, _) => Subject::Script(ScriptRun {
+            form: *form,
+            present: *present,
+            mode: *mode,
+        }),
+        Job::Check(trace, _) => Subject::Trace(*trace),
+        Job::Decode { input, .. } => Subject::Recording(*input),
+        Job::Raw { .. } => Subject::Bytes,
+    }
+}
+
+/// What more there is to say of an input, by the answer of its job.
+fn told(
+    rt: &impl AllocGlobal,
+    bytes: &[u8],
+    subject: Subject<'_>,
+    answer: Result<Ending, CliFault>,
+) -> Result<String, AllocError> {
+    match (subject, answer) {
+        (_, Err(CliFault::Picture(fault))) => sheets_told(rt, fault),
+        (Subject::Script(job), _) => run_told(rt, bytes, job, answer),
+        (Subject::Trace(trace), _) => trace_told(rt, bytes, trace, answer),
+        (Subject::Recording(trace), Err(fault)) => reading_told(rt, bytes, trace, fault),
+        (Subject::Bytes, _) | (_, Ok(_)) => Ok(String::new(rt.alloc())),
+    }
+}
+
+/// What more there is to say of pages that are not shown.
+fn sheets_told(rt: &impl AllocGlobal, fault: PictureFault) -> Result<String, AllocError> {
+    match fault {
+        PictureFault::NoSuchSheet(1) => format!(in rt.alloc(); "  the paper has one sheet\n"),
+        PictureFault::NoSuchSheet(sheets) => {
+            format!(in rt.alloc(); "  the paper has {sheets} sheets\n")
+        }
+        PictureFault::TooLarge => Ok(String::new(rt.alloc())),
+    }
+}
+
+/// What an input may be meant for, by the answer of its job.
+fn hint_of(
+    bytes: &[u8],
+    subject: Subject<'_>,
+    answer: Result<Ending, CliFault>,
+) -> Option<&'static str> {
+    match (subject, answer) {
+        (Subject::Script(job), _) => script_hint(bytes, job.form, answer),
+        (Subject::Bytes, Ok(_)) => raw_hint(bytes),
+        _ => None,
+    }
+}
+
+/// What a script's text may be meant for, where it was not given in another form.
+fn script_hint(
+    script: &[u8],
+    form: ListingForm,
+    answer: Result<Ending, CliFault>,
+) -> Option<&'static str> {
+    match answer {
+        Err(CliFault::Script(_)) if form == ListingForm::Text && looks_saved(script) => {
+            Some(SAVED_PROGRAM)
+        }
+        Err(CliFault::Script(_)) if form == ListingForm::Text && may_be_petcat(script) => {
+            Some(PETCAT_TEXT)
+        }
+        Ok(_) if form == ListingForm::Text && is_typed(script) => Some(TYPED_STRINGS),
+        _ => None,
+    }
+}
+
+/// Whether a script that is refused may be petcat's text: its heading is a line that begins with `;`.
+fn may_be_petcat(script: &[u8]) -> bool {
+    is_typed(script) || begins_with_heading(script)
+}
+
+/// Whether a string of a script has a small letter or a brace. Most scripts have none at all, which is soon seen.
+fn is_typed(script: &[u8]) -> bool {
+    has_typed_byte(script) && has_typed_strings(script)
+}
+
+/// Whether there is a small letter or a brace.
+fn has_typed_byte(bytes: &[u8]) -> bool {
+    for byte in bytes {
+        if byte.is_ascii_lowercase() || *byte == b'{' {
+            return true;
+        }
+    }
+    false
+}
+
+/// Whether the first byte that is no blank or end of a line is `;`.
+fn begins_with_heading(script: &[u8]) -> bool {
+    for byte in script {
+        if !matches!(*byte, b' ' | b'\r' | b'\n') {
+            return *byte == b';';
+        }
+    }
+    false
+}
+
+/// Writes what more there is to say of a listing that has no text, on standard error.
+pub fn tell_listing(rt: &impl Eprint, bytes: &[u8], fault: TextFault) {
+    match fault {
+        TextFault::Listing(ListingFault::NoAddress | ListingFault::CutOff(_)) => {
+            show_hint(rt, Some(PROGRAM_FORM));
+            if looks_like_text(bytes) {
+                show_hint(rt, Some(PLAIN_TEXT));
+            }
+        }
+        TextFault::Listing(ListingFault::UnknownName(..)) => show_hint(rt, Some(PETCAT_NAMES)),
+        TextFault::Listing(ListingFault::BadByte(..)) => show_hint(rt, Some(PETCAT_BYTES)),
+        _ => {}
+    }
+}
+
+/// Writes a hint on standard error, if there is one.
+fn show_hint(rt: &impl Eprint, hint: Option<&'static str>) {
+    if let Some(hint) = hint {
+        let _ = rt.eprintln(format_args!("  {hint}"));
+    }
+}
+
+/// What bytes look like that a printer hardly gets.
+fn raw_hint(bytes: &[u8]) -> Option<&'static str> {
+    if looks_saved(bytes) {
+        Some(SAVED_BYTES)
+    } else if looks_like_disk(bytes) {
+        Some(DISK_BYTES)
+    } else {
+        None
+    }
+}
+
+/// What more there is to say of a run of a script.
+fn run_told(
+    rt: &impl AllocGlobal,
+    script: &[u8],
+    job: ScriptRun,
+    answer: Result<Ending, CliFault>,
+) -> Result<String, AllocError> {
+    match answer {
+        Ok(Ending::Stopped) => stop_told(rt, script, job),
+        Err(CliFault::Script(fault)) => script_told(rt.alloc(), script, fault),
+        Ok(Ending::Done) | Err(_) => Ok(String::new(rt.alloc())),
+    }
+}
+
+/// Why a script is refused, by the line of its first fault alone where that is enough.
+fn script_told(alloc: Global, script: &[u8], fault: ScriptFault) -> Result<String, AllocError> {
+    if let Some(number) = line_number(fault) {
+        let told = explain_line(alloc, line_numbered(script, number), number)?;
+        if told.place.is_some() {
+            return Ok(told.text);
+        }
+    }
+    Ok(explain_script(alloc, script)?.text)
+}
+
+/// The number of the line that alone has a fault, from 1.
+fn line_number(fault: ScriptFault) -> Option<usize> {
+    match fault {
+        ScriptFault::UnknownWord(number)
+        | ScriptFault::BadNumber(number)
+        | ScriptFault::BadDevice(number)
+        | ScriptFault::BadSecond(number)
+        | ScriptFault::BadByte(number)
+        | ScriptFault::TooLong(number) => Some(number),
+        ScriptFault::TooMany(_) | ScriptFault::NoMemory => None,
+    }
+}
+
+/// The line of a script with this number, from 1, without its end; empty where there is none.
+fn line_numbered(script: &[u8], number: usize) -> &[u8] {
+    let mut rest = script;
+    let mut left = number;
+    while !rest.is_empty() {
+        let (line, more) = cut_line(rest);
+        if left <= 1 {
+            return line;
+        }
+        left -= 1;
+        rest = more;
+    }
+    rest
+}
+
+/// What there is to say of the error that stopped a run. The script is run again: no delay changes
+/// where a run stops.
+fn stop_told(rt: &impl AllocGlobal, script: &[u8], job: ScriptRun) -> Result<String, AllocError> {
+    let alloc = rt.alloc();
+    let (Ok(statements), Ok(delays)) = (read_script(alloc, script), read_delays(alloc, "")) else {
+        return Err(AllocError);
+    };
+    let outcome = run_again(alloc, statements.as_slice(), job, delays)?;
+    match outcome.stop {
+        Some((statement, stop)) => {
+            Ok(explain_stop(alloc, script, job.mode, stop, statement, job.present)?.text)
+        }
+        None => Ok(String::new(alloc)),
+    }
+}
+
+/// Performs statements up to the first that stops. No trace is kept.
+fn run_again(
+    alloc: Global,
+    statements: &[Statement],
+    job: ScriptRun,
+    delays: Delays,
+) -> Result<Outcome, NoMemory>
+    requires few { length statements.now ≤ statement_limit }
+{
+    let mut running = Running::new(alloc, job.present, delays, job.mode)?;
+    for statement in statements {
+        if running.step(statement)?.is_some() {
+            return Ok(running.finish());
+        }
+    }
+    Ok(running.finish())
+}
+
+/// Writes further lines on standard error. Where there was no memory for them there are none, and
+/// the exit status is that of the refusal all the same.
+fn show(rt: &impl Eprint, lines: Result<String, AllocError>) {
+    if let Ok(lines) = lines {
+        let _ = rt.eprint(format_args!("{lines}"));
+    }
+}
+
+/// What more there is to say of a trace: why it is refused, if it is; of a recording where its trace begins, if that is later
+/// than asked for; and what is odd about it.
+fn trace_told(
+    rt: &impl AllocGlobal,
+    bytes: &[u8],
+    trace: TraceInput<'_>,
+    answer: Result<Ending, CliFault>,
+) -> Result<String, AllocError> {
+    let alloc = rt.alloc();
+    let refusal = match answer {
+        Ok(_) => String::new(alloc),
+        Err(fault) if is_of_input(fault) => explain_trace(alloc, bytes, trace)?.text,
+        Err(_) => return Ok(String::new(alloc)),
+    };
+    let remarks = remark_on(alloc, bytes, trace)?;
+    let mut text = String::new(alloc);
+    if remarks.later > 0 && trace.source != Source::Text {
+        let begins = trace.start.saturating_add(remarks.later);
+        write!(
+            text,
+            "  the trace begins at microsecond {begins} of the recording, "
+        )?;
+        write!(
+            text,
+            "where the levels of all three lines are first known\n"
+        )?;
+    }
+    write!(text, "{refusal}")?;
+    push_indented(&mut text, remarks.oddities.as_slice())?;
+    Ok(text)
+}
+
+/// Writes what is odd about a recording, and what to try, on standard error: the last lines of its list, each after two
+/// blanks.
+pub fn show_oddities(rt: &(impl Eprint + AllocGlobal), subject: Subject<'_>, odd: Oddities) {
+    if let Subject::Recording(trace) = subject {
+        show(rt, odd_lines(rt.alloc(), trace, odd));
+    }
+}
+
+/// What is odd about a recording that is read so, and what to try.
+fn odd_lines(alloc: Global, trace: TraceInput<'_>, odd: Oddities) -> Result<String, AllocError> {
+    let mut lines = Vec::new(alloc);
+    push_oddities(&mut lines, trace, odd)?;
+    let mut text = String::new(alloc);
+    push_indented(&mut text, lines.as_slice())?;
+    Ok(text)
+}
+
+/// Adds lines, each after two blanks.
+fn push_indented(text: &mut String, lines: &[u8]) -> Result<(), AllocError> {
+    if let Ok(lines) = str::from_utf8(lines) {
+        for line in lines.lines() {
+            write!(text, "  {line}\n")?;
+        }
+    }
+    Ok(())
+}
+
+/// Whether a fault is one of what the input says, so that there is more to say of it.
+fn is_of_input(fault: CliFault) -> bool {
+    matches!(
+        fault,
+        CliFault::Trace(_) | CliFault::Wave(_) | CliFault::Capture(_)
+    )
+}
+
+/// What more there is to say of a recording that can not be read to its end.
+fn reading_told(
+    rt: &impl AllocGlobal,
+    bytes: &[u8],
+    trace: TraceInput<'_>,
+    fault: CliFault,
+) -> Result<String, AllocError> {
+    if is_of_input(fault) {
+        Ok(explain_reading(rt.alloc(), bytes, trace)?.text)
+    } else {
+        Ok(String::new(rt.alloc()))
+    }
+}

@@ -1,0 +1,13 @@
+pub mod KnownSteps
+pub mod BlockLemmas
+pub mod PieceLemmas
+pub mod CheckLemmas
+pub mod TraceSteps
+pub mod BusLemmas
+pub mod RawLemmas
+pub mod SourceLemmas
+pub mod EdgeLemmas
+pub mod BegunLemmas
+pub mod ReporterLemmas
+pub mod ReportLemmas
+pub mod InputLemmas

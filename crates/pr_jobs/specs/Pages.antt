@@ -1,0 +1,116 @@
+-- Trusted: what `pages` answers for a script, and what it leaves in the writer, in each format and with characters of some
+-- shapes.
+use Rattle.std.specs.Prelude.{◌≡◌, ℕ, ◌<◌, ◌≤◌, List, length, Option, Some, None, Result, Ok, Err}
+use Rattle.std.specs.Io.KnownBytes.{Appends, IsAtEnd, Keeps}
+use Rattle.pr_dots.specs.declared.character_sets.Shapes.{Shapes}
+use Rattle.pr_serial.specs.declared.Present.{Present}
+use Rattle.pr_serial.specs.Bus.{DelayNumbers}
+use Rattle.pr_bus.specs.DelaysLeft.{numbers_left}
+use Rattle.pr_bus.specs.declared.wires.Delays.{Delays}
+use Rattle.pr_channels.specs.declared.faults.Stop.{Stop}
+use Rattle.pr_basic.specs.declared.fault.ScriptFault.TheVariants as script
+use Rattle.pr_basic.specs.declared.statement.Statement.{Statement}
+use Rattle.pr_basic.specs.declared.session.StatusMode.{StatusMode}
+use Rattle.pr_basic.specs.Grammar.{IsScript}
+use Rattle.pr_basic.specs.Faults.{IsFirstFault}
+use Rattle.pr_system.specs.declared.outcome.Outcome.{Outcome}
+use Rattle.pr_system.specs.Headline.{IsOutcome}
+use Rattle.pr_jobs.specs.Formats.{text_in}
+use Rattle.pr_input.specs.PartlyWritten.{AppendsFront}
+use Rattle.pr_render.specs.declared.format.Format.{Format}
+use Rattle.pr_jobs.specs.declared.fault.PictureFault.{PictureFault}
+use Rattle.pr_jobs.specs.declared.pages.Ending.{Ending}
+use Rattle.pr_jobs.specs.declared.pages.Ending.TheVariants.{Done, Stopped}
+use Rattle.pr_jobs.specs.declared.fault.CliFault.{CliFault}
+use Rattle.pr_jobs.specs.declared.fault.CliFault.TheVariants.{Script, Trace, Wave, Capture, Picture, TooLarge, NoMemory, ReadFailed, WriteFailed}
+
+-- the most bytes of a script
+abbrev pub script_limit : ℕ
+script_limit = 16777216
+
+-- how a run begins: the printers present, the delay numbers, and whether the status is kept
+pub record Start : Type 0 where
+  pub present : Present
+  pub delays : DelayNumbers
+  pub mode : StatusMode
+
+-- a run with the numbers that its delays have left
+abbrev pub start_of : Present → Delays → StatusMode → Start
+start_of present delays mode = record { present = present; delays = numbers_left delays; mode = mode }
+
+-- the text of the pages of a script: the script has these statements, and their run gives this outcome
+pub record IsTextOf (shapes : Shapes) (start : Start) (format : Format) (script : List ℕ) (outcome : Outcome)
+    (text : List ℕ) : Type 0 where
+  pub statements : List Statement
+  pub is_script : IsScript script statements
+  pub is_outcome : IsOutcome start.mode start.present statements outcome
+  pub is_text : text_in shapes format start.present outcome ≡ Ok text
+
+-- a script's pages can not be shown: it is one of these statements, whose run gives this outcome, and this format has no such picture of it
+pub record IsUnshown (shapes : Shapes) (start : Start) (format : Format) (script : List ℕ) (fault : PictureFault)
+    : Type 0 where
+  pub outcome : Outcome
+  pub statements : List Statement
+  pub is_script : IsScript script statements
+  pub is_outcome : IsOutcome start.mode start.present statements outcome
+  pub is_unshown : text_in shapes format start.present outcome ≡ Err fault
+
+-- a run is stopped exactly if there is a stop
+abbrev pub ending_of : Option (ℕ × Stop) → Ending
+ending_of None = Done
+ending_of (Some stop) = Stopped
+
+-- the answer, by the script and by what the writer held before and after
+abbrev pub AnswersPages :
+    Shapes → Start → Format → List ℕ → Option (List ℕ) → Option (List ℕ) → Result Ending CliFault → Type 0
+AnswersPages shapes start format script old new (Ok ending) =
+    (outcome : Outcome) × (text : List ℕ)
+    × (length script ≤ script_limit) × IsTextOf shapes start format script outcome text
+    × (ending ≡ ending_of outcome.stop) × Appends old new text
+AnswersPages shapes start format script old new (Err (Script fault)) =
+    (length script ≤ script_limit) × IsFirstFault script fault × Keeps old new
+AnswersPages shapes start format script old new (Err (Trace fault)) = ⊥
+AnswersPages shapes start format script old new (Err (Wave fault)) = ⊥
+AnswersPages shapes start format script old new (Err (Capture fault)) = ⊥
+AnswersPages shapes start format script old new (Err (Picture fault)) =
+    (length script ≤ script_limit) × IsUnshown shapes start format script fault × Keeps old new
+AnswersPages shapes start format script old new (Err TooLarge) = (script_limit < length script) × Keeps old new
+AnswersPages shapes start format script old new (Err NoMemory) = Keeps old new
+AnswersPages shapes start format script old new (Err ReadFailed) = Keeps old new
+AnswersPages shapes start format script old new (Err WriteFailed) =
+    (outcome : Outcome) × (text : List ℕ)
+    × (length script ≤ script_limit) × IsTextOf shapes start format script outcome text × AppendsFront old new text
+
+-- every refusal but WriteFailed leaves the writer's bytes as they were, whatever the reader gives
+abbrev pub WritesNothing : {Y : Type 0} → Option (List ℕ) → Option (List ℕ) → Result Y CliFault → Type 0
+WritesNothing old new (Ok y) = Unit {0}
+WritesNothing old new (Err (Script fault)) = Keeps old new
+WritesNothing old new (Err (Trace fault)) = Keeps old new
+WritesNothing old new (Err (Wave fault)) = Keeps old new
+WritesNothing old new (Err (Capture fault)) = Keeps old new
+WritesNothing old new (Err (Picture fault)) = Keeps old new
+WritesNothing old new (Err TooLarge) = Keeps old new
+WritesNothing old new (Err NoMemory) = Keeps old new
+WritesNothing old new (Err ReadFailed) = Keeps old new
+WritesNothing old new (Err WriteFailed) = Unit {0}
+
+-- a fault of a run: never one of a trace or of a picture, and lack of memory always as itself
+abbrev pub IsRunFault : CliFault → Type 0
+IsRunFault (Script script.NoMemory) = ⊥
+IsRunFault (Trace fault) = ⊥
+IsRunFault (Wave fault) = ⊥
+IsRunFault (Capture fault) = ⊥
+IsRunFault (Picture fault) = ⊥
+IsRunFault _ = Unit {0}
+
+-- a fault of pages: one of their run or of their picture
+abbrev pub IsPagesFault : CliFault → Type 0
+IsPagesFault (Picture fault) = Unit {0}
+IsPagesFault fault = IsRunFault fault
+
+-- the input has been read to its end, unless it is too large, a read failed or memory was refused
+abbrev pub ReadsToEnd : {Y : Type 0} → Option (List ℕ) → Result Y CliFault → Type 0
+ReadsToEnd left (Err TooLarge) = Unit {0}
+ReadsToEnd left (Err NoMemory) = Unit {0}
+ReadsToEnd left (Err ReadFailed) = Unit {0}
+ReadsToEnd left _ = IsAtEnd left

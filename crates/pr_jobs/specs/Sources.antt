@@ -1,0 +1,71 @@
+-- Linking words, for proofs: what a reader of a trace in any format has given, and which edges were made of it. No reader needs to
+-- believe them.
+use Rattle.std.specs.Prelude.{◌≡◌, ℕ, List, ◌++◌, Option, Some, None}
+use Rattle.pr_wire.specs.declared.Edge.{Edge}
+use Rattle.pr_wire.specs.declared.Levels.{Levels}
+use Rattle.pr_wire.specs.TraceReading as text
+use Rattle.pr_capture.specs.declared.edge_detector.EdgeDetector.{EdgeDetector}
+use Rattle.pr_capture.specs.CsvSteps as csv
+use Rattle.pr_capture.specs.VcdSteps as vcd
+use Rattle.pr_capture.specs.Gathering as gathering
+use Rattle.pr_capture.specs.Samples.{edges_of}
+use Rattle.pr_capture.specs.declared.format.Source.TheVariants as source
+use Rattle.pr_capture.specs.declared.format.TraceInput.{TraceInput}
+use Rattle.pr_jobs.specs.Report.{edges_made, SaysSamples}
+use Rattle.pr_jobs.specs.declared.edge_maker.EdgeMaker.{EdgeMaker}
+use Rattle.pr_jobs.specs.declared.source_reader.SourceReader.{SourceReader}
+use Rattle.pr_jobs.specs.declared.source_reader.SourceReader.TheVariants as reader
+use Rattle.pr_jobs.specs.declared.fault.CliFault.{CliFault}
+
+-- Readers.
+
+-- how many lines a reader has read, with the one that has begun in some formats
+abbrev pub lines_read : SourceReader → ℕ
+lines_read (reader.Text r) = text.edge_count r
+lines_read (reader.Vcd r) = vcd.line_number r
+lines_read (reader.Csv r) = csv.line_number r
+
+-- the reader has taken a text in the format of the input, and has given these samples, or edges
+abbrev pub HasGiven : TraceInput → (text : List ℕ) → (samples : List Edge) → SourceReader → Type 0
+HasGiven input t samples (reader.Text r) = (input.source ≡ source.Text) × text.HasReadTrace t samples r
+HasGiven input t samples (reader.Vcd r) = (input.source ≡ source.Vcd) × vcd.HasReadDump input.signals t samples r
+HasGiven input t samples (reader.Csv r) = (input.source ≡ source.Csv) × csv.HasReadTable input.signals input.rate t samples r
+
+-- whatever follows the text that a reader has taken, the samples that it has given come first
+abbrev pub GivenSamplesComeFirst : Type 0
+GivenSamplesComeFirst =
+    (input : TraceInput) (t more : List ℕ) (given samples : List Edge) (fault : Option CliFault) (r : SourceReader)
+    → HasGiven input t given r
+    → SaysSamples input input.source (t ++ more) samples fault → (later : List Edge) × (samples ≡ given ++ later)
+
+-- each text says something in each format
+abbrev pub EachTextSaysSamples : Type 0
+EachTextSaysSamples =
+    (input : TraceInput) (t : List ℕ) → (samples : List Edge) × (fault : Option CliFault)
+    × SaysSamples input input.source t samples fault
+
+-- Makers of edges.
+
+-- these edges were made of these samples
+abbrev pub HasGathered : TraceInput → (samples edges : List Edge) → Option EdgeDetector → Type 0
+HasGathered input samples edges None = (input.source ≡ source.Text) × (edges ≡ samples)
+HasGathered input samples edges (Some g) =
+    ((ss : List Edge) → edges_made input.source input.start ss ≡ edges_of input.start ss)
+    × gathering.HasGathered input.start samples edges g
+
+abbrev pub HasMade : TraceInput → (samples edges : List Edge) → EdgeMaker → Type 0
+HasMade input samples edges m = HasGathered input samples edges m.detector
+
+-- the levels of the last sample, if samples that have them make no edge
+abbrev pub settled_of : Option EdgeDetector → Option Levels
+settled_of None = None
+settled_of (Some g) = gathering.settled g
+
+abbrev pub settled_in : EdgeMaker → Option Levels
+settled_in m = settled_of m.detector
+
+-- whatever samples follow those that a maker has taken, the edges that it has given come first
+abbrev pub MadeEdgesComeFirst : Type 0
+MadeEdgesComeFirst =
+    (input : TraceInput) (samples more edges : List Edge) (m : EdgeMaker) → HasMade input samples edges m
+    → (later : List Edge) × (edges_made input.source input.start (samples ++ more) ≡ edges ++ later)

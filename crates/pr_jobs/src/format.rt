@@ -1,0 +1,213 @@
+//! The text of a page in each format, and of each part of its pages.
+
+ghost use Rattle.std.specs.Prelude.{◌≡◌};
+ghost use Rattle.pr_jobs.specs.Formats.{first_paper, has_rows, is_second, left_to, or_first, pdf_part, png_part, sheet_at, shown_of, svg_part, text_in};
+ghost use Rattle.pr_jobs.specs.Shown.{GivesShown};
+ghost use Rattle.pr_system.specs.Headline.{empty_paper};
+
+use crate::fault::{CliFault, PictureFault};
+use crate::page_text::text_from;
+use crate::text::Text;
+use pr_dots::{Shapes, sheets_of};
+use pr_page::{Paper, Sequence};
+use pr_pdf::{PdfFault, pdf};
+use pr_png::png;
+use pr_render::{Device, Format, drawn_of, sheet_svg, svg_blocks};
+use pr_serial::Present;
+use pr_system::Outcome;
+use std::alloc::Global;
+
+/// The printers whose pages are shown: the one that is named, or else all that are present.
+fn shown_of(device: Option<Device>, present: Present) -> Present
+    ensures { result ≡ shown_of device present }
+{
+    match device {
+        None => present,
+        Some(Device::Four) => Present {
+            four: true,
+            five: false,
+        },
+        Some(Device::Five) => Present {
+            four: false,
+            five: true,
+        },
+    }
+}
+
+/// A paper without marks.
+fn empty_paper(alloc: Global) -> Paper
+    ensures { result ≡ empty_paper }
+{
+    Paper {
+        rows: Sequence::new(alloc),
+        held: Sequence::new(alloc),
+    }
+}
+
+/// The outcome without the paper of a printer that is not named, if one is.
+fn left_to(alloc: Global, device: Option<Device>, mut outcome: Outcome) -> Outcome
+    ensures { result ≡ left_to device outcome }
+{
+    match device {
+        None => {}
+        Some(Device::Four) => outcome.paper5 = empty_paper(alloc),
+        Some(Device::Five) => outcome.paper4 = empty_paper(alloc),
+    }
+    outcome
+}
+
+/// Whether a row is printed; marks that are held are none.
+fn has_rows(paper: &Paper) -> bool
+    ensures { result ≡ has_rows paper.now }
+{
+    !paper.rows.is_empty()
+}
+
+/// Whether the paper of which a sheet is shown is printer 5's.
+fn is_second(outcome: &Outcome, drawn: Present) -> bool
+    ensures { result ≡ is_second outcome.now drawn }
+{
+    let is_blank = !has_rows(&outcome.paper4);
+    !drawn.four || (drawn.five && (is_blank && has_rows(&outcome.paper5)))
+}
+
+/// The paper of which a sheet is shown: that of the first printer with a printed row of those that the picture draws, or
+/// else of the first of them.
+fn first_paper(outcome: &Outcome, drawn: Present) -> &Paper
+    ensures { result.now ≡ first_paper outcome.now drawn }
+{
+    if is_second(outcome, drawn) {
+        &outcome.paper5
+    } else {
+        &outcome.paper4
+    }
+}
+
+/// A sheet of a paper by its number from 1, counted from 0.
+///
+/// # Errors
+///
+/// [`PictureFault::NoSuchSheet`] with how many sheets there are, where the paper has none of this number.
+fn sheet_at(paper: &Paper, sheet: u64) -> Result<u64, PictureFault>
+    ensures { result ≡ sheet_at paper.now sheet }
+{
+    let sheets = sheets_of(paper);
+    if 1 <= sheet && sheet <= sheets {
+        Ok(sheet - 1)
+    } else {
+        Err(PictureFault::NoSuchSheet(sheets))
+    }
+}
+
+/// The SVG document of all pages, or of one sheet.
+fn svg_part(
+    alloc: Global,
+    shapes: &Shapes,
+    sheet: Option<u64>,
+    present: Present,
+    outcome: Outcome,
+) -> Result<Text, CliFault>
+    ensures { GivesShown (svg_part shapes.now sheet present outcome) result }
+{
+    let Some(sheet) = sheet else {
+        let blocks = svg_blocks(alloc, shapes, outcome, present)?;
+        return Ok(Text::from_blocks(alloc, blocks));
+    };
+    let paper = first_paper(&outcome, drawn_of(&outcome, present));
+    let index = sheet_at(paper, sheet)?;
+    let text = sheet_svg(alloc, shapes, paper, index)?;
+    Ok(Text::from_vec(alloc, text))
+}
+
+/// A sheet as a bitmap, and the first one where none is named.
+fn png_part(
+    alloc: Global,
+    shapes: &Shapes,
+    sheet: Option<u64>,
+    present: Present,
+    outcome: &Outcome,
+) -> Result<Text, CliFault>
+    ensures { GivesShown (png_part shapes.now sheet present outcome.now) result }
+{
+    let paper = first_paper(outcome, drawn_of(outcome, present));
+    let index = sheet_at(paper, or_first(sheet))?;
+    let file = png(alloc, shapes, paper, index)?;
+    Ok(Text::from_vec(alloc, file))
+}
+
+/// The sheets of the printers that the picture draws, as one document.
+fn pdf_part(
+    alloc: Global,
+    shapes: &Shapes,
+    present: Present,
+    outcome: &Outcome,
+) -> Result<Text, CliFault>
+    ensures { GivesShown (pdf_part shapes.now present outcome.now) result }
+{
+    let drawn = drawn_of(outcome, present);
+    match pdf(alloc, shapes, &outcome.paper4, &outcome.paper5, drawn) {
+        Ok(file) => Ok(Text::from_vec(alloc, file)),
+        Err(PdfFault::TooLarge) => Err(CliFault::Picture(PictureFault::TooLarge)),
+        Err(PdfFault::NoMemory) => Err(CliFault::NoMemory),
+    }
+}
+
+/// The number of the sheet that is shown.
+fn or_first(sheet: Option<u64>) -> u64
+    ensures { result ≡ or_first sheet }
+{
+    match sheet {
+        None => 1,
+        Some(sheet) => sheet,
+    }
+}
+
+/// The text of an outcome in a format. Lines and pictures show the sheets of the printers that are present, or of the one
+/// that the format names. A sheet is one of the named printer, or else of the first that has printed a row, or else of the
+/// first that holds marks, or else of the first that is present. Pictures draw characters in these shapes.
+///
+/// # Errors
+///
+/// - [`CliFault::Picture`]: the format's part of the pages can not be shown.
+/// - [`CliFault::NoMemory`]: memory was refused.
+pub fn text_in_format(
+    alloc: Global,
+    shapes: &Shapes,
+    outcome: Outcome,
+    present: Present,
+    format: Format,
+) -> Result<Text, CliFault>
+    ensures { GivesShown (text_in shapes.now format present outcome) result }
+{
+    match format {
+        Format::List => Ok(text_from(alloc, outcome)?),
+        Format::Lines => {
+            let text = pr_render::text(alloc, &outcome, present)?;
+            Ok(Text::from_vec(alloc, text))
+        }
+        Format::Svg(part) => {
+            let shown = left_to(alloc, part.device, outcome);
+            svg_part(
+                alloc,
+                shapes,
+                part.sheet,
+                shown_of(part.device, present),
+                shown,
+            )
+        }
+        Format::Png(part) => {
+            let shown = left_to(alloc, part.device, outcome);
+            png_part(
+                alloc,
+                shapes,
+                part.sheet,
+                shown_of(part.device, present),
+                &shown,
+            )
+        }
+        Format::Pdf(device) => {
+            let shown = left_to(alloc, device, outcome);
+            pdf_part(alloc, shapes, shown_of(device, present), &shown)
+        }
+    }
+}

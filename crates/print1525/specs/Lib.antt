@@ -1,4 +1,0 @@
-pub mod Jobs
-pub mod Statuses
-pub mod Characters
-pub mod Progress
