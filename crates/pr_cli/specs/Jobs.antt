@@ -201,7 +201,7 @@ EndsWork shapes None job bytes old new status = EndsFound shapes (finds_format j
 
 -- a fault of a run, and of its pages where they are asked for
 abbrev pub IsPrintFault : PagesOutput → CliFault → Type 0
-IsPrintFault (output.Pages f) fault = IsPagesFault fault
+IsPrintFault (output.Pages f) fault = IsPagesFault f fault
 IsPrintFault (output.Bytes device) fault = IsRunFault fault
 
 -- a fault of a recording, and of its pages where they are asked for

@@ -1,9 +1,10 @@
 -- Trusted: the words of a command line as the program reads them.
-use Rattle.std.specs.Prelude.{ℕ, Bool, ◌==◌, List, [], ◌∷◌, ◌++◌, Option, Some, None, codes, if◌then◌else◌}
+use Rattle.std.specs.Prelude.{◌≡◌, ℕ, Bool, ◌==◌, List, [], ◌∷◌, ◌++◌, Option, Some, None, Ok, codes, if◌then◌else◌}
 use Rattle.std.specs.List.{slice_split}
 use Rattle.std.specs.Str.{bytes_eq}
 use Rattle.clap.specs.Words.{Text}
-use Rattle.pr_options.specs.Jobs.{TaskView}
+use Rattle.pr_options.specs.Jobs.{TaskView, asked, job_view}
+use Rattle.pr_options.specs.declared.command_line.Job.{Job}
 
 -- the words of a command line as one text: a byte 0 is between each two
 abbrev pub words_in : List ℕ → List Text
@@ -28,3 +29,7 @@ name_part (Some name) = 61 ∷ name ++ 0 ∷ []
 -- the names of the files that are read and written, and of the file of characters
 abbrev pub names_part : TaskView → List ℕ
 names_part task = name_part task.input ++ name_part task.output ++ name_part task.characters
+
+-- the job of the task that words ask for
+abbrev pub IsJobAsked : List Text → Job → Type 0
+IsJobAsked words job = (task : TaskView) × (asked words ≡ Some (Ok task)) × (task.job ≡ job_view job)

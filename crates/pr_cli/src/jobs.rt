@@ -8,9 +8,10 @@ ghost use Rattle.pr_cli.specs.Jobs.{AnswersFrames, AnswersJob, AnswersRecording,
 
 use pr_basic::StatusMode;
 use pr_bus::Delays;
-use pr_capture::{Source, TraceInput};
+use pr_capture::{Source, TraceFormat, TraceInput};
 use pr_jobs::{
-    CliFault, Ending, Watched, bus_as_over, check_as_over, check_over, pages_as_over, raw_over,
+    CliFault, Ending, Watched, bus_as_over, bus_over, check_as_over, check_over, pages_as_over,
+    pages_over, raw_over,
 };
 use pr_dots::Shapes;
 use pr_options::{CheckOutput, DecodeOutput, Job, PagesOutput, found_source};
@@ -18,6 +19,7 @@ use pr_recording::{
     Heard, Wording, bytes_over, check_json_over, decode_json_over, decode_over, reprint_over,
     run_bytes_over,
 };
+use pr_render::Format;
 use pr_report::{Oddities, Report};
 use pr_serial::Present;
 use std::alloc::Global;
@@ -89,7 +91,8 @@ pub fn restarted_job<'a>(job: Job<'a>, start: u64) -> Job<'a>
 ///
 /// # Errors
 ///
-/// Those of the job's call: [`pr_jobs::pages_as_over`] or, for bytes, [`pr_recording::run_bytes_over`];
+/// Those of the job's call: [`pr_jobs::pages_over`] for a list of marks, [`pr_jobs::pages_as_over`] for other pages, and
+/// [`pr_recording::run_bytes_over`] for bytes; [`pr_jobs::bus_over`] for a trace text, and else
 /// [`pr_jobs::bus_as_over`]; [`pr_jobs::check_over`] for the frames of a trace text,
 /// [`pr_recording::check_json_over`] for the JSON of any trace, and else
 /// [`pr_jobs::check_as_over`]; [`pr_recording::decode_over`] for a list,
@@ -119,6 +122,10 @@ pub fn do_job<R: Read, W: Write>(
     match job {
         Job::Pages(_, present, delays, mode, wanted) => {
             print_run(alloc, input, output, present, delays, mode, wanted, shapes)
+        }
+        Job::Bus(_, present, delays, mode, TraceFormat::Text) => {
+            let ending = bus_over(alloc, input, output, present, delays, mode)?;
+            Ok(Answer::Ended(ending))
         }
         Job::Bus(_, present, delays, mode, format) => {
             let ending = bus_as_over(alloc, input, output, present, delays, mode, format)?;
@@ -167,6 +174,10 @@ fn print_run<R: Read, W: Write>(
     ensures write_failed { IsErrOf result CliFault.WriteFailed ↔ (has_failed output.new ≡ true) }
 {
     match wanted {
+        PagesOutput::Pages(Format::List) => {
+            let ending = pages_over(alloc, input, output, present, delays, mode)?;
+            Ok(Answer::Ended(ending))
+        }
         PagesOutput::Pages(format) => {
             let ending = pages_as_over(
                 alloc, input, output, present, delays, mode, format, shapes,

@@ -18,6 +18,7 @@ use Rattle.pr_system.specs.Headline.{IsOutcome}
 use Rattle.pr_jobs.specs.Formats.{text_in}
 use Rattle.pr_input.specs.PartlyWritten.{AppendsFront}
 use Rattle.pr_render.specs.declared.format.Format.{Format}
+use Rattle.pr_render.specs.declared.format.Format.TheVariants as format
 use Rattle.pr_jobs.specs.declared.fault.PictureFault.{PictureFault}
 use Rattle.pr_jobs.specs.declared.pages.Ending.{Ending}
 use Rattle.pr_jobs.specs.declared.pages.Ending.TheVariants.{Done, Stopped}
@@ -103,10 +104,16 @@ IsRunFault (Capture fault) = ⊥
 IsRunFault (Picture fault) = ⊥
 IsRunFault _ = Unit {0}
 
--- a fault of pages: one of their run or of their picture
-abbrev pub IsPagesFault : CliFault → Type 0
-IsPagesFault (Picture fault) = Unit {0}
-IsPagesFault fault = IsRunFault fault
+-- a fault of a picture of pages: one of their run, or that there is no such picture
+abbrev pub IsPictureFault : CliFault → Type 0
+IsPictureFault (Picture fault) = Unit {0}
+IsPictureFault fault = IsRunFault fault
+
+-- a fault of pages in a format: a list of marks and lines are no pictures
+abbrev pub IsPagesFault : Format → CliFault → Type 0
+IsPagesFault format.List fault = IsRunFault fault
+IsPagesFault format.Lines fault = IsRunFault fault
+IsPagesFault _ fault = IsPictureFault fault
 
 -- the input has been read to its end, unless it is too large, a read failed or memory was refused
 abbrev pub ReadsToEnd : {Y : Type 0} → Option (List ℕ) → Result Y CliFault → Type 0

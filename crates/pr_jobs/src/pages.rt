@@ -5,7 +5,7 @@ ghost use Rattle.pr_basic.specs.Limits.{statement_limit};
 ghost use Rattle.pr_dots.specs.Shapes.{own_shapes};
 ghost use Rattle.pr_system.specs.StepByStep.{stepped_through};
 ghost use Rattle.pr_jobs.specs.Outcomes.{GivesOutcome};
-ghost use Rattle.pr_jobs.specs.Pages.{AnswersPages, IsPagesFault, ReadsToEnd, WritesNothing, ending_of, start_of};
+ghost use Rattle.pr_jobs.specs.Pages.{AnswersPages, IsPagesFault, IsRunFault, ReadsToEnd, WritesNothing, ending_of, start_of};
 ghost use Rattle.pr_input.specs.Watched.{has_failed, is_flushed, wrapped};
 
 use crate::fault::CliFault;
@@ -96,7 +96,7 @@ fn outcome_of(
 /// - [`CliFault::TooLarge`]: only if the input has more than [`SCRIPT_LIMIT`] bytes.
 /// - [`CliFault::ReadFailed`] exactly if the input has failed, [`CliFault::WriteFailed`] exactly
 ///   if the output has; after the latter a beginning of the text has been written.
-/// - [`CliFault::Picture`]: the pages have no such sheet, or their document is too large.
+/// - [`CliFault::Picture`]: the pages have no such sheet, or their document is too large; of pictures alone.
 /// - [`CliFault::NoMemory`]: memory was refused; never reported as a script's fault.
 ///
 /// After every error but `WriteFailed` nothing has been written.
@@ -121,7 +121,7 @@ pub fn pages_as_over<R: Read, W: Write>(
     ensures flushed { OnOk result (is_flushed output.new ≡ true) }
     // when it refuses, and what that leaves
     ensures nothing { WritesNothing (W.contents (wrapped output.old)) (W.contents (wrapped output.new)) result }
-    ensures memory { IfErr result IsPagesFault }
+    ensures memory { IfErr result (IsPagesFault format) }
     ensures read_failed { IsErrOf result CliFault.ReadFailed ↔ (has_failed input.new ≡ true) }
     ensures write_failed { IsErrOf result CliFault.WriteFailed ↔ (has_failed output.new ≡ true) }
 {
@@ -142,7 +142,7 @@ pub fn pages_as_over<R: Read, W: Write>(
 ///
 /// # Errors
 ///
-/// Those of [`pages_as_over`]. After every error but `WriteFailed` nothing has been written.
+/// Those of [`pages_as_over`] but [`CliFault::Picture`]. After every error but `WriteFailed` nothing has been written.
 pub fn pages_over<R: Read, W: Write>(
     alloc: Global,
     input: &mut Watched<R>,
@@ -162,7 +162,7 @@ pub fn pages_over<R: Read, W: Write>(
     ensures flushed { OnOk result (is_flushed output.new ≡ true) }
     // when it refuses, and what that leaves
     ensures nothing { WritesNothing (W.contents (wrapped output.old)) (W.contents (wrapped output.new)) result }
-    ensures memory { IfErr result IsPagesFault }
+    ensures memory { IfErr result IsRunFault }
     ensures read_failed { IsErrOf result CliFault.ReadFailed ↔ (has_failed input.new ≡ true) }
     ensures write_failed { IsErrOf result CliFault.WriteFailed ↔ (has_failed output.new ≡ true) }
 {
