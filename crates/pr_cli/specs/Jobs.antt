@@ -1,5 +1,5 @@
 -- Trusted: what the program answers for each job, what it leaves in the reader and in the writer,
--- and with which exit status it ends. The answer uses the printers present, the delays, the mode, the input, the character set
+-- and how it ends. The answer uses the printers present, the delays, the mode, the input, the character set
 -- and the output of the job, and the shapes of characters that it is given.
 use Rattle.std.specs.Prelude.{◌≡◌, ◌⊎◌, ◌≤◌, ◌-◌, ℕ, Bool, true, false, List, length, Option, Some, None, take, Result, Ok, Err}
 use Rattle.pr_capture.specs.declared.format.Source.{Source}
@@ -42,7 +42,9 @@ use Rattle.pr_recording.specs.Pages as reprint
 use Rattle.pr_recording.specs.RunBytes.{AnswersRunBytes}
 use Rattle.pr_cli.specs.declared.jobs.Answer.{Answer}
 use Rattle.pr_cli.specs.declared.jobs.Answer.TheVariants as answer
-use Rattle.pr_cli.specs.Statuses.{job_status, text_status}
+use Rattle.pr_cli.specs.Statuses.{job_end, status_of}
+use Rattle.pr_cli.specs.declared.statuses.End.{End}
+use Rattle.pr_cli.specs.declared.statuses.End.TheVariants.{Listing}
 
 -- a job whose recording's format has to be found, with the format that the first bytes show; all else of it stays
 abbrev pub found_job : (first : List ℕ) → Job → Job
@@ -132,11 +134,11 @@ AnswersJob shapes (Decode is_found input output) text old new result =
 AnswersJob shapes (Raw lower f) text old new result =
     IsDone (AnswersRaw shapes lower f text old new) result
 
--- how the program ends a job: the writer holds what an answer of the job leaves in it, and the exit status is that answer's; an
+-- how the program ends a job: the writer holds what an answer of the job leaves in it, and it ends as that answer says; an
 -- answer that is always allowed is `NoMemory`, where at most a beginning was written
-abbrev pub EndsJob : Shapes → Job → List ℕ → Option (List ℕ) → Option (List ℕ) → (status : ℕ) → Type 0
-EndsJob shapes job text old new status =
-    (answer : Result Answer CliFault) × AnswersJob shapes job text old new answer × (status ≡ job_status answer)
+abbrev pub EndsJob : Shapes → Job → List ℕ → Option (List ℕ) → Option (List ℕ) → End → Type 0
+EndsJob shapes job text old new end =
+    (answer : Result Answer CliFault) × AnswersJob shapes job text old new answer × (end ≡ job_end answer)
 
 -- the form of the listing that a job reads; an input that is no listing is read as it is
 abbrev pub form_of : Job → ListingForm
@@ -150,15 +152,15 @@ finds_format (Decode is_found input output) = is_found
 finds_format _ = false
 
 -- how it ends a job that reads a listing in this form: by the text that the listing has, or it gets no text of it, and writes nothing
-abbrev pub EndsListing : Shapes → Job → ListingForm → List ℕ → Option (List ℕ) → Option (List ℕ) → (status : ℕ) → Type 0
-EndsListing shapes job form bytes old new status =
-    ((text : List ℕ) × (length bytes ≤ script_limit) × HasText form bytes text × EndsJob shapes job text old new status)
-    ⊎ ((fault : TextFault) × IsTextFault form script_limit bytes fault × (new ≡ old) × (status ≡ text_status fault))
+abbrev pub EndsListing : Shapes → Job → ListingForm → List ℕ → Option (List ℕ) → Option (List ℕ) → End → Type 0
+EndsListing shapes job form bytes old new end =
+    ((text : List ℕ) × (length bytes ≤ script_limit) × HasText form bytes text × EndsJob shapes job text old new end)
+    ⊎ ((fault : TextFault) × IsTextFault form script_limit bytes fault × (new ≡ old) × (end ≡ Listing fault))
 
 -- how it ends a job on an input's bytes: by the bytes themselves where the form is a script's text, else as a listing
-abbrev pub EndsInput : Shapes → Job → ListingForm → List ℕ → Option (List ℕ) → Option (List ℕ) → (status : ℕ) → Type 0
-EndsInput shapes job Text bytes old new status = EndsJob shapes job bytes old new status
-EndsInput shapes job form bytes old new status = EndsListing shapes job form bytes old new status
+abbrev pub EndsInput : Shapes → Job → ListingForm → List ℕ → Option (List ℕ) → Option (List ℕ) → End → Type 0
+EndsInput shapes job Text bytes old new end = EndsJob shapes job bytes old new end
+EndsInput shapes job form bytes old new end = EndsListing shapes job form bytes old new end
 
 -- how many bytes of a recording show its format, at most
 abbrev pub first_bytes : ℕ
@@ -182,20 +184,20 @@ IsStarted (Some before) job started =
 
 -- how it ends a job on a recording's bytes in the format that the first of them show, where the job has to find it, and from its
 -- start; or it does not get so far, and writes nothing
-abbrev pub EndsRecording : Shapes → (before : Option ℕ) → Job → List ℕ → Option (List ℕ) → Option (List ℕ) → (status : ℕ) → Type 0
-EndsRecording shapes before job bytes old new status =
-    ((started : Job) × IsStarted before (found_job (take first_bytes bytes) job) started × EndsJob shapes started bytes old new status)
-    ⊎ ((status ≡ 3) × (new ≡ old))
+abbrev pub EndsRecording : Shapes → (before : Option ℕ) → Job → List ℕ → Option (List ℕ) → Option (List ℕ) → End → Type 0
+EndsRecording shapes before job bytes old new end =
+    ((started : Job) × IsStarted before (found_job (take first_bytes bytes) job) started × EndsJob shapes started bytes old new end)
+    ⊎ ((status_of end ≡ 3) × (new ≡ old))
 
 -- the same where only its format may have to be found; every other job is ended as its input asks for
-abbrev pub EndsFound : Shapes → (is_to_find : Bool) → Job → List ℕ → Option (List ℕ) → Option (List ℕ) → (status : ℕ) → Type 0
-EndsFound shapes true job bytes old new status = EndsRecording shapes None job bytes old new status
-EndsFound shapes false job bytes old new status = EndsInput shapes job (form_of job) bytes old new status
+abbrev pub EndsFound : Shapes → (is_to_find : Bool) → Job → List ℕ → Option (List ℕ) → Option (List ℕ) → End → Type 0
+EndsFound shapes true job bytes old new end = EndsRecording shapes None job bytes old new end
+EndsFound shapes false job bytes old new end = EndsInput shapes job (form_of job) bytes old new end
 
 -- how it ends a job on an input's bytes
-abbrev pub EndsWork : Shapes → (before : Option ℕ) → Job → List ℕ → Option (List ℕ) → Option (List ℕ) → (status : ℕ) → Type 0
-EndsWork shapes (Some before) job bytes old new status = EndsRecording shapes (Some before) job bytes old new status
-EndsWork shapes None job bytes old new status = EndsFound shapes (finds_format job) job bytes old new status
+abbrev pub EndsWork : Shapes → (before : Option ℕ) → Job → List ℕ → Option (List ℕ) → Option (List ℕ) → End → Type 0
+EndsWork shapes (Some before) job bytes old new end = EndsRecording shapes (Some before) job bytes old new end
+EndsWork shapes None job bytes old new end = EndsFound shapes (finds_format job) job bytes old new end
 
 -- Whatever the reader gives.
 

@@ -1,4 +1,4 @@
--- Trusted: the program's exit statuses.
+-- Trusted: how the program ends, and its exit statuses.
 use Rattle.std.specs.Prelude.{ℕ, Result, Ok, Err}
 use Rattle.clap.specs.Values.{kind_of}
 use Rattle.clap.specs.declared.error.kind.ErrorKind.{ErrorKind}
@@ -15,18 +15,37 @@ use Rattle.pr_jobs.specs.declared.pages.Ending.{Ending}
 use Rattle.pr_jobs.specs.declared.pages.Ending.TheVariants.{Done, Stopped}
 use Rattle.pr_cli.specs.declared.jobs.Answer.{Answer}
 use Rattle.pr_cli.specs.declared.jobs.Answer.TheVariants.{Ended, Heard, Overheard, Remarked}
+use Rattle.pr_cli.specs.declared.statuses.End.{End}
+use Rattle.pr_cli.specs.declared.statuses.End.TheVariants as end
 
--- 0 when a job is done, 1 when a BASIC error stopped the run
-abbrev pub ending_status : Ending → ℕ
-ending_status Done = 0
-ending_status Stopped = 1
+-- a job is done, or a BASIC error stopped the run
+abbrev pub ending_end : Ending → End
+ending_end Done = end.Done
+ending_end Stopped = end.Stopped
 
 -- the same of a job with its answer
-abbrev pub answer_status : Answer → ℕ
-answer_status (Ended ending) = ending_status ending
-answer_status (Heard ending heard) = ending_status ending
-answer_status (Overheard heard odd) = ending_status Done
-answer_status (Remarked odd) = ending_status Done
+abbrev pub answer_end : Answer → End
+answer_end (Ended ending) = ending_end ending
+answer_end (Heard ending heard) = ending_end ending
+answer_end (Overheard heard odd) = end.Done
+answer_end (Remarked odd) = end.Done
+
+-- of a job with its answer or its fault
+abbrev pub job_end : Result Answer CliFault → End
+job_end (Ok answer) = answer_end answer
+job_end (Err fault) = end.Job fault
+
+-- help and the version are written; other words that clap refuses ask for nothing
+abbrev pub line_end : ErrorKind → End
+line_end DisplayHelp = end.Done
+line_end DisplayVersion = end.Done
+line_end _ = end.Words
+
+-- so do words with a bad value; or memory was refused
+abbrev pub refusal_end : JobFault → End
+refusal_end (job.Line e) = line_end (kind_of e)
+refusal_end job.NoMemory = end.Job NoMemory
+refusal_end _ = end.Words
 
 -- 2 when the input is refused, 3 when memory was refused, or a read or a write failed
 abbrev pub fault_status : CliFault → ℕ
@@ -39,23 +58,6 @@ fault_status TooLarge = 2
 fault_status NoMemory = 3
 fault_status ReadFailed = 3
 fault_status WriteFailed = 3
-
--- of a job with its answer or its fault
-abbrev pub job_status : Result Answer CliFault → ℕ
-job_status (Ok answer) = answer_status answer
-job_status (Err fault) = fault_status fault
-
--- 0 when the words ask for help or for the version, 2 when clap refuses them
-abbrev pub line_status : ErrorKind → ℕ
-line_status DisplayHelp = 0
-line_status DisplayVersion = 0
-line_status _ = 2
-
--- 2 also when a value is bad, 3 when memory was refused
-abbrev pub refusal_status : JobFault → ℕ
-refusal_status (job.Line e) = line_status (kind_of e)
-refusal_status job.NoMemory = 3
-refusal_status _ = 2
 
 -- 2 when a listing is refused, 3 when memory was refused, or a read failed
 abbrev pub text_status : TextFault → ℕ
@@ -70,3 +72,12 @@ characters_status (shapes.Characters fault) = 2
 characters_status shapes.TooLarge = 2
 characters_status shapes.ReadFailed = 3
 characters_status shapes.NoMemory = 3
+
+-- the exit status: 0 when what was asked for is written, 1 when a BASIC error stopped the run, 2 when the words are refused
+abbrev pub status_of : End → ℕ
+status_of end.Done = 0
+status_of end.Stopped = 1
+status_of (end.Job fault) = fault_status fault
+status_of (end.Listing fault) = text_status fault
+status_of (end.Characters fault) = characters_status fault
+status_of end.Words = 2

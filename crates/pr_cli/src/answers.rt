@@ -5,14 +5,15 @@ ghost use Rattle.std.specs.Io.KnownBytes.{Consumes};
 ghost use Rattle.pr_input.specs.Watched.{wrapped};
 ghost use Rattle.pr_cli.specs.Answered.{EndsTask};
 ghost use Rattle.pr_cli.specs.Jobs.{EndsJob, EndsListing, EndsRecording, EndsWork, IsStarted, finds_format, first_bytes, form_of, found_job};
-ghost use Rattle.pr_cli.specs.Statuses.{answer_status, fault_status, job_status, text_status};
+ghost use Rattle.pr_cli.specs.Statuses.{answer_end, fault_status, job_end, status_of};
+ghost use Rattle.pr_cli.specs.declared.statuses.End.TheVariants as end;
 
 use crate::characters::{shapes_for, shapes_given};
 use crate::jobs::{Answer, do_job, found_job};
 use crate::outside::Outside;
 use crate::progress::{Progress, clear};
 use crate::starts::started_job;
-use crate::statuses::{FAILED, ending_status, fault_status, is_answered, text_status};
+use crate::statuses::{End, FAILED, is_answered};
 use crate::told::{Subject, show_oddities, subject_of, tell_heard, tell_listing, tell_more};
 use pr_jobs::{CliFault, Ending, SCRIPT_LIMIT, TeeReader, Watched};
 use pr_dots::Shapes;
@@ -87,7 +88,7 @@ pub fn answer_task(
     } = task;
     let shapes = match shapes_for(rt, characters) {
         Ok(shapes) => shapes,
-        Err(status) => return status,
+        Err(end) => return end.status(),
     };
     let work = Work {
         job,
@@ -125,7 +126,7 @@ pub fn answer_task(
     }
 }
 
-/// Does a task over an input in memory, with the bytes of the file of characters, where it names one. Gives the exit status
+/// Does a task over an input in memory, with the bytes of the file of characters, where it names one. Gives how it ends
 /// and what is written.
 pub fn answer_given(
     rt: &(impl Outside + Eprint + AllocGlobal),
@@ -133,13 +134,13 @@ pub fn answer_given(
     is_explained: bool,
     input: &[u8],
     characters: &[u8],
-) -> (u8, Vec<u8>)
+) -> (End, Vec<u8>)
     ensures { EndsTask task.entry input.now characters.now result.1.items result.0 }
 {
     let writer = Vec::new(rt.alloc());
     let shapes = match shapes_given(rt, task.characters, characters) {
         Ok(shapes) => shapes,
-        Err(status) => return (status, writer),
+        Err(fault) => return (End::Characters(fault), writer),
     };
     let names = Names {
         input: task.input,
@@ -197,14 +198,15 @@ fn answer_from<R: Read + Drop>(
     aside: Aside<'_>,
 ) -> u8 {
     let Some(name) = names.output else {
-        let (status, _output) = answer_job(rt, reader, io::writer(rt), names, work, aside);
-        return status;
+        let (end, _output) = answer_job(rt, reader, io::writer(rt), names, work, aside);
+        return end.status();
     };
     let saving = match save(rt, name) {
         Ok(saving) => saving,
         Err(error) => return tell_file(rt, name, &error),
     };
-    let (status, saving) = answer_job(rt, reader, saving, names, work, aside);
+    let (end, saving) = answer_job(rt, reader, saving, names, work, aside);
+    let status = end.status();
     if is_answered(status) {
         match saving.keep(rt) {
             Ok(()) => status,
@@ -216,7 +218,7 @@ fn answer_from<R: Read + Drop>(
     }
 }
 
-/// Does a job over a reader and a writer, and gives the exit status and the writer. A listing in
+/// Does a job over a reader and a writer, and gives how it ends and the writer. A listing in
 /// another form is made a script's text first, and a recording's format or own moment 0 is found first.
 fn answer_job<R: Read + Drop, W: Write + Drop>(
     rt: &(impl Outside + Eprint + AllocGlobal),
@@ -225,7 +227,7 @@ fn answer_job<R: Read + Drop, W: Write + Drop>(
     names: Names<'_>,
     work: Work<'_>,
     aside: Aside<'_>,
-) -> (u8, W)
+) -> (End, W)
     ensures { IfSome (R.remaining reader) (λ bytes. EndsWork work.entry.shapes.now work.entry.before work.entry.job bytes
         (W.contents writer) (W.contents result.1) result.0) }
 {
@@ -261,7 +263,7 @@ fn answer_recording<R: Read + Drop, W: Write + Drop>(
     names: Names<'_>,
     work: Work<'_>,
     aside: Aside<'_>,
-) -> (u8, W)
+) -> (End, W)
     ensures { IfSome (R.remaining reader) (λ bytes. EndsRecording work.entry.shapes.now work.entry.before work.entry.job bytes
         (W.contents writer) (W.contents result.1) result.0) }
 {
@@ -349,7 +351,7 @@ fn answer_listing<R: Read + Drop, W: Write + Drop>(
     form: ListingForm,
     work: Work<'_>,
     aside: Aside<'_>,
-) -> (u8, W)
+) -> (End, W)
     ensures { IfSome (R.remaining reader) (λ bytes. EndsListing work.entry.shapes.now work.entry.job form bytes
         (W.contents writer) (W.contents result.1) result.0) }
 {
@@ -366,11 +368,11 @@ fn answer_listing<R: Read + Drop, W: Write + Drop>(
         Err(fault) => {
             let input = input.into_inner();
             clear(rt, aside.is_shown);
-            let status = refuse_listing(rt, fault, names.input, input.error());
+            refuse_listing(rt, fault, names.input, input.error());
             if let Some(bytes) = input.into_inner().into_bytes() {
                 tell_listing(rt, bytes.as_slice(), fault);
             }
-            (status, writer)
+            (End::Listing(fault), writer)
         }
     }
 }
@@ -385,7 +387,7 @@ fn form_of(job: &Job<'_>) -> ListingForm
     }
 }
 
-/// Does a job over a reader and a writer, and gives the exit status and the writer. Where more is to
+/// Does a job over a reader and a writer, and gives how it ends and the writer. Where more is to
 /// be said, the input is kept, since a trace text's first bad line may be its last; a file is read again instead, when the
 /// job has freed what it kept.
 fn answer_over<R: Read + Drop, W: Write + Drop>(
@@ -395,7 +397,7 @@ fn answer_over<R: Read + Drop, W: Write + Drop>(
     names: Names<'_>,
     work: Work<'_>,
     aside: Aside<'_>,
-) -> (u8, W)
+) -> (End, W)
     ensures { IfSome (R.remaining reader) (λ text. EndsJob work.entry.shapes.now work.entry.job text
         (W.contents writer) (W.contents result.1) result.0) }
 {
@@ -409,7 +411,7 @@ fn answer_over<R: Read + Drop, W: Write + Drop>(
     clear(rt, aside.is_shown);
     let input = input.into_inner();
     let output = output.into_inner();
-    let status = tell_end(rt, subject, names, answer, input.error(), output.error());
+    let end = tell_end(rt, subject, names, answer, input.error(), output.error());
     let bytes = match names.input {
         Some(name) if aside.is_file => rt.again(name, aside.count.get()),
         _ => input.into_inner().into_bytes(),
@@ -417,7 +419,7 @@ fn answer_over<R: Read + Drop, W: Write + Drop>(
     if let Some(bytes) = bytes {
         tell_more(rt, bytes.as_slice(), subject, ending_of(answer));
     }
-    (status, output.into_inner())
+    (end, output.into_inner())
 }
 
 /// How a job ended, or its fault.
@@ -429,8 +431,8 @@ fn ending_of(answer: Result<Answer, CliFault>) -> Result<Ending, CliFault> {
     }
 }
 
-/// Reports in one line on standard error why a job failed, or what else there is to say of its answer, and gives the exit
-/// status. A read that failed did so for the one reason, and a write for the other.
+/// Reports in one line on standard error why a job failed, or what else there is to say of its answer, and gives how it
+/// ends. A read that failed did so for the one reason, and a write for the other.
 fn tell_end(
     rt: &(impl Outside + Eprint + AllocGlobal),
     subject: Subject<'_>,
@@ -438,8 +440,8 @@ fn tell_end(
     answer: Result<Answer, CliFault>,
     read_error: Option<Error>,
     write_error: Option<Error>,
-) -> u8
-    ensures { result ≡ job_status answer }
+) -> End
+    ensures { result ≡ job_end answer }
 {
     match answer {
         Ok(answer) => tell_answer(rt, subject, answer),
@@ -453,67 +455,67 @@ fn tell_end(
     }
 }
 
-/// Gives the exit status of a job that ended so. Where its bytes do not say in which character set a printer prints
+/// Gives how a job with this answer ends. Where its bytes do not say in which character set a printer prints
 /// them, reports that in one line on standard error, and then what is odd about a recording that was not listed.
-fn tell_answer(rt: &(impl Eprint + AllocGlobal), subject: Subject<'_>, answer: Answer) -> u8
-    ensures { result ≡ answer_status answer }
+fn tell_answer(rt: &(impl Eprint + AllocGlobal), subject: Subject<'_>, answer: Answer) -> End
+    ensures { result ≡ answer_end answer }
 {
     match answer {
-        Answer::Ended(ending) => ending_status(ending),
+        Answer::Ended(ending) => End::of_ending(ending),
         Answer::Heard(ending, heard) => {
             tell_heard(rt, heard);
-            ending_status(ending)
+            End::of_ending(ending)
         }
         Answer::Overheard(heard, odd) => {
             tell_heard(rt, heard);
             show_oddities(rt, subject, odd);
-            ending_status(Ending::Done)
+            End::Done
         }
         Answer::Remarked(odd) => {
             show_oddities(rt, subject, odd);
-            ending_status(Ending::Done)
+            End::Done
         }
     }
 }
 
-/// Reports in one line on standard error why a listing has no text, and gives the exit status.
+/// Reports in one line on standard error why a listing has no text.
 fn refuse_listing(
     rt: &(impl Outside + Eprint),
     fault: TextFault,
     name: Option<&str>,
     error: Option<Error>,
-) -> u8
-    ensures { result ≡ text_status fault }
-{
+) {
     match (fault, name, error) {
-        (TextFault::ReadFailed, Some(name), Some(error)) => tell_file(rt, name, &error),
+        (TextFault::ReadFailed, Some(name), Some(error)) => rt.tell_error(name, &error),
         _ => {
             let _ = rt.eprintln(format_args!("print1525: {fault}"));
-            text_status(fault)
         }
     }
 }
 
 /// Reports a failed read or write in one line on standard error: of a file by its name and the
-/// reason. Gives the exit status.
+/// reason. Gives how the program ends.
 fn tell_failed(
     rt: &(impl Outside + Eprint),
     fault: CliFault,
     name: Option<&str>,
     error: Option<Error>,
-) -> u8
-    ensures { result ≡ fault_status fault }
+) -> End
+    ensures { result ≡ end.Job fault }
 {
     match (fault, name, error) {
         (CliFault::ReadFailed | CliFault::WriteFailed, Some(name), Some(error)) => {
-            tell_file(rt, name, &error)
+            rt.tell_error(name, &error);
         }
         // (a write to memory fails for no other reason)
         (CliFault::WriteFailed, None, Some(error)) if error.kind() == ErrorKind::OutOfMemory => {
-            tell(rt, CliFault::NoMemory)
+            let _ = tell(rt, CliFault::NoMemory);
         }
-        _ => tell(rt, fault),
+        _ => {
+            let _ = tell(rt, fault);
+        }
     }
+    End::Job(fault)
 }
 
 /// Reports in one line on standard error why a file cannot be opened, read or written, and gives the
@@ -525,10 +527,10 @@ pub fn tell_file(rt: &impl Outside, name: &str, error: &Error) -> u8
     FAILED
 }
 
-/// Reports a fault in one line on standard error and gives its exit status.
-pub fn tell(rt: &impl Eprint, fault: CliFault) -> u8
-    ensures { result ≡ fault_status fault }
+/// Reports a fault in one line on standard error, and gives how the program ends.
+pub fn tell(rt: &impl Eprint, fault: CliFault) -> End
+    ensures { result ≡ end.Job fault }
 {
     let _ = rt.eprintln(format_args!("print1525: {fault}"));
-    fault_status(fault)
+    End::Job(fault)
 }

@@ -2,13 +2,11 @@
 
 ghost use Rattle.std.specs.Prelude.{◌≡◌, None, Ok, IfSome, option_map};
 ghost use Rattle.pr_dots.specs.Shapes.{own_shapes};
-ghost use Rattle.pr_cli.specs.Characters.{GivenShapes, GivesShapes};
-ghost use Rattle.pr_cli.specs.Statuses.{characters_status};
+ghost use Rattle.pr_jobs.specs.Characters.{AnswersCharacters};
+ghost use Rattle.pr_cli.specs.Characters.{GivenShapes};
 
-use crate::answers::tell_file;
 use crate::outside::Outside;
 use crate::shown::Shown;
-use crate::statuses::characters_status;
 use pr_jobs::{ShapesFault, Watched, read_characters};
 use pr_dots::Shapes;
 use pr_files::Noting;
@@ -16,11 +14,11 @@ use std::fs::{File, Files};
 use std::io::{Error, Read};
 
 /// Returns the shapes of the file of this name, or this project's own where there is none. A file without shapes is
-/// reported in one line on standard error; the answer is then the exit status.
+/// reported in one line on standard error, and so is one that cannot be opened.
 pub fn shapes_for(
     rt: &(impl Files + Eprint + AllocGlobal),
     name: Option<&str>,
-) -> Result<Shapes, u8>
+) -> Result<Shapes, ShapesFault>
     ensures own { name.entry ≡ None → result ≡ Ok own_shapes }
 {
     let Some(name) = name else {
@@ -28,7 +26,10 @@ pub fn shapes_for(
     };
     match File::open(rt, name) {
         Ok(file) => shapes_from(rt, file, name),
-        Err(error) => Err(tell_file(rt, name, &error)),
+        Err(error) => {
+            rt.tell_error(name, &error);
+            Err(ShapesFault::ReadFailed)
+        }
     }
 }
 
@@ -37,7 +38,7 @@ pub fn shapes_given(
     rt: &(impl Outside + Eprint + AllocGlobal),
     name: Option<&str>,
     file: &[u8],
-) -> Result<Shapes, u8>
+) -> Result<Shapes, ShapesFault>
     ensures { GivenShapes (option_map (λ name. name.now) name.entry) file.now result }
 {
     match name {
@@ -53,35 +54,34 @@ fn shapes_from<R: Read + Drop>(
     rt: &(impl Outside + Eprint + AllocGlobal),
     file: R,
     name: &str,
-) -> Result<Shapes, u8>
-    ensures { IfSome (R.remaining file) (λ text. GivesShapes text result) }
+) -> Result<Shapes, ShapesFault>
+    ensures { IfSome (R.remaining file) (λ text. AnswersCharacters text result) }
 {
     let mut input = Watched::new(Noting::new(file));
     match read_characters(rt.alloc(), &mut input) {
         Ok(shapes) => Ok(shapes),
-        Err(fault) => Err(refuse_characters(rt, fault, name, input.into_inner().error())),
+        Err(fault) => {
+            refuse_characters(rt, fault, name, input.into_inner().error());
+            Err(fault)
+        }
     }
 }
 
-/// Reports in one line on standard error why a file has no shapes, and gives the exit status.
+/// Reports in one line on standard error why a file has no shapes.
 fn refuse_characters(
     rt: &(impl Outside + Eprint),
     fault: ShapesFault,
     name: &str,
     error: Option<Error>,
-) -> u8
-    ensures { result ≡ characters_status fault }
-{
+) {
     match (fault, error) {
-        (ShapesFault::ReadFailed, Some(error)) => tell_file(rt, name, &error),
+        (ShapesFault::ReadFailed, Some(error)) => rt.tell_error(name, &error),
         (ShapesFault::Characters(_) | ShapesFault::TooLarge, _) => {
             let name = Shown(name);
             let _ = rt.eprintln(format_args!("print1525: {name}: {fault}"));
-            characters_status(fault)
         }
         _ => {
             let _ = rt.eprintln(format_args!("print1525: {fault}"));
-            characters_status(fault)
         }
     }
 }

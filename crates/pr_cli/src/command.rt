@@ -5,7 +5,7 @@ ghost use Rattle.std.specs.Prelude.{◌≡◌};
 use crate::answers::{Manner, answer_task, tell};
 use crate::meant::meant;
 use crate::refusals::{refuse, refuse_task, refuse_word};
-use crate::statuses::REFUSED;
+use crate::statuses::End;
 use pr_jobs::CliFault;
 use pr_options::{explains, read_task};
 use std::alloc::{AllocError, Global};
@@ -38,10 +38,12 @@ pub fn run(
     match words_of(rt) {
         Ok(words) => match answer_words(rt, words.as_slice(), terminals) {
             Ok(status) => status,
-            Err(AllocError) => tell(rt, CliFault::NoMemory),
+            Err(AllocError) => tell(rt, CliFault::NoMemory).status(),
         },
-        Err(error) if error.kind() == ErrorKind::OutOfMemory => tell(rt, CliFault::NoMemory),
-        Err(_) => refuse_words(rt),
+        Err(error) if error.kind() == ErrorKind::OutOfMemory => {
+            tell(rt, CliFault::NoMemory).status()
+        }
+        Err(_) => refuse_words(rt).status(),
     }
 }
 
@@ -55,17 +57,17 @@ fn words_of(rt: &(impl Env + AllocGlobal)) -> io::Result<Vec<String>> {
     Ok(words)
 }
 
-/// Reports which word of the command line is not UTF-8, and gives the exit status. The room for the word is in a frame of
+/// Reports which word of the command line is not UTF-8, and gives how the program ends. The room for the word is in a frame of
 /// its own, which no other run has to clear.
 #[inline(never)]
-fn refuse_words(rt: &(impl Env + Eprint)) -> u8 {
+fn refuse_words(rt: &(impl Env + Eprint)) -> End {
     let mut word = [0u8; SHOWN];
     for i in 0..usize::MAX {
         match rt.arg(i, &mut word) {
             Ok(n) => {
                 if str::from_utf8(&word[..n]).is_err() {
                     refuse_word(rt, &word[..n]);
-                    return REFUSED;
+                    return End::Words;
                 }
             }
             Err(FillError::TooLong) => {}
@@ -94,7 +96,7 @@ fn answer_words(
             };
             Ok(answer_task(rt, task, manner))
         }
-        Err(fault) => refuse_task(rt, texts.as_slice(), fault, is_explained),
+        Err(fault) => Ok(refuse_task(rt, texts.as_slice(), fault, is_explained)?.status()),
     }
 }
 

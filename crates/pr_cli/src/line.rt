@@ -4,12 +4,13 @@ ghost use Rattle.std.specs.Prelude.{◌≡◌, ◌++◌, [], map, option_map, If
 ghost use Rattle.pr_options.specs.Jobs.{task_view};
 ghost use Rattle.pr_cli.specs.Answered.{AnswersLine, IsUntold, NamesFiles};
 ghost use Rattle.pr_cli.specs.Words.{name_part, names_part, words_in};
+ghost use Rattle.pr_cli.specs.declared.statuses.End.TheVariants as end;
 
 use crate::answers::{tell, tell_waiting};
 use crate::meant::meant;
 use crate::memory::{Answered, Memory, answer_in_memory};
 use crate::refusals::refuse_word;
-use crate::statuses::REFUSED;
+use crate::statuses::End;
 use pr_jobs::CliFault;
 use pr_options::{JobFault, Task, read_task};
 use std::alloc::{AllocError, Global};
@@ -34,7 +35,7 @@ pub fn answer_line(
     input: &[u8],
     characters: &[u8],
 ) -> Answered
-    ensures { AnswersLine line.now input.now characters.now result.output.items result.status }
+    ensures { AnswersLine line.now input.now characters.now result.output.items result.end }
 {
     let Ok(text) = str::from_utf8(line) else {
         return refused_line(alloc, line);
@@ -47,16 +48,16 @@ pub fn answer_line(
 
 /// The answer where memory was refused.
 fn no_memory(alloc: Global) -> Answered
-    ensures { IsUntold result.output.items result.status }
+    ensures { IsUntold result.output.items result.end }
 {
     let memory = Memory::new(alloc);
-    let status = tell(&memory, CliFault::NoMemory);
-    memory.answered(status, Vec::new(alloc))
+    let end = tell(&memory, CliFault::NoMemory);
+    memory.answered(end, Vec::new(alloc))
 }
 
 /// The answer to words that are not UTF-8.
 fn refused_line(alloc: Global, line: &[u8]) -> Answered
-    ensures status { result.status ≡ 2 }
+    ensures end { result.end ≡ end.Words }
     ensures output { result.output.items ≡ [] }
 {
     let memory = Memory::new(alloc);
@@ -66,7 +67,7 @@ fn refused_line(alloc: Global, line: &[u8]) -> Answered
             break;
         }
     }
-    memory.answered(REFUSED, Vec::new(alloc))
+    memory.answered(End::Words, Vec::new(alloc))
 }
 
 /// Adds a file's name, if there is one, after a sign, and then a byte 0.
@@ -94,30 +95,30 @@ fn names_of(alloc: Global, task: &Task<'_>) -> Result<Vec<u8>, AllocError>
 
 /// The names of the files that words name, for a caller who reads and writes them: those of the file that is read, the file
 /// that is written and the file of characters, each after `=`, or nothing where words name none, and a byte 0 behind each. The
-/// messages are what is said where the input comes from a terminal. The status is 0; 2 where words ask for no task, of which
-/// [`answer_line`] says why, and 3 where memory was refused.
+/// messages are what is said where the input comes from a terminal. It ends with [`End::Done`]; with [`End::Words`] where words
+/// ask for no task, of which [`answer_line`] says why, and with lack of memory where memory was refused.
 pub fn named_files(alloc: Global, line: &[u8]) -> Answered
-    ensures { NamesFiles line.now result.output.items result.status }
+    ensures { NamesFiles line.now result.output.items result.end }
 {
     let Ok(text) = str::from_utf8(line) else {
-        return Memory::new(alloc).answered(REFUSED, Vec::new(alloc));
+        return Memory::new(alloc).answered(End::Words, Vec::new(alloc));
     };
     named_in(alloc, text)
 }
 
 /// The names of the files that the words of a text name.
 fn named_in(alloc: Global, text: &str) -> Answered
-    ensures { NamesFiles text.now result.output.items result.status }
+    ensures { NamesFiles text.now result.output.items result.end }
 {
     let memory = Memory::new(alloc);
     match named(&memory, text) {
-        Ok((status, names)) => memory.answered(status, names),
+        Ok((end, names)) => memory.answered(end, names),
         Err(AllocError) => no_memory(alloc),
     }
 }
 
-/// The status, and the names of files.
-fn named(memory: &Memory, text: &str) -> Result<(u8, Vec<u8>), AllocError>
+/// How it ends, and the names of files.
+fn named(memory: &Memory, text: &str) -> Result<(End, Vec<u8>), AllocError>
     ensures { IfOk result (λ named. NamesFiles text.now named.1.items named.0) }
 {
     let alloc = memory.alloc();
@@ -126,9 +127,9 @@ fn named(memory: &Memory, text: &str) -> Result<(u8, Vec<u8>), AllocError>
     match read_task(alloc, texts.as_slice()) {
         Ok(task) => {
             tell_waiting(memory, &task.job);
-            Ok((0, names_of(alloc, &task)?))
+            Ok((End::Done, names_of(alloc, &task)?))
         }
         Err(JobFault::NoMemory) => Err(AllocError),
-        Err(_) => Ok((REFUSED, Vec::new(alloc))),
+        Err(_) => Ok((End::Words, Vec::new(alloc))),
     }
 }

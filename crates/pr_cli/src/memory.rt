@@ -1,4 +1,4 @@
-//! The program over memory: words, an input and a file of characters in, what the program writes and its exit status out.
+//! The program over memory: words, an input and a file of characters in, what the program writes and how it ends out.
 
 ghost use Rattle.std.specs.Prelude.{◌≡◌, Some, [], map, IfOk};
 ghost use Rattle.pr_cli.specs.Answered.{AnswersWords};
@@ -7,6 +7,7 @@ use crate::answers::{answer_given, tell};
 use crate::meant::meant;
 use crate::outside::Outside;
 use crate::refusals::refuse_task;
+use crate::statuses::End;
 use pr_jobs::CliFault;
 use pr_options::{explains, read_task};
 use std::alloc::{AllocError, Global};
@@ -18,8 +19,8 @@ use std::io::{ErrorKind, Write};
 /// What the program answers over memory.
 #[derive(Drop)]
 pub struct Answered {
-    /// The exit status.
-    pub status: u8,
+    /// How the program ends; [`End::status`] is the exit status.
+    pub end: End,
     /// What the program writes on standard output, or into the file that the words name. With another status than 0 and
     /// 1 the program puts no file in its place.
     pub output: Vec<u8>,
@@ -46,12 +47,12 @@ impl Memory {
     }
 
     /// This answer, with what was said on standard error.
-    pub fn answered(self, status: u8, output: Vec<u8>) -> Answered
-        ensures status { result.status ≡ status }
+    pub fn answered(self, end: End, output: Vec<u8>) -> Answered
+        ensures end { result.end ≡ end }
         ensures output { result.output ≡ output }
     {
         Answered {
-            status,
+            end,
             output,
             messages: self.messages.into_inner(),
         }
@@ -129,26 +130,26 @@ pub fn answer_in_memory(
     input: &[u8],
     characters: &[u8],
 ) -> Answered
-    ensures { AnswersWords (map (λ s. s.now) words.entry.now) input.now characters.now result.output.items result.status }
+    ensures { AnswersWords (map (λ s. s.now) words.entry.now) input.now characters.now result.output.items result.end }
 {
     let memory = Memory::new(alloc);
     match answer_words(&memory, words, is_explained, input, characters) {
-        Ok((status, output)) => memory.answered(status, output),
+        Ok((end, output)) => memory.answered(end, output),
         Err(AllocError) => {
-            let status = tell(&memory, CliFault::NoMemory);
-            memory.answered(status, Vec::new(alloc))
+            let end = tell(&memory, CliFault::NoMemory);
+            memory.answered(end, Vec::new(alloc))
         }
     }
 }
 
-/// The exit status, and what is written on standard output.
+/// How the program ends, and what is written on standard output.
 fn answer_words(
     memory: &Memory,
     words: &[&str],
     is_explained: bool,
     input: &[u8],
     characters: &[u8],
-) -> Result<(u8, Vec<u8>), AllocError>
+) -> Result<(End, Vec<u8>), AllocError>
     ensures { IfOk result (λ answer. AnswersWords (map (λ s. s.now) words.entry.now) input.now characters.now answer.1.items answer.0) }
 {
     let alloc = memory.alloc();
@@ -157,12 +158,12 @@ fn answer_words(
     match read_task(alloc, texts.as_slice()) {
         Ok(task) => Ok(answer_given(memory, task, is_explained, input, characters)),
         Err(fault) => {
-            let status = refuse_task(memory, texts.as_slice(), fault, is_explained)?;
-            let printed = match memory.output.try_replace(Vec::new(alloc)) {
-                Ok(printed) if status == 0 => printed,
+            let end = refuse_task(memory, texts.as_slice(), fault, is_explained)?;
+            let printed = match (end, memory.output.try_replace(Vec::new(alloc))) {
+                (End::Done, Ok(printed)) => printed,
                 _ => Vec::new(alloc),
             };
-            Ok((status, printed))
+            Ok((end, printed))
         }
     }
 }

@@ -1,11 +1,12 @@
 //! Why a command line is refused, on standard error; help and the version on standard output.
 
 ghost use Rattle.std.specs.Prelude.{◌≡◌, ◌⊎◌, IfOk};
-ghost use Rattle.pr_cli.specs.Statuses.{fault_status, refusal_status};
+ghost use Rattle.pr_cli.specs.Statuses.{refusal_end};
+ghost use Rattle.pr_cli.specs.declared.statuses.End.TheVariants as end;
 
 use crate::answers::tell;
 use crate::shown::Shown;
-use crate::statuses::{FAILED, REFUSED, refusal_status};
+use crate::statuses::End;
 use clap::error::{Error as UsageError, ErrorKind as UsageKind};
 use pr_jobs::CliFault;
 use pr_options::{JobFault, bad_value, read_task};
@@ -15,19 +16,21 @@ use std::alloc::{AllocError, Global};
 const FILE_USAGE: &str =
     "A file is named after a command, as in `print1525 pages FILE`; without one, standard input is read.";
 
-/// Reports why the words ask for no task, and gives the exit status.
+/// Reports why the words ask for no task, and gives how the program ends.
 pub fn refuse_task(
     rt: &(impl Print + Eprint + AllocGlobal),
     words: &[&str],
     fault: JobFault,
     is_explained: bool,
-) -> Result<u8, AllocError>
-    ensures { IfOk result (λ status. (status ≡ refusal_status fault) ⊎ (status ≡ fault_status CliFault.WriteFailed)) }
+) -> Result<End, AllocError>
+    ensures { IfOk result (λ how. (how ≡ refusal_end fault) ⊎ (how ≡ end.Job CliFault.WriteFailed)) }
 {
     if matches!(&fault, JobFault::Line(_)) && have_control(words) {
-        let status = refusal_status(&fault);
-        let shown = refuse_shown(rt, words)?;
-        return Ok(if shown == FAILED { FAILED } else { status });
+        let end = End::of_refusal(&fault);
+        return Ok(match refuse_shown(rt, words)? {
+            End::Job(_) => End::Job(CliFault::WriteFailed),
+            _ => end,
+        });
     }
     let value = bad_value(rt.alloc(), words, &fault);
     Ok(refuse_line(rt, fault, value, is_explained))
@@ -39,17 +42,17 @@ pub fn refuse_word(rt: &impl Eprint, word: &[u8]) {
     let _ = rt.eprintln(format_args!("print1525: {shown}: not UTF-8"));
 }
 
-/// Reports why the command line is refused, and gives the exit status. A request for help or for the
-/// version is answered; where that can not be written, the status is that of a failed write.
+/// Reports why the command line is refused, and gives how the program ends. A request for help or for the
+/// version is answered; where that can not be written, it ends with a failed write.
 fn refuse_line(
     rt: &(impl Print + Eprint + AllocGlobal),
     fault: JobFault,
     value: Option<&str>,
     is_explained: bool,
-) -> u8
-    ensures { (result ≡ refusal_status fault) ⊎ (result ≡ fault_status CliFault.WriteFailed) }
+) -> End
+    ensures { (result ≡ refusal_end fault) ⊎ (result ≡ end.Job CliFault.WriteFailed) }
 {
-    let status = refusal_status(&fault);
+    let end = End::of_refusal(&fault);
     if let JobFault::Line(error) = fault {
         let shown = error.print(rt);
         if error.use_stderr() {
@@ -59,7 +62,7 @@ fn refuse_line(
         } else if shown.is_err() {
             return tell(rt, CliFault::WriteFailed);
         }
-        return status;
+        return end;
     }
     show_fault(rt, &fault, value);
     if is_explained {
@@ -69,7 +72,7 @@ fn refuse_line(
             }
         }
     }
-    status
+    end
 }
 
 /// Reports a fault of the command line in one line on standard error: with the bad value and the good
@@ -108,7 +111,7 @@ fn has_control(text: &str) -> bool {
 fn refuse_shown(
     rt: &(impl Print + Eprint + AllocGlobal),
     words: &[&str],
-) -> Result<u8, AllocError> {
+) -> Result<End, AllocError> {
     let mut shown = Vec::new(rt.alloc());
     for word in words {
         let word = Shown(*word);
@@ -155,10 +158,10 @@ fn is_no_option(text: &str, is_subcommand: bool) -> bool {
     }
 }
 
-/// Reports in one line on standard error why the command line is refused, and gives the exit status.
-pub fn refuse(rt: &impl Eprint, reason: &str) -> u8
-    ensures { result ≡ 2 }
+/// Reports in one line on standard error why the command line is refused, and gives how the program ends.
+pub fn refuse(rt: &impl Eprint, reason: &str) -> End
+    ensures { result ≡ end.Words }
 {
     let _ = rt.eprintln(format_args!("print1525: {reason}"));
-    REFUSED
+    End::Words
 }

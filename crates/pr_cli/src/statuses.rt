@@ -1,11 +1,28 @@
-//! The exit statuses.
+//! How the program ends, and its exit statuses.
 
 ghost use Rattle.std.specs.Prelude.{◌≡◌, ◌==◌, ◌||◌};
-ghost use Rattle.pr_cli.specs.Statuses.{characters_status, ending_status, fault_status, refusal_status, text_status};
+ghost use Rattle.pr_cli.specs.Statuses.{characters_status, ending_end, fault_status, refusal_end, status_of, text_status};
 
 use pr_jobs::{CliFault, Ending, ShapesFault};
 use pr_listing::TextFault;
 use pr_options::JobFault;
+
+/// How the program ends.
+#[derive(Clone, Copy, Debug, PartialEq, Eq)]
+pub enum End {
+    /// What was asked for is written; so are help and the version.
+    Done,
+    /// The same of a run that a BASIC error stopped.
+    Stopped,
+    /// The job has this fault.
+    Job(CliFault),
+    /// The listing has no text of a script.
+    Listing(TextFault),
+    /// The file of characters has no shapes.
+    Characters(ShapesFault),
+    /// The words ask for no task.
+    Words,
+}
 
 /// The job is done: the run's last statement was performed, the trace is lawful, or the page is
 /// written.
@@ -20,18 +37,45 @@ pub const REFUSED: u8 = 2;
 /// Memory was refused, or a read or a write failed, or a file cannot be opened.
 pub const FAILED: u8 = 3;
 
-/// Returns the exit status of a job that ended so. It takes no memory.
-pub fn ending_status(ending: Ending) -> u8
-    ensures { result ≡ ending_status ending }
-{
-    match ending {
-        Ending::Done => DONE,
-        Ending::Stopped => STOPPED,
+impl End {
+    /// Returns the exit status: 0 done, 1 stopped, 2 refused, 3 failed. It takes no memory.
+    pub fn status(self) -> u8
+        ensures { result ≡ status_of self }
+    {
+        match self {
+            End::Done => DONE,
+            End::Stopped => STOPPED,
+            End::Job(fault) => fault_status(fault),
+            End::Listing(fault) => text_status(fault),
+            End::Characters(fault) => characters_status(fault),
+            End::Words => REFUSED,
+        }
+    }
+
+    /// Returns how the program ends after a job that ended so. It takes no memory.
+    pub fn of_ending(ending: Ending) -> End
+        ensures { result ≡ ending_end ending }
+    {
+        match ending {
+            Ending::Done => End::Done,
+            Ending::Stopped => End::Stopped,
+        }
+    }
+
+    /// Returns how it ends where words ask for no job. A request for help or for the version is answered. It takes no memory.
+    pub fn of_refusal(fault: &JobFault) -> End
+        ensures { result ≡ refusal_end fault.now }
+    {
+        match fault {
+            JobFault::Line(error) => { if error.use_stderr() { End::Words } else { End::Done } }
+            JobFault::NoMemory => End::Job(CliFault::NoMemory),
+            _ => End::Words,
+        }
     }
 }
 
 /// Returns the exit status of a job that failed so. It takes no memory.
-pub fn fault_status(fault: CliFault) -> u8
+fn fault_status(fault: CliFault) -> u8
     ensures { result ≡ fault_status fault }
 {
     match fault {
@@ -53,7 +97,7 @@ pub fn is_answered(status: u8) -> bool
 }
 
 /// Returns the exit status where a listing has no text of a script. It takes no memory.
-pub fn text_status(fault: TextFault) -> u8
+fn text_status(fault: TextFault) -> u8
     ensures { result ≡ text_status fault }
 {
     match fault {
@@ -63,23 +107,11 @@ pub fn text_status(fault: TextFault) -> u8
 }
 
 /// Returns the exit status where a file has no shapes of characters. It takes no memory.
-pub fn characters_status(fault: ShapesFault) -> u8
+fn characters_status(fault: ShapesFault) -> u8
     ensures { result ≡ characters_status fault }
 {
     match fault {
         ShapesFault::Characters(_) | ShapesFault::TooLarge => REFUSED,
         ShapesFault::ReadFailed | ShapesFault::NoMemory => FAILED,
-    }
-}
-
-/// Returns the exit status where words ask for no job. A request for help or for the version is
-/// answered. It takes no memory.
-pub fn refusal_status(fault: &JobFault) -> u8
-    ensures { result ≡ refusal_status fault.now }
-{
-    match fault {
-        JobFault::Line(error) => { if error.use_stderr() { REFUSED } else { DONE } }
-        JobFault::NoMemory => FAILED,
-        _ => REFUSED,
     }
 }

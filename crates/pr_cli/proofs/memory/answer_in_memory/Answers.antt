@@ -1,4 +1,4 @@
 use Rattle.pr_cli.proofs.memory.answer_in_memory.Goals as goal
 
 pub returns-in-Ok : goal.returns-in-Ok
-returns-in-Ok c = rw (c.answered.ensures.status, c.answered.ensures.output) c.in-Ok.ensures
+returns-in-Ok c = rw (c.answered.ensures.end, c.answered.ensures.output) c.in-Ok.ensures
