@@ -88,7 +88,7 @@ pub fn answer_task(
     } = task;
     let shapes = match shapes_for(rt, characters) {
         Ok(shapes) => shapes,
-        Err(end) => return end.status(),
+        Err(fault) => return End::Characters(fault).status(),
     };
     let work = Work {
         job,
