@@ -127,25 +127,25 @@ static MILLION: Row = Row {
     wanted: Ok(1_000_000),
 };
 
-/// Scripts of one statement more.
-static MORE: [Row; 2] = [
-    Row {
-        name: "million_statements, a line more",
-        calls: &[PAGES],
-        first: b"REM\n",
-        text: REMARKS,
-        times: 100_000,
-        wanted: Err(CliFault::Script(ScriptFault::TooMany(1_000_001))),
-    },
-    Row {
-        name: "million_statements, one more on a line",
-        calls: &[PAGES],
-        first: b"PRINT",
-        text: b":PRINT:PRINT:PRINT:PRINT:PRINT:PRINT:PRINT:PRINT:PRINT:PRINT",
-        times: 100_000,
-        wanted: Err(CliFault::Script(ScriptFault::TooMany(1))),
-    },
-];
+/// A script of a line more.
+static LINE_MORE: Row = Row {
+    name: "million_statements, a line more",
+    calls: &[PAGES],
+    first: b"REM\n",
+    text: REMARKS,
+    times: 100_000,
+    wanted: Err(CliFault::Script(ScriptFault::TooMany(1_000_001))),
+};
+
+/// A script of one line, with a statement more.
+static ON_ONE_LINE: Row = Row {
+    name: "million_statements, one more on a line",
+    calls: &[PAGES],
+    first: b"PRINT",
+    text: b":PRINT:PRINT:PRINT:PRINT:PRINT:PRINT:PRINT:PRINT:PRINT:PRINT",
+    times: 100_000,
+    wanted: Err(CliFault::Script(ScriptFault::TooMany(1))),
+};
 
 #[test]
 fn input_limit(rt: HostRuntime) {
@@ -160,8 +160,11 @@ fn million_statements(rt: HostRuntime) {
 }
 
 #[test]
-fn more_than_a_million_statements(rt: HostRuntime) {
-    for row in &MORE {
-        plays(&rt, row);
-    }
+fn a_line_after_a_million(rt: HostRuntime) {
+    plays(&rt, &LINE_MORE);
+}
+
+#[test]
+fn a_statement_after_a_million(rt: HostRuntime) {
+    plays(&rt, &ON_ONE_LINE);
 }
