@@ -1,7 +1,7 @@
 //! Pages of inputs, also where a growth of the paper is refused.
 
 use pr_page::Input::{self, Byte, Select};
-use pr_page::{Mark, Paper, Placed, Printer, Sequence};
+use pr_page::{Mark, Paper, Placed, Printer, Row, Sequence};
 use pr_refusals::most_refusals;
 use std::process::Abort;
 use std::test::Fail;
@@ -19,6 +19,22 @@ const NEXT_LETTER: Mark = Mark::Cell {
     code: 66,
     lower: false,
     reverse: false,
+    wide: false,
+};
+
+/// The letter after that.
+const THIRD_LETTER: Mark = Mark::Cell {
+    code: 67,
+    lower: false,
+    reverse: false,
+    wide: false,
+};
+
+/// The next letter of the lower/upper case set, in reverse.
+const REVERSE_LETTER: Mark = Mark::Cell {
+    code: 66,
+    lower: true,
+    reverse: true,
     wide: false,
 };
 
@@ -59,7 +75,7 @@ struct Page {
     held: Marks,
 }
 
-static PAGES: [Page; 8] = [
+static PAGES: [Page; 21] = [
     Page {
         name: "graphic_columns_and_a_repeat",
         inputs: &[
@@ -77,6 +93,142 @@ static PAGES: [Page; 8] = [
             (0, &[(0, BAR), (1, ENDS), (2, ENDS), (3, ENDS)]),
             (14, &[(0, LETTER)]),
         ],
+        held: &[],
+    },
+    Page {
+        name: "line_wraps_at_the_last_cell, a wide cell wraps",
+        inputs: &[Byte(16), Byte(55), Byte(57), Byte(14), Byte(65), Byte(13)],
+        rows: &[(0, &[]), (21, &[(0, WIDE_LETTER)])],
+        held: &[],
+    },
+    Page {
+        name: "line_wraps_at_the_last_cell, a wide cell fits",
+        inputs: &[Byte(16), Byte(55), Byte(56), Byte(14), Byte(65), Byte(13)],
+        rows: &[(0, &[(468, WIDE_LETTER)])],
+        held: &[],
+    },
+    Page {
+        name: "dot_addresses_at_the_edge, the last dot",
+        inputs: &[
+            Byte(8),
+            Byte(27),
+            Byte(16),
+            Byte(1),
+            Byte(223),
+            Byte(255),
+            Byte(13),
+        ],
+        rows: &[(0, &[(479, BAR)])],
+        held: &[],
+    },
+    Page {
+        name: "dot_addresses_at_the_edge, past the last dot",
+        inputs: &[
+            Byte(8),
+            Byte(27),
+            Byte(16),
+            Byte(1),
+            Byte(224),
+            Byte(255),
+            Byte(27),
+            Byte(16),
+            Byte(0),
+            Byte(13),
+            Byte(255),
+            Byte(13),
+        ],
+        rows: &[(0, &[(0, BAR), (13, BAR)])],
+        held: &[],
+    },
+    Page {
+        name: "dot_addresses_at_the_edge, past the last cell",
+        inputs: &[Byte(16), Byte(56), Byte(48), Byte(65), Byte(13)],
+        rows: &[(0, &[(0, LETTER)])],
+        held: &[],
+    },
+    Page {
+        name: "marks_to_the_left",
+        inputs: &[
+            Byte(65),
+            Byte(66),
+            Byte(16),
+            Byte(48),
+            Byte(48),
+            Byte(67),
+            Byte(13),
+        ],
+        rows: &[(0, &[(0, LETTER), (6, NEXT_LETTER), (0, THIRD_LETTER)])],
+        held: &[],
+    },
+    Page {
+        name: "override_and_reverse_end_at_return",
+        inputs: &[
+            Byte(17),
+            Byte(65),
+            Byte(18),
+            Byte(66),
+            Byte(13),
+            Byte(67),
+            Byte(13),
+        ],
+        rows: &[
+            (0, &[(0, LOWER_LETTER), (6, REVERSE_LETTER)]),
+            (21, &[(0, THIRD_LETTER)]),
+        ],
+        held: &[],
+    },
+    Page {
+        name: "escape_and_unfinished_commands, no command",
+        inputs: &[Byte(27), Byte(65), Byte(13)],
+        rows: &[(0, &[(0, LETTER)])],
+        held: &[],
+    },
+    Page {
+        name: "escape_and_unfinished_commands, escape twice",
+        inputs: &[
+            Byte(27),
+            Byte(27),
+            Byte(16),
+            Byte(0),
+            Byte(6),
+            Byte(65),
+            Byte(13),
+        ],
+        rows: &[(0, &[(6, LETTER)])],
+        held: &[],
+    },
+    Page {
+        name: "escape_and_unfinished_commands, unfinished",
+        inputs: &[Byte(65), Byte(16), Byte(13)],
+        rows: &[],
+        held: &[(0, LETTER)],
+    },
+    Page {
+        name: "repeats_by_mode, character mode",
+        inputs: &[Byte(26), Byte(3), Byte(65), Byte(66), Byte(13)],
+        rows: &[(0, &[(0, NEXT_LETTER)])],
+        held: &[],
+    },
+    Page {
+        name: "repeats_by_mode, over the edge",
+        inputs: &[
+            Byte(8),
+            Byte(27),
+            Byte(16),
+            Byte(1),
+            Byte(222),
+            Byte(26),
+            Byte(3),
+            Byte(255),
+            Byte(13),
+        ],
+        rows: &[(0, &[(478, BAR), (479, BAR)]), (14, &[(0, BAR)])],
+        held: &[],
+    },
+    Page {
+        name: "repeats_by_mode, none",
+        inputs: &[Byte(8), Byte(26), Byte(0), Byte(255), Byte(145), Byte(13)],
+        rows: &[(0, &[(0, Mark::Dots(17))])],
         held: &[],
     },
     Page {
@@ -174,6 +326,66 @@ fn are_marks(given: &[Placed], wanted: Marks) -> bool {
             .iter()
             .zip(wanted)
             .all(|(placed, &(x, mark))| *placed == Placed { x, mark })
+}
+
+/// A row of marks of one kind: its distance from the top, the first dot, the width and number of the
+/// marks, and the mark.
+type Filled = (u64, usize, usize, usize, Mark);
+
+/// Inputs in two parts, and the two rows of their page.
+struct Long {
+    name: &'static str,
+    inputs: [&'static [Input]; 2],
+    rows: [Filled; 2],
+}
+
+static LONG: [Long; 2] = [
+    Long {
+        name: "line_wraps_at_the_last_cell",
+        inputs: [&[Byte(65); 81], &[Byte(13)]],
+        rows: [(0, 0, 6, 80, LETTER), (21, 0, 6, 1, LETTER)],
+    },
+    Long {
+        name: "repeat_over_the_edge",
+        inputs: [
+            &[Byte(8), Byte(27), Byte(16), Byte(1), Byte(44)],
+            &[Byte(26), Byte(255), Byte(255), Byte(13)],
+        ],
+        rows: [(0, 300, 1, 180, BAR), (14, 0, 1, 75, BAR)],
+    },
+];
+
+/// Whether a row is filled so.
+fn is_filled(row: &Row, (y, first, width, count, mark): Filled) -> bool {
+    row.y == y
+        && row.marks.len() == count
+        && row.marks.as_slice().iter().enumerate().all(|(number, placed)| {
+            let x = first.saturating_add(width.saturating_mul(number));
+            usize::from(placed.x) == x && placed.mark == mark
+        })
+}
+
+/// Whether the paper is that of the long lines.
+fn is_long(paper: &Paper, page: &Long) -> bool {
+    let rows = paper.rows.as_slice();
+    rows.len() == page.rows.len()
+        && paper.held.is_empty()
+        && rows
+            .iter()
+            .zip(page.rows)
+            .all(|(row, wanted)| is_filled(row, wanted))
+}
+
+#[test]
+fn long_lines(rt: HostRuntime) {
+    for page in &LONG {
+        let mut printer = Printer::new(rt.alloc());
+        for &input in page.inputs.iter().copied().flatten() {
+            assert!(rt; printer.taken() < 1000);
+            printer.take(input).expect(&rt, "memory");
+        }
+        assert!(rt; is_long(printer.paper(), page), "{}", page.name);
+    }
 }
 
 /// Whether the paper is that of the page.

@@ -8,3 +8,4 @@ mod pictures;
 mod readers;
 mod reports;
 mod slow;
+mod worked;

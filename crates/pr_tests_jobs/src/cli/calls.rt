@@ -7,16 +7,17 @@ use crate::cli::pictures::{drawn, sheet_alone};
 use pr_basic::StatusMode;
 use pr_bus::Delays;
 use pr_capture::{Signals, Source, TraceFormat, TraceInput, write_vcd};
-use pr_jobs::{
-    CliFault, Ending, Watched, bus_as_over, check_as_over, check_over, pages_as_over, raw_over,
-};
 use pr_dots::Shapes;
+use pr_jobs::{
+    CliFault, Ending, Watched, bus_as_over, bus_over, check_as_over, check_over, pages_as_over,
+    pages_over, raw_over,
+};
 use pr_render::{Format, Part};
 use pr_report::Report;
 use pr_serial::Present;
 use pr_wire::example::TRACE_TEXT;
 use pr_wire::{Choices, read_trace};
-use std::alloc::Global;
+use std::alloc::{AllocError, Global};
 use std::io::{Read, Write};
 
 pub const BOTH: Present = Present {
@@ -78,7 +79,7 @@ const ONE_ATTENTION_DUMP: &str = "\
 const ONE_STORY: &str = "attention\n        2999         3829  $24  LISTEN 4\nlawful\n";
 
 /// The frames of one attention to printer 4.
-const ONE_COMMAND: &str = "command 36\nlawful\n";
+pub const ONE_COMMAND: &str = "command 36\nlawful\n";
 
 /// The frames of the example trace, which is that of the script.
 pub const EXAMPLE_LINES: &str = "command 36\ndata 72\ndata 73\ndata 13 eoi\ncommand 63\nlawful\n";
@@ -91,13 +92,38 @@ const EXAMPLE_STORY: &str = "\
     attention\n        6240         7070  $3F  UNLISTEN\nlawful\n\
 ";
 
-/// A call of the library over a reader and a writer. A script runs with typical delays and a status
-/// that each statement clears; the signals of a recording have the usual names.
+/// How a script runs: the printers, the raw numbers that each party draws on, and how the status goes on. After its
+/// numbers a party's delays are typical.
+#[derive(Clone, Copy)]
+pub struct Setting {
+    pub present: Present,
+    pub computer: &'static [u16],
+    pub four: &'static [u16],
+    pub five: &'static [u16],
+    pub mode: StatusMode,
+}
+
+/// Both printers, typical delays, and a status that each statement clears.
+pub const USUAL: Setting = Setting {
+    present: BOTH,
+    computer: &[],
+    four: &[],
+    five: &[],
+    mode: StatusMode::Each,
+};
+
+/// A call of the library over a reader and a writer. Where no setting is named, a script runs with
+/// typical delays and a status that each statement clears; the signals of a recording have the usual
+/// names.
 #[derive(Clone, Copy)]
 pub enum Call {
+    /// The page text of a script.
+    PageText(Setting),
+    /// The trace text of a script.
+    TraceText(Setting),
     /// The pages of a script, with these printers.
     Pages(Present, Format),
-    /// The trace of a script.
+    /// The trace of a script, with both printers.
     Bus(TraceFormat),
     /// The frames of a trace text.
     Check,
@@ -108,7 +134,7 @@ pub enum Call {
 }
 
 /// The page text of a script, with both printers.
-pub const PAGES: Call = Call::Pages(BOTH, Format::List);
+pub const PAGES: Call = Call::PageText(USUAL);
 
 /// The text that a call writes.
 #[derive(Clone, Copy)]
@@ -150,7 +176,7 @@ const ROWS: [Row; 18] = [
         Wanted::Text("Printer 4\nHI\n"),
     ),
     (Call::Raw(SVG), HI_BYTES, Wanted::Sheet),
-    (Call::Bus(TraceFormat::Text), HI, Wanted::Text(TRACE_TEXT)),
+    (Call::TraceText(USUAL), HI, Wanted::Text(TRACE_TEXT)),
     (Call::Bus(TraceFormat::Vcd), HI, Wanted::Dump),
     (Call::Check, ONE_ATTENTION, Wanted::Text(ONE_COMMAND)),
     (Call::Check, TRACE_TEXT, Wanted::Text(EXAMPLE_LINES)),
@@ -210,6 +236,15 @@ pub fn typical(alloc: Global) -> Delays {
     }
 }
 
+/// The delays of a setting.
+fn delays_of(alloc: Global, setting: Setting) -> Result<Delays, AllocError> {
+    Ok(Delays {
+        computer: Choices::new(setting.computer.to_vec(alloc)?),
+        four: Choices::new(setting.four.to_vec(alloc)?),
+        five: Choices::new(setting.five.to_vec(alloc)?),
+    })
+}
+
 /// A trace in this format, from its first moment on, whose signals have the usual names.
 pub fn usual(source: Source) -> TraceInput<'static> {
     TraceInput {
@@ -246,6 +281,14 @@ impl Call {
     {
         let mode = StatusMode::Each;
         match self {
+            Call::PageText(setting) => {
+                let delays = delays_of(alloc, setting)?;
+                pages_over(alloc, input, output, setting.present, delays, setting.mode)
+            }
+            Call::TraceText(setting) => {
+                let delays = delays_of(alloc, setting)?;
+                bus_over(alloc, input, output, setting.present, delays, setting.mode)
+            }
             Call::Pages(present, format) => {
                 pages_as_over(
                     alloc,
@@ -288,7 +331,7 @@ impl Call {
     /// dump for its head and its end too, the others at the end.
     pub fn flushes(self) -> usize {
         match self {
-            Call::Bus(TraceFormat::Text) => 3,
+            Call::TraceText(_) | Call::Bus(TraceFormat::Text) => 3,
             Call::Bus(TraceFormat::Vcd) => 5,
             _ => 1,
         }

@@ -6,11 +6,11 @@ use crate::cli::slow::SlowReader;
 use pr_basic::StatusMode;
 use pr_capture::Source;
 use pr_characters::CharactersFault;
+use pr_dots::Shapes;
 use pr_jobs::{
     CHARACTERS_LIMIT, CliFault, Ending, ShapesFault, Watched, pages_as_over, raw_over,
     read_characters,
 };
-use pr_dots::Shapes;
 use pr_recording::reprint_over;
 use pr_report::Oddities;
 use pr_wire::example::TRACE_TEXT;

@@ -2,8 +2,8 @@
 
 use crate::cli::calls::{BOTH, Call, HI, NONE, SVG, typical};
 use pr_basic::{StatusMode, read_script};
-use pr_jobs::{CliFault, Ending, PictureFault, pages_text};
 use pr_dots::Shapes;
+use pr_jobs::{CliFault, Ending, PictureFault, pages_text};
 use pr_page::Sequence;
 use pr_png::png;
 use pr_render::{Device, Format, Part, sheet_svg};
