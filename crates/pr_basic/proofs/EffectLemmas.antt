@@ -1,7 +1,6 @@
 -- The effect of a statement, by the calls that it makes.
 use Rattle.std.proofs.Common.{◌≡◌, ℕ, ◌<◌, Bool, true, false, cond, nat_lt, ◌==◌, Option, Some, None, is_some, List, [], ◌∷◌, ◌++◌, length, map, refl, sym, ap, subst, ◌∙◌, append-nil}
 use Rattle.std.proofs.lemmas.Bool.{lt-ltb}
-use Rattle.pr_serial.specs.declared.Present.{Present}
 use Rattle.pr_serial.specs.Elements.{Element, Byte}
 use Rattle.pr_serial.specs.Items.{items_of}
 use Rattle.pr_serial.specs.Answers.{is_lacking}
@@ -14,8 +13,11 @@ use Rattle.pr_channels.specs.Commands.{listen_to, unlisten}
 use Rattle.pr_basic.specs.Text.{Text}
 use Rattle.pr_basic.specs.declared.statement.Statement.{Statement}
 use Rattle.pr_basic.specs.declared.statement.Statement.TheVariants.{Print, Rem}
-use Rattle.pr_basic.specs.Statements.{Setting, Effect, status_of, printed_bytes, stopping, commanding, unlistening, opening, effect_of}
-use Rattle.pr_basic.specs.Performing.{Gives, printing, IsWorking, Performs, with_effect, setting_of}
+use Rattle.pr_basic.specs.Statements.{Setting, Effect, printed_bytes, stopping, commanding, unlistening, opening, effect_of}
+use Rattle.pr_basic.specs.Runs.{status_of, found_of}
+use Rattle.pr_basic.specs.Performing.{Gives, printing, IsWorking, Performs, with_effect, setting_of, seems_missing, effect_on, effect_in}
+use Rattle.pr_basic.specs.declared.session.StatusMode.{StatusMode}
+use Rattle.pr_basic.specs.StatementLaws.{EffectsByStatus}
 use Rattle.pr_basic.proofs.PrintingLemmas.{AddingLaws, printing_on_bus}
 
 -- an effect with the status found is its elements added, and what else it changes
@@ -37,7 +39,7 @@ listen_status file old working = ap (λ n. cond (is_lacking old.present n (items
 
 -- what CMD gives if the LISTEN is answered, and if it is not
 commanding_goes : (file : File) (old : Seen) (channel number : ℕ) (line : Text) (b : Bool) → IsWorking old → ((adding (listen_to file ∷ []) old).status == 128) ≡ b
-    → commanding old.present old.status old.elements (setting_of old channel) number line (Some file)
+    → commanding (seems_missing old.present old.status old.elements) (setting_of old channel) number line (Some file)
     ≡ cond b (stopping DeviceNotPresent (listen_to file ∷ []) (setting_of old channel)) (record { elements = listen_to file ∷ map Byte (printed_bytes line number); screen = []; stop = None; after = record { files = old.files; channel = number; output = file.device } })
 commanding_goes file old channel number line b working is =
     ap (λ t. cond t (stopping DeviceNotPresent (listen_to file ∷ []) (setting_of old channel)) (record { elements = listen_to file ∷ map Byte (printed_bytes line number); screen = []; stop = None; after = record { files = old.files; channel = number; output = file.device } }))
@@ -56,7 +58,7 @@ pub record Commanded (old new : Seen) (e : Effect) : Type 0 where
 
 -- a list after a LISTEN, by whether the status is 128 after it
 commanded_at : AddingLaws → (file : File) (old new : Seen) (channel number : ℕ) (line : Text) (b : Bool) → ((adding (listen_to file ∷ []) old).status == 128) ≡ b → IsWorking old → chkout_of (Some file) old ≡ (new, None) → 3 < new.output
-    → Commanded old (printing (printed_bytes line number) new) (commanding old.present old.status old.elements (setting_of old channel) number line (Some file))
+    → Commanded old (printing (printed_bytes line number) new) (commanding (seems_missing old.present old.status old.elements) (setting_of old channel) number line (Some file))
 commanded_at laws file old new channel number line true is working gives above =
     let clash : Some DeviceNotPresent ≡ None = ap (λ (p : Seen × Option Stop). p.1) (sym (chkout_goes file old true is) ∙ gives) in
     absurd (cc clash)
@@ -81,7 +83,7 @@ commanded_at laws file old new channel number line false is working gives above 
 
 -- the same for a file that may not be open
 pub commanded : AddingLaws → (f : Option File) (old new : Seen) (channel number : ℕ) (line : Text) → IsWorking old → chkout_of f old ≡ (new, None) → 3 < new.output
-    → Commanded old (printing (printed_bytes line number) new) (commanding old.present old.status old.elements (setting_of old channel) number line f)
+    → Commanded old (printing (printed_bytes line number) new) (commanding (seems_missing old.present old.status old.elements) (setting_of old channel) number line f)
 commanded laws None old new channel number line working gives above =
     let clash : Some FileNotOpen ≡ None = ap (λ (p : Seen × Option Stop). p.1) gives in
     absurd (cc clash)
@@ -169,14 +171,14 @@ print_goes_on true bytes at = refl
 print_goes_on false bytes at = refl
 
 -- PRINT
-pub print_gives : AddingLaws → (line : Text) (channel : ℕ) (old new : Seen) → IsWorking old → new ≡ printing (printed_bytes line channel) old → Gives old new None (effect_of old.present old.status old.elements (setting_of old channel) (Print line))
+pub print_gives : AddingLaws → (line : Text) (channel : ℕ) (old new : Seen) → IsWorking old → new ≡ printing (printed_bytes line channel) old → Gives old new None (effect_on old old.status channel (Print line))
 print_gives laws line channel old new working is = record {
   stop = print_goes_on (nat_lt 3 old.output) (printed_bytes line channel) (setting_of old channel);
   channels = is ∙ printed_at laws (nat_lt 3 old.output) (printed_bytes line channel) channel old working;
 }
 
 -- REM
-pub rem_gives : AddingLaws → (channel : ℕ) (old : Seen) → IsWorking old → Gives old old None (effect_of old.present old.status old.elements (setting_of old channel) Rem)
+pub rem_gives : AddingLaws → (channel : ℕ) (old : Seen) → IsWorking old → Gives old old None (effect_on old old.status channel Rem)
 rem_gives laws channel old working = record {
   stop = refl;
   channels = ap (λ xs. record old { screen = xs }) (sym (append-nil old.screen)) ∙ sym (quiet_effect laws [] None (setting_of old channel) old working);
@@ -201,10 +203,10 @@ commanding_channel_at true es bytes at number device = refl
 commanding_channel_at false es bytes at number device = refl
 
 -- the channel number after CMD
-pub commanding_channel : (present : Present) (found : ℕ) (before : List Element) (at : Setting) (number : ℕ) (line : Text) (f : Option File)
-    → (commanding present found before at number line f).after.channel ≡ cond (is_some (commanding present found before at number line f).stop) 0 number
-commanding_channel present found before at number line None = refl
-commanding_channel present found before at number line (Some file) = commanding_channel_at (status_of present found before (before ++ listen_to file ∷ []) == 128) (listen_to file ∷ []) (printed_bytes line number) at number file.device
+pub commanding_channel : (missing : File → Bool) (at : Setting) (number : ℕ) (line : Text) (f : Option File)
+    → (commanding missing at number line f).after.channel ≡ cond (is_some (commanding missing at number line f).stop) 0 number
+commanding_channel missing at number line None = refl
+commanding_channel missing at number line (Some file) = commanding_channel_at (missing file) (listen_to file ∷ []) (printed_bytes line number) at number file.device
 
 -- the channel number after PRINT#, by whether its CMD stops
 unlistening_channel_at : (stops : Bool) (e : Effect) (n : ℕ) → is_some e.stop ≡ stops → e.after.channel ≡ cond (is_some e.stop) 0 n
@@ -222,19 +224,26 @@ begun_working old mid found is in_step works = subst IsWorking (sym is) (record 
 
 -- what a statement gives from the status on, with the channel number that it leaves, is what it performs
 pub performs_here : (old new : Seen) (number channel : ℕ) (answer : Option Stop) (statement : Statement)
-    → Gives old new answer (effect_of old.present old.status old.elements (setting_of old channel) statement)
-    → (answer ≡ (effect_of old.present old.status old.elements (setting_of old channel) statement).stop → number ≡ (effect_of old.present old.status old.elements (setting_of old channel) statement).after.channel)
-    → Performs old new old.status number answer (effect_of old.present old.status old.elements (setting_of old channel) statement)
+    → Gives old new answer (effect_on old old.status channel statement)
+    → (answer ≡ (effect_on old old.status channel statement).stop → number ≡ (effect_on old old.status channel statement).after.channel)
+    → Performs old new old.status number answer (effect_on old old.status channel statement)
 performs_here old new number channel answer statement gives leaves = record { stop = gives.stop; channel = leaves gives.stop; channels = gives.channels }
 
 -- what a statement performs once the status is the one found
 pub performs_from : (old mid new : Seen) (found number channel : ℕ) (answer : Option Stop) (statement : Statement) → mid ≡ record old { status = found }
-    → Performs mid new mid.status number answer (effect_of mid.present mid.status mid.elements (setting_of mid channel) statement)
-    → Performs old new found number answer (effect_of old.present found old.elements (setting_of old channel) statement)
+    → Performs mid new mid.status number answer (effect_on mid mid.status channel statement)
+    → Performs old new found number answer (effect_on old found channel statement)
 performs_from old mid new found number channel answer statement is performs =
-    let P : Seen → Type 0 = λ m. Performs m new m.status number answer (effect_of m.present m.status m.elements (setting_of m channel) statement) in
+    let P : Seen → Type 0 = λ m. Performs m new m.status number answer (effect_on m m.status channel statement) in
     let begun = subst P is performs in
     record { stop = begun.stop; channel = begun.channel; channels = begun.channels }
+
+-- in a run, the test gives what the definition gives
+pub performs_in : EffectsByStatus → (old new : Seen) (mode : StatusMode) (found number channel : ℕ) (answer : Option Stop) (statement : Statement) → found ≡ found_of mode old.present old.elements
+    → Performs old new found number answer (effect_on old found channel statement) → Performs old new found number answer (effect_in mode old channel statement)
+performs_in same old new mode found number channel answer statement is performs =
+    let P : Effect → Type 0 = λ e. Performs old new found number answer e in
+    subst P (ap (λ n. effect_on old n channel statement) is ∙ same mode old.present old.elements (setting_of old channel) statement) performs
 
 -- PRINT leaves the channel number, on the bus and on the screen
 print_channel_at : (b : Bool) (bytes : List ℕ) (at : Setting) → let e : Effect = cond b (record { elements = map Byte bytes; screen = []; stop = None; after = at }) (record { elements = []; screen = bytes; stop = None; after = at }) in at.channel ≡ e.after.channel
@@ -242,5 +251,5 @@ print_channel_at true bytes at = refl
 print_channel_at false bytes at = refl
 
 -- PRINT leaves the channel number
-pub print_channel : (present : Present) (found : ℕ) (before : List Element) (at : Setting) (line : Text) → at.channel ≡ (effect_of present found before at (Print line)).after.channel
-print_channel present found before at line = print_channel_at (nat_lt 3 at.output) (printed_bytes line at.channel) at
+pub print_channel : (missing : File → Bool) (at : Setting) (line : Text) → at.channel ≡ (effect_of missing at (Print line)).after.channel
+print_channel missing at line = print_channel_at (nat_lt 3 at.output) (printed_bytes line at.channel) at

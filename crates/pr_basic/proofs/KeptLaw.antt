@@ -8,9 +8,8 @@ use Rattle.pr_serial.specs.Answers.{is_lacking}
 use Rattle.pr_serial.specs.Laws.{ItemsOnlyGrow, LackingInTwoParts}
 use Rattle.pr_basic.specs.declared.session.StatusMode.{StatusMode}
 use Rattle.pr_basic.specs.declared.session.StatusMode.TheVariants.{Each, Kept}
-use Rattle.pr_basic.specs.Statements.{status_of}
 use Rattle.pr_basic.specs.Performing.{found_by}
-use Rattle.pr_basic.specs.Runs.{found_of}
+use Rattle.pr_basic.specs.Runs.{found_of, status_of}
 use Rattle.pr_basic.specs.StatementLaws.{is_unanswered_in, sent_in}
 
 -- one status for two parts, the first of which left its status

@@ -1,9 +1,12 @@
 -- Words of calls: what a statement and its parts do to the channels. Who uses `perform` by itself believes them; what a run gives is
 -- defined without them.
-use Rattle.std.specs.Prelude.{◌≡◌, ◌≤◌, ℕ, ◌+◌, false, nat_lt, Option, Result, OnOk, List, ◌++◌, length, map, if◌then◌else◌}
-use Rattle.pr_serial.specs.Elements.{Byte}
+use Rattle.std.specs.Prelude.{◌≡◌, ◌≤◌, ℕ, ◌+◌, ◌==◌, Bool, false, nat_lt, Option, Result, OnOk, List, [], ◌∷◌, ◌++◌, length, map, if◌then◌else◌}
+use Rattle.pr_serial.specs.declared.Present.{Present}
+use Rattle.pr_serial.specs.Elements.{Element, Byte}
 use Rattle.pr_serial.specs.Items.{items_of}
+use Rattle.pr_channels.specs.declared.file.File.{File}
 use Rattle.pr_channels.specs.declared.faults.Stop.{Stop}
+use Rattle.pr_channels.specs.Commands.{listen_to}
 use Rattle.pr_channels.specs.Files.{file_at}
 use Rattle.pr_channels.specs.Seen.{Seen, KeepsBus}
 use Rattle.pr_channels.specs.Calls.{adding}
@@ -11,7 +14,8 @@ use Rattle.pr_basic.specs.declared.session.StatusMode.{StatusMode}
 use Rattle.pr_basic.specs.declared.session.StatusMode.TheVariants.{Each, Kept}
 use Rattle.pr_basic.specs.Text.{Text}
 use Rattle.pr_basic.specs.declared.statement.Statement.{Statement}
-use Rattle.pr_basic.specs.Statements.{Setting, Effect, status_of, commanding, effect_of}
+use Rattle.pr_basic.specs.Statements.{Setting, Effect, is_missing, commanding, effect_of}
+use Rattle.pr_basic.specs.Runs.{status_of}
 
 -- what comes before a statement, as the channels and the channel number show it
 abbrev pub setting_of : Seen → ℕ → Setting
@@ -22,14 +26,25 @@ abbrev pub found_by : StatusMode → ℕ → ℕ
 found_by Each left = 0
 found_by Kept left = left
 
--- what a statement gives on these channels, with the status found and the channel number
+-- the machine's test for a missing device: after LISTEN to it the status is 128
+abbrev pub seems_missing : Present → ℕ → List Element → File → Bool
+seems_missing present found before file = status_of present found before (before ++ listen_to file ∷ []) == 128
+
+-- what a statement gives on these channels by that test, with the status found and the channel number
 abbrev pub effect_on : Seen → ℕ → ℕ → Statement → Effect
-effect_on seen found channel statement = effect_of seen.present found seen.elements (setting_of seen channel) statement
+effect_on seen found channel statement =
+    effect_of (seems_missing seen.present found seen.elements) (setting_of seen channel) statement
+
+-- what it gives in a run, as the definition says which device is missing
+abbrev pub effect_in : StatusMode → Seen → ℕ → Statement → Effect
+effect_in mode seen channel statement =
+    effect_of (is_missing mode seen.present seen.elements) (setting_of seen channel) statement
 
 -- what CMD gives on these channels, with their status and the channel number
 abbrev pub commanding_on : Seen → ℕ → ℕ → Text → Effect
 commanding_on seen channel number line =
-    commanding seen.present seen.status seen.elements (setting_of seen channel) number line (file_at seen.files number)
+    let missing = seems_missing seen.present seen.status seen.elements in
+    commanding missing (setting_of seen channel) number line (file_at seen.files number)
 
 -- the channels, once a statement has given this, with the status found
 abbrev pub with_effect : ℕ → Effect → Seen → Seen

@@ -1,5 +1,5 @@
 -- Trusted: what a list of statements gives and sends.
-use Rattle.std.specs.Prelude.{ℕ, ◌+◌, if◌then◌else◌, Option, Some, None, List, [], ◌∷◌, ◌++◌}
+use Rattle.std.specs.Prelude.{ℕ, ◌+◌, if◌then◌else◌, Option, Some, None, List, [], ◌∷◌, ◌++◌, length}
 use Rattle.pr_serial.specs.declared.Present.{Present}
 use Rattle.pr_serial.specs.declared.Item.{Item}
 use Rattle.pr_serial.specs.Elements.{Element}
@@ -9,7 +9,7 @@ use Rattle.pr_channels.specs.declared.faults.Stop.{Stop}
 use Rattle.pr_basic.specs.declared.statement.Statement.{Statement}
 use Rattle.pr_basic.specs.declared.session.StatusMode.{StatusMode}
 use Rattle.pr_basic.specs.declared.session.StatusMode.TheVariants.{Each, Kept}
-use Rattle.pr_basic.specs.Statements.{Setting, Effect, at_first, effect_of, status_of}
+use Rattle.pr_basic.specs.Statements.{Setting, Effect, at_first, is_missing, effect_of}
 
 -- a run: all its elements, a status for each statement performed, the stop with its statement's
 -- number, and the screen's bytes
@@ -24,6 +24,12 @@ abbrev pub found_of : StatusMode → Present → List Element → ℕ
 found_of Each present before = 0
 found_of Kept present before = if is_lacking present 0 (items_of before) then 128 else 0
 
+-- the status once the elements `before` have become `all`: 128 if one of the new items is not
+-- answered, else the status found
+abbrev pub status_of : Present → ℕ → List Element → List Element → ℕ
+status_of present found before all =
+    if is_lacking present (length (items_of before)) (items_of all) then 128 else found
+
 -- a run that begins with a statement's effect and its status, and goes on with `rest` unless the effect is a stop
 abbrev pub run_after : ℕ → List Element → ℕ → Effect → Option Stop → Run → Run
 run_after place before status e None rest =
@@ -37,11 +43,10 @@ abbrev pub run_from : StatusMode → Present → ℕ → List Element → Settin
 run_from mode present place before at [] =
     record { elements = before; statuses = []; stop = None; screen = [] }
 run_from mode present place before at (statement ∷ statements) =
-    let found = found_of mode present before in
-    let e = effect_of present found before at statement in
+    let e = effect_of (is_missing mode present before) at statement in
     let all = before ++ e.elements in
     let rest = run_from mode present (place + 1) all e.after statements in
-    run_after place before (status_of present found before all) e e.stop rest
+    run_after place before (status_of present (found_of mode present before) before all) e e.stop rest
 
 -- a whole run: no file is open, the channel number is 0, and the screen is the output device
 abbrev pub run_of : StatusMode → Present → List Statement → Run

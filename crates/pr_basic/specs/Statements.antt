@@ -1,15 +1,21 @@
 -- Trusted: what one statement sends, prints on the screen and changes, and where it stops.
-use Rattle.std.specs.Prelude.{ℕ, ◌==◌, nat_lt, nat_le, Option, Some, None, is_some, List, [], ◌∷◌, ◌++◌, length, map, if◌then◌else◌}
+use Rattle.std.specs.Prelude.{ℕ, ◌+◌, nat_lt, nat_le, Bool, true, false, not, ◌||◌, Option, Some, None, is_some, List, [], ◌∷◌, ◌++◌, map, if◌then◌else◌}
+use Rattle.std.specs.List.{last_or}
+use Rattle.pr_base.specs.Bytes as command
 use Rattle.pr_serial.specs.declared.Present.{Present}
-use Rattle.pr_serial.specs.Elements.{Element, Byte}
+use Rattle.pr_serial.specs.declared.Item.{Item}
+use Rattle.pr_serial.specs.declared.Item.TheVariants as item
+use Rattle.pr_serial.specs.Elements.{Element, Attention, Byte}
 use Rattle.pr_serial.specs.Items.{items_of}
-use Rattle.pr_serial.specs.Answers.{is_lacking}
+use Rattle.pr_serial.specs.Answers.{is_answered, is_lacking}
 use Rattle.pr_channels.specs.declared.file.File.{File}
 use Rattle.pr_channels.specs.declared.faults.Stop.{Stop}
 use Rattle.pr_channels.specs.declared.faults.Stop.TheVariants.{FileNotOpen, DeviceNotPresent}
 use Rattle.pr_channels.specs.Files.{Files, file_at, without_file, open_stop}
-use Rattle.pr_channels.specs.Commands.{listen_to, unlisten, closing}
+use Rattle.pr_channels.specs.Commands.{second_from, listen_to, unlisten, closing}
 use Rattle.pr_basic.specs.Text.{Text}
+use Rattle.pr_basic.specs.declared.session.StatusMode.{StatusMode}
+use Rattle.pr_basic.specs.declared.session.StatusMode.TheVariants.{Each, Kept}
 use Rattle.pr_basic.specs.declared.statement.Statement.{Statement}
 use Rattle.pr_basic.specs.declared.statement.Statement.TheVariants.{OpenFile, Cmd, PrintTo, Print, CloseFile, Rem}
 
@@ -41,12 +47,6 @@ pub record Effect : Type 0 where
   pub stop : Option Stop
   pub after : Setting
 
--- the status once the elements `before` have become `all`: 128 if one of the new items is not
--- answered, else the status found
-abbrev pub status_of : Present → ℕ → List Element → List Element → ℕ
-status_of present found before all =
-    if is_lacking present (length (items_of before)) (items_of all) then 128 else found
-
 -- no stop: these elements, these screen bytes, and what the next statement finds
 abbrev pub going_on : List Element → List ℕ → Setting → Effect
 going_on es screen after = record { elements = es; screen = screen; stop = None; after = after }
@@ -57,11 +57,26 @@ stopping stop es at =
     let last = if nat_lt 3 at.output then unlisten ∷ [] else [] in
     record { elements = es ++ last; screen = []; stop = Some stop; after = reset at }
 
--- CMD: LISTEN to the file's device and then the line, unless the status is 128 after the LISTEN
-abbrev pub commanding : Present → ℕ → List Element → Setting → ℕ → Text → Option File → Effect
-commanding present found before at number line None = stopping FileNotOpen [] at
-commanding present found before at number line (Some file) =
-    if status_of present found before (before ++ listen_to file ∷ []) == 128
+-- the last element, if there is one, is a byte that is not answered after the items before it
+abbrev pub is_unanswered_byte : Present → List Item → Option Element → Bool
+is_unanswered_byte present sent None = false
+is_unanswered_byte present sent (Some (Attention first second)) = false
+is_unanswered_byte present sent (Some (Byte b)) = not (is_answered present sent (item.Sent b true))
+
+-- a file's device is missing: the LISTEN to it after these elements is not answered, or the element directly before it
+-- is a byte that is not; where the status is kept: the LISTEN, or any item before it in the run, is not answered
+abbrev pub is_missing : StatusMode → Present → List Element → File → Bool
+is_missing Each present before file =
+    not (is_answered present (items_of before)
+    (item.Attention (command.listen + file.device) (second_from command.secondary file.second)))
+    || is_unanswered_byte present (items_of before) (last_or None before)
+is_missing Kept present before file = is_lacking present 0 (items_of (before ++ listen_to file ∷ []))
+
+-- CMD: LISTEN to the file's device and then the line, unless that device is missing
+abbrev pub commanding : (File → Bool) → Setting → ℕ → Text → Option File → Effect
+commanding missing at number line None = stopping FileNotOpen [] at
+commanding missing at number line (Some file) =
+    if missing file
     then stopping DeviceNotPresent (listen_to file ∷ []) at
     else going_on (listen_to file ∷ map Byte (printed_bytes line number)) []
     (record at { channel = number; output = file.device })
@@ -77,18 +92,16 @@ abbrev pub opening : Option Stop → File → Setting → Effect
 opening None file at = going_on [] [] (record at { files = at.files ++ file ∷ [] })
 opening (Some stop) file at = stopping stop [] at
 
--- the effect of a statement, with the status found and the elements before it
-abbrev pub effect_of : Present → ℕ → List Element → Setting → Statement → Effect
-effect_of present found before at (OpenFile file device second) =
+-- the effect of a statement, by which files have a missing device
+abbrev pub effect_of : (File → Bool) → Setting → Statement → Effect
+effect_of missing at (OpenFile file device second) =
     let opened : File = record { number = file; device = device; second = second } in
     opening (open_stop at.files file) opened at
-effect_of present found before at (Cmd file line) =
-    commanding present found before at file line (file_at at.files file)
-effect_of present found before at (PrintTo file line) =
-    unlistening (commanding present found before at file line (file_at at.files file))
-effect_of present found before at (Print line) =
+effect_of missing at (Cmd file line) = commanding missing at file line (file_at at.files file)
+effect_of missing at (PrintTo file line) = unlistening (commanding missing at file line (file_at at.files file))
+effect_of missing at (Print line) =
     let bytes = printed_bytes line at.channel in
     if nat_lt 3 at.output then going_on (map Byte bytes) [] at else going_on [] bytes at
-effect_of present found before at (CloseFile file) =
+effect_of missing at (CloseFile file) =
     going_on (closing (file_at at.files file)) [] (record at { files = without_file file at.files })
-effect_of present found before at Rem = going_on [] [] at
+effect_of missing at Rem = going_on [] [] at

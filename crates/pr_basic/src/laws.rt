@@ -1,6 +1,6 @@
 //! Laws of the definitions, with nothing to run. A caller whose proof needs one calls the function.
 
-ghost use Rattle.pr_basic.specs.StatementLaws.{StopsExactly, StatusExactly, StatusFoundNext, SentAfterEarlier};
+ghost use Rattle.pr_basic.specs.StatementLaws.{StopsExactly, MissingByStatus, EffectsByStatus, StatusExactly, StatusFoundNext, SentAfterEarlier};
 ghost use Rattle.pr_basic.specs.FaultLaws.{PlacesChangeNoFault};
 ghost use Rattle.pr_basic.specs.LexemeLaws.{LexemesAreFound, LinesHaveLexemes};
 
@@ -9,9 +9,12 @@ use pr_serial::laws::{answers_add_up, elements_send_items};
 /// A law: a CMD or PRINT# stops with DEVICE NOT PRESENT exactly where the file is open and the
 /// LISTEN to its device is not answered, or the element directly before it is a byte that is not
 /// answered; where the status is kept, exactly where the LISTEN or any item before it in the run is
-/// not answered. The other stops are those of the file table.
+/// not answered. The other stops are those of the file table. In a run the status tells the same:
+/// the device is missing exactly where the status is 128 after the LISTEN.
 pub fn stops_are_exact()
-    ensures { StopsExactly }
+    ensures stop { StopsExactly }
+    ensures missing { MissingByStatus }
+    ensures effects { EffectsByStatus }
 {
     elements_send_items();
     answers_add_up();

@@ -6,8 +6,10 @@ ghost use Rattle.pr_channels.specs.Files.{open_stop};
 ghost use Rattle.pr_channels.specs.Seen.{KeepsBus};
 ghost use Rattle.pr_channels.specs.Calls.{clrchn_of};
 ghost use Rattle.pr_basic.specs.Statements.{printed_bytes, unlistening, opening};
-ghost use Rattle.pr_basic.specs.Performing.{printing, Gives, IsWorking, setting_of, effect_on, commanding_on, ChangesScreenAlone, Performs, SendsAtMost, found_by};
+ghost use Rattle.pr_basic.specs.Runs.{found_of};
+ghost use Rattle.pr_basic.specs.Performing.{printing, Gives, IsWorking, setting_of, effect_on, effect_in, commanding_on, ChangesScreenAlone, Performs, SendsAtMost, found_by};
 
+use crate::laws::stops_are_exact;
 use crate::session::{Session, StatusMode};
 use crate::statement::{Device, Line, Second, Statement, number_of_second};
 use pr_channels::laws::elements_add_up;
@@ -266,6 +268,11 @@ pub fn perform<S: Serial>(
     ensures ok { IfOk result (λ stop. channels.old.failed ≡ false →
         Performs channels.old channels.new (found_by session.old.mode channels.old.status) session.new.channel stop
         (effect_on channels.old (found_by session.old.mode channels.old.status) session.old.channel statement.now)) }
+    // in a run, whose status says whether an earlier item was not answered
+    ensures in_run { IfOk result (λ stop. channels.old.failed ≡ false →
+        found_by session.old.mode channels.old.status ≡ found_of session.old.mode channels.old.present channels.old.elements →
+        Performs channels.old channels.new (found_by session.old.mode channels.old.status) session.new.channel stop
+        (effect_in session.old.mode channels.old session.old.channel statement.now)) }
     ensures mode { session.new.mode ≡ session.old.mode }
     // how much is sent, and what never changes
     ensures failed { OnOk result (channels.new.failed ≡ channels.old.failed) }
@@ -276,6 +283,8 @@ pub fn perform<S: Serial>(
         ⊎ ChangesScreenAlone (record channels.old { status = found_by session.old.mode channels.old.status }) channels.new) }
     ensures err_session { OnErr result (session.new ≡ session.old) }
 {
+    // For the prover alone: a law, with nothing to run.
+    stops_are_exact();
     begin(channels, session.mode);
     let (stop, channel) = perform_begun(channels, statement, session.channel)?;
     session.channel = channel;

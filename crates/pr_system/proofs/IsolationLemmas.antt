@@ -5,11 +5,13 @@ use Rattle.pr_serial.specs.Elements.{Element}
 use Rattle.pr_serial.specs.Items.{items_of}
 use Rattle.pr_serial.specs.Answers.{is_lacking}
 use Rattle.pr_channels.specs.declared.faults.Stop.{Stop}
+use Rattle.pr_channels.specs.declared.file.File.{File}
 use Rattle.pr_channels.specs.Files.{Files}
+use Rattle.pr_channels.specs.Commands.{listen_to}
 use Rattle.pr_channels.specs.Table.{IsTable}
 use Rattle.pr_basic.specs.declared.statement.Statement.{Statement}
-use Rattle.pr_basic.specs.Statements.{Effect, effect_of, status_of}
-use Rattle.pr_basic.specs.Runs.{Run, run_after, run_from, found_of}
+use Rattle.pr_basic.specs.Statements.{Effect, is_missing, effect_of}
+use Rattle.pr_basic.specs.Runs.{Run, run_after, run_from, found_of, status_of}
 use Rattle.pr_basic.specs.declared.session.StatusMode.{StatusMode}
 use Rattle.pr_basic.specs.declared.session.StatusMode.TheVariants.{Each, Kept}
 use Rattle.pr_page.specs.Evaluator.{page_of}
@@ -17,7 +19,7 @@ use Rattle.pr_system.specs.Without.{files_after, is_left_out, without_from, AreA
 use Rattle.pr_system.specs.Laws.{Isolation, IsolatedPages}
 use Rattle.pr_system.proofs.AbsentLemmas.{OnlyPage}
 use Rattle.pr_system.proofs.FileLemmas.{rest_of}
-use Rattle.pr_system.proofs.ApartLemmas.{Apart, apart_begins}
+use Rattle.pr_system.proofs.ApartLemmas.{Apart, apart_begins, lacking_same}
 use Rattle.pr_system.proofs.StepLemmas.{Laws, standing, table_after, step_both, step_alone}
 
 -- the second run has no stop either, and is apart from the first
@@ -40,6 +42,11 @@ goes_at place before status e rest (Some stop) is none = let clash : Some (place
 goes : (place : ℕ) (before : List Element) (status : ℕ) (e : Effect) (rest : Run) → (run_after place before status e e.stop rest).stop ≡ None → IsPassed place before status e rest
 goes place before status e rest none = goes_at place before status e rest e.stop refl none
 
+-- a status that is not 128
+status_splits : (lacking : Bool) (n : ℕ) → (cond lacking 128 n == 128) ≡ false → (lacking ≡ false) × ((n == 128) ≡ false)
+status_splits true n h = let clash : true ≡ false = h in absurd (cc clash)
+status_splits false n h = (refl, h)
+
 -- a status of 0 stays one where nothing more lacks an answer
 kinder_at : (one two : Bool) → (one ≡ false → two ≡ false) → (cond one 128 0 == 128) ≡ false → (cond two 128 0 == 128) ≡ false
 kinder_at true two kinder clear = let clash : true ≡ false = clear in absurd (cc clash)
@@ -49,6 +56,14 @@ kinder_at false two kinder clear = ap (λ b. cond b 128 0 == 128) (kinder refl)
 found_kinder : (mode : StatusMode) (present : Present) (left_out : ℕ) (one two : List Element) → Apart present left_out one two → (found_of mode present one == 128) ≡ false → (found_of mode present two == 128) ≡ false
 found_kinder Each present left_out one two apart clear = clear
 found_kinder Kept present left_out one two apart clear = kinder_at (is_lacking present 0 (items_of one)) (is_lacking present 0 (items_of two)) apart.kinder clear
+
+-- a device that is not missing in the first run is not missing in the second either
+missing_kinder : Laws → (mode : StatusMode) (present : Present) (left_out : ℕ) (one two : List Element) → Apart present left_out one two → (file : File) → is_missing mode present one file ≡ false → is_missing mode present two file ≡ false
+missing_kinder laws mode present left_out one two apart file there =
+    let parts = status_splits _ (found_of mode present one) (laws.missing mode present one file ∙ there) in
+    sym (laws.missing mode present two file)
+    ∙ ap (λ b. cond b 128 (found_of mode present two) == 128) (sym (lacking_same laws.bus present left_out one two (listen_to file ∷ []) apart) ∙ parts.0)
+    ∙ found_kinder mode present left_out one two apart parts.1
 
 -- the law from any place on
 abbrev Holds : StatusMode → Present → ℕ → List Statement → Type 0
@@ -63,9 +78,9 @@ holds_cons : Laws → (mode : StatusMode) (present : Present) (left_out : ℕ) (
     → (run_from mode present p one (standing files) (statement ∷ statements)).stop ≡ None
     → AreApart present left_out (run_from mode present p one (standing files) (statement ∷ statements)) (run_from mode present q two (standing (rest_of left_out files)) (cond out (without_from left_out (files_after files statement) statements) (statement ∷ without_from left_out (files_after files statement) statements)))
 holds_cons laws mode present left_out statement statements later p q files one two true out table apart addressed none =
-    let e = effect_of present (found_of mode present one) one (standing files) statement in
+    let e = effect_of (is_missing mode present one) (standing files) statement in
     let first = goes p one (status_of present (found_of mode present one) one (one ++ e.elements)) e (run_from mode present (p + 1) (one ++ e.elements) e.after statements) none in
-    let step = step_alone laws present left_out (found_of mode present one) files one two statement table apart addressed.0 first.none out in
+    let step = step_alone laws present left_out (is_missing mode present one) files one two statement table apart addressed.0 first.none out in
     let goes_later = ap (λ at. (run_from mode present (p + 1) (one ++ e.elements) at statements).stop) (sym step.after_one) ∙ first.later in
     let rest = later (p + 1) q (files_after files statement) (one ++ e.elements) two (table_after laws files statement table) step.apart addressed.1 goes_later in
     record {
@@ -76,11 +91,11 @@ holds_cons laws mode present left_out statement statements later p q files one t
           subst P (ap (λ at. (run_from mode present (p + 1) (one ++ e.elements) at statements).elements) (sym step.after_one) ∙ sym first.elements) (subst Q step.rest rest.apart);
     }
 holds_cons laws mode present left_out statement statements later p q files one two false out table apart addressed none =
-    let e = effect_of present (found_of mode present one) one (standing files) statement in
-    let f = effect_of present (found_of mode present two) two (standing (rest_of left_out files)) statement in
+    let e = effect_of (is_missing mode present one) (standing files) statement in
+    let f = effect_of (is_missing mode present two) (standing (rest_of left_out files)) statement in
     let left = without_from left_out (files_after files statement) statements in
     let first = goes p one (status_of present (found_of mode present one) one (one ++ e.elements)) e (run_from mode present (p + 1) (one ++ e.elements) e.after statements) none in
-    let step = step_both laws present left_out (found_of mode present one) (found_of mode present two) files one two statement table apart (found_kinder mode present left_out one two apart) addressed.0 first.none out in
+    let step = step_both laws present left_out (is_missing mode present one) (is_missing mode present two) files one two statement table apart (missing_kinder laws mode present left_out one two apart) addressed.0 first.none out in
     let goes_later = ap (λ at. (run_from mode present (p + 1) (one ++ e.elements) at statements).stop) (sym step.after_one) ∙ first.later in
     let rest = later (p + 1) (q + 1) (files_after files statement) (one ++ e.elements) (two ++ f.elements) (table_after laws files statement table) step.apart addressed.1 goes_later in
     let whole : run_after q two (status_of present (found_of mode present two) two (two ++ f.elements)) f f.stop (run_from mode present (q + 1) (two ++ f.elements) f.after left) ≡ run_after q two (status_of present (found_of mode present two) two (two ++ f.elements)) f None (run_from mode present (q + 1) (two ++ f.elements) (standing (rest_of left_out (files_after files statement))) left) =

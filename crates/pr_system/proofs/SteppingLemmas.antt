@@ -15,8 +15,7 @@ use Rattle.pr_channels.specs.declared.faults.Stop.{Stop}
 use Rattle.pr_channels.specs.Seen.{Seen}
 use Rattle.pr_basic.specs.declared.statement.Statement.{Statement}
 use Rattle.pr_basic.specs.declared.session.StatusMode.{StatusMode}
-use Rattle.pr_basic.specs.Statements.{effect_of}
-use Rattle.pr_basic.specs.Performing.{setting_of, found_by, Performs}
+use Rattle.pr_basic.specs.Performing.{found_by, effect_on, Performs}
 use Rattle.pr_basic.specs.Runs.{found_of}
 use Rattle.pr_system.specs.InOrder.{IsFed}
 use Rattle.pr_basic.specs.StatementLaws.{StatusFoundNext}
@@ -66,12 +65,12 @@ pub record Advanced (old new : Seen) (mode : StatusMode) : Type 0 where
 pub advanced : StatusFoundNext → (old mid new : Seen) (mode : StatusMode) (channel number : ℕ) (answer : Option Stop) (statement : Statement)
     → old.failed ≡ false → old.sent ≡ items_of old.elements → found_by mode old.status ≡ found_of mode old.present old.elements
     → mid ≡ record old { mark = Some (length old.sent) }
-    → (mid.failed ≡ false → Performs mid new (found_by mode mid.status) number answer (effect_of mid.present (found_by mode mid.status) mid.elements (setting_of mid channel) statement))
+    → (mid.failed ≡ false → Performs mid new (found_by mode mid.status) number answer (effect_on mid (found_by mode mid.status) channel statement))
     → Advanced old new mode
 advanced next old mid new mode channel number answer statement works in_step found is performs =
-    let P : Seen → Type 0 = λ m. m.failed ≡ false → Performs m new (found_by mode m.status) number answer (effect_of m.present (found_by mode m.status) m.elements (setting_of m channel) statement) in
+    let P : Seen → Type 0 = λ m. m.failed ≡ false → Performs m new (found_by mode m.status) number answer (effect_on m (found_by mode m.status) channel statement) in
     let done = subst P is performs works in
-    let e = effect_of old.present (found_by mode old.status) old.elements (setting_of old channel) statement in
+    let e = effect_on old (found_by mode old.status) channel statement in
     let Q : Seen → Type 0 = λ s. Advanced old s mode in
     subst Q (sym done.channels) (record {
       more = e.elements;

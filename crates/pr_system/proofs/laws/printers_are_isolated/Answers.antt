@@ -13,6 +13,7 @@ returns-clause-hearing c = isolation (record {
     heard = c.hearing_is_local.ensures.two_parts;
     uncalled = c.hearing_is_local.ensures.uncalled;
   };
+  missing = c.stops_are_exact.ensures.missing;
   one_more = c.tables_stay_tables.ensures.one_more;
   some = c.tables_stay_tables.ensures.some;
   openable = c.tables_stay_tables.ensures.openable;
