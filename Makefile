@@ -34,7 +34,7 @@ TEST_CRATES := pr_tests_core pr_tests_wires pr_tests_forms pr_tests_jobs
 TESTS := $(foreach crate,$(TEST_CRATES),crates/$(crate)/out/$(crate)_tests)
 
 # The static libraries that the library for C is made of.
-PART_CRATES := pr_ear pr_c pr_web
+PART_CRATES := pr_ear pr_exports
 PARTS := $(foreach crate,$(PART_CRATES),crates/$(crate)/out/lib$(crate).a)
 
 # What the program and the tests are built from.
@@ -78,7 +78,7 @@ outside: build lib $(TESTS)
 $(TESTS): $(SOURCES)
 	@cd $(@D)/.. && rt test > out.log 2>&1 || { cat out.log; exit 1; }; rm -f out.log
 
-# The library for C programs, an archive and a shared library: the archives of three crates, the part of the toolchain's that calls
+# The library for C programs, an archive and a shared library: the archives of two crates, the part of the toolchain's that calls
 # malloc, and the functions of the header.
 lib: $(LIBRARY) $(LIBRARY:.a=.so)
 

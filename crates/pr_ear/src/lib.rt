@@ -17,7 +17,7 @@
 //! All numbers mean some state, so nothing that a caller has saved is refused. What is stored is what is
 //! restored.
 //!
-//! `make lib` puts this crate and pr_c into one archive: docs/C.md.
+//! `make lib` puts this crate and pr_exports into one archive: docs/C.md.
 #![tactic(auto)]
 
 ghost use Rattle.std.specs.Prelude.{true, ◌↔◌, ◌≡◌, ◌≢◌, ◌≤◌, ◌<◌, ◌+◌, ◌^◌, length, map, Some, IfOk, IfErr};

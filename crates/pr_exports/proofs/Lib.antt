@@ -1,0 +1,7 @@
+pub mod Given
+pub mod Inputs
+pub mod InputNumbers
+pub mod Backs
+pub mod Kept
+pub mod Lines
+pub mod Middles

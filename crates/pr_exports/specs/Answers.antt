@@ -1,0 +1,54 @@
+-- Trusted: the answer of a call with numbers.
+use Rattle.std.specs.Prelude.{ℕ, ◌+◌, Option, Some, None}
+use Rattle.std.specs.Option.{option_map_or, unwrap_or}
+use Rattle.pr_channels.specs.Stops.{stop_number}
+use Rattle.pr_channels.specs.declared.faults.Stop.{Stop}
+use Rattle.pr_cli.specs.Statuses.{status_of}
+use Rattle.pr_cli.specs.declared.statuses.End.{End}
+use Rattle.pr_cli.specs.declared.statuses.End.TheVariants.{Job}
+use Rattle.pr_explain.specs.declared.traces.ReadingPlace.{ReadingPlace}
+use Rattle.pr_explain.specs.declared.traces.ReadingPlace.TheVariants.{Edge, Line}
+use Rattle.pr_explain.specs.declared.traces.TracePlace.{TracePlace}
+use Rattle.pr_exports.specs.Faults.{numbers_of}
+use Rattle.pr_exports.specs.declared.answer.Answer.{Answer}
+use Rattle.pr_exports.specs.declared.answer.Told.{Told}
+use Rattle.pr_exports.specs.declared.answer.Told.TheVariants.{Written, TooSmall, Refused}
+
+-- an answer without a fault
+abbrev pub plain : (code length : ℕ) → Answer
+plain code length = record { code = code; fault = 0; place = 0; length = length }
+
+-- the refusal of a number that means no setting or no input, with its place
+abbrev pub refusal : (fault place : ℕ) → Answer
+refusal fault place = record { code = 2; fault = fault; place = place; length = 0 }
+
+-- where a task of the program ends so: its exit status, and the numbers of its fault, with the column in the place of a length
+abbrev pub ended : End → Answer
+ended end =
+    record {
+      code = status_of end;
+      fault = (numbers_of end).0;
+      place = (numbers_of end).1;
+      length = (numbers_of end).2;
+    }
+
+-- an outcome as numbers; with a fault of an input comes the length of the text before it
+abbrev pub answer_of : Told → Answer
+answer_of (Written None n) = plain 0 n
+answer_of (Written (Some fault) n) = record (ended (Job fault)) { length = n }
+answer_of (TooSmall n) = plain 4 n
+answer_of (Refused fault) = ended (Job fault)
+
+-- the BASIC error that stops a run, as 100 and its number, and its statement; or none does
+abbrev pub stopped : Option (ℕ × Stop) → Answer
+stopped None = plain 0 0
+stopped (Some (statement, stop)) = record { code = 1; fault = 100 + stop_number stop; place = statement; length = 0 }
+
+-- the line that cannot be read, or else the index of the edge, or else 0
+abbrev pub place_of_trace : TracePlace → ℕ
+place_of_trace p = unwrap_or p.line (option_map_or (λ e. e.index) p.edge 0)
+
+-- the index of the edge, or the line
+abbrev pub number_read : ReadingPlace → ℕ
+number_read (Edge index) = index
+number_read (Line line) = line

@@ -1,0 +1,14 @@
+pub mod Settings
+pub mod Faults
+pub mod Answers
+pub mod Program
+pub mod Lengths
+pub mod Numbers
+pub mod EdgeDelays
+pub mod Giving
+pub mod Listings
+pub mod Printing
+pub mod Printed
+pub mod Asked
+pub mod Rows
+pub mod Laws

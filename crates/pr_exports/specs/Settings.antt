@@ -1,0 +1,127 @@
+-- Trusted: what the numbers and bytes that a caller passes mean.
+use Rattle.std.specs.Prelude.{◌≡◌, ℕ, ◌==◌, Bool, true, false, List, [], ◌∷◌, if◌then◌else◌, not, option_map, Option, Some, None, Result, Ok, take}
+use Rattle.pr_basic.specs.declared.session.StatusMode.{StatusMode}
+use Rattle.pr_basic.specs.declared.session.StatusMode.TheVariants as mode
+use Rattle.pr_channels.specs.declared.faults.Stop.{Stop}
+use Rattle.pr_characters.specs.File.{AnswersFile}
+use Rattle.pr_characters.specs.declared.fault.CharactersFault.{CharactersFault}
+use Rattle.pr_dots.specs.Shapes.{own_shapes}
+use Rattle.pr_dots.specs.declared.character_sets.Shapes.{Shapes}
+use Rattle.pr_listing.specs.declared.form.ListingForm.{ListingForm}
+use Rattle.pr_listing.specs.declared.form.ListingForm.TheVariants as listing
+use Rattle.pr_options.specs.Found.{found_source}
+use Rattle.pr_channels.specs.declared.faults.Stop.TheVariants as stop
+use Rattle.pr_render.specs.declared.format.Format.{Format}
+use Rattle.pr_render.specs.declared.format.Device.{Device}
+use Rattle.pr_render.specs.declared.format.Device.TheVariants.{Four, Five}
+use Rattle.pr_render.specs.declared.format.Format.TheVariants as format
+use Rattle.pr_render.specs.Showing.{showing, whole}
+use Rattle.pr_recording.specs.declared.wording.Wording.{Wording}
+use Rattle.pr_recording.specs.declared.wording.Wording.TheVariants.{Json, Lines}
+use Rattle.pr_report.specs.declared.detail.Bounds.TheVariants.{Guide, Profile}
+use Rattle.pr_report.specs.declared.detail.Detail.{Detail}
+use Rattle.pr_capture.specs.declared.format.Source.{Source}
+use Rattle.pr_capture.specs.declared.format.Source.TheVariants as source
+use Rattle.pr_capture.specs.declared.format.TraceInput.{TraceInput}
+use Rattle.pr_serial.specs.declared.Present.{Present}
+
+-- the format of a recording: a trace text, a Value Change Dump, a table of comma separated values, or the one that its
+-- first 4096 bytes show and else a text, or else a table
+abbrev pub source_of : ℕ → (bytes : List ℕ) → Option Source
+source_of number bytes =
+    if number == 0 then Some source.Text
+    else (if number == 1 then Some source.Vcd
+    else (if number == 2 then Some source.Csv
+    else (if number == 3 then Some (found_source source.Text (take 4096 bytes))
+    else (if number == 4 then Some (found_source source.Csv (take 4096 bytes)) else None))))
+
+-- the shapes that are asked for: those of a file of characters, or this project's own where it is empty
+abbrev pub AsksShapes : List ℕ → Result Shapes CharactersFault → Type 0
+AsksShapes [] asked = asked ≡ Ok own_shapes
+AsksShapes (b ∷ bs) asked = AnswersFile (b ∷ bs) asked
+
+-- what is answered with them
+abbrev pub WithShapes : List ℕ → (Result Shapes CharactersFault → Type 0) → Type 0
+WithShapes characters Answers = (asked : Result Shapes CharactersFault) × AsksShapes characters asked × Answers asked
+
+-- the BASIC error with a number
+abbrev pub stop_of : ℕ → Option Stop
+stop_of number =
+    if number == 1 then Some stop.TooManyFiles
+    else (if number == 2 then Some stop.FileOpen
+    else (if number == 3 then Some stop.FileNotOpen
+    else (if number == 5 then Some stop.DeviceNotPresent else (if number == 6 then Some stop.NotInputFile else None))))
+
+-- whether a number means yes
+abbrev pub is_yes : ℕ → Bool
+is_yes number = not (number == 0)
+
+-- the printers that are present
+abbrev pub presence : (four five : ℕ) → Present
+presence four five = record { four = is_yes four; five = is_yes five }
+
+-- the status: cleared before each statement, or kept
+abbrev pub mode_of : (is_kept : Bool) → StatusMode
+mode_of false = mode.Each
+mode_of true = mode.Kept
+
+-- the form of a listing: the text of a script, a saved program, petcat's text
+abbrev pub form_of : ℕ → Option ListingForm
+form_of form =
+    if form == 0 then Some listing.Text
+    else (if form == 1 then Some listing.Program else (if form == 2 then Some listing.Petcat else None))
+
+-- the format of pages: the page text, lines of 80 columns, an SVG document, a sheet as a PNG file, or a PDF document
+abbrev pub format_of : ℕ → Option Format
+format_of number =
+    if number == 0 then Some format.List
+    else (if number == 1 then Some format.Lines
+    else (if number == 2 then Some (format.Svg whole)
+    else (if number == 3 then Some (format.Png whole) else (if number == 4 then Some (format.Pdf None) else None))))
+
+-- the printers whose pages are shown: all, or one
+abbrev pub device_of : ℕ → Option (Option Device)
+device_of number =
+    if number == 0 then Some None
+    else (if number == 4 then Some (Some Four) else (if number == 5 then Some (Some Five) else None))
+
+-- the sheet that is shown: all, or one
+abbrev pub sheet_of : ℕ → Option ℕ
+sheet_of number = if number == 0 then None else Some number
+
+-- a format that shows this part of the pages, if it can
+abbrev pub shown_in : Option Format → Option (Option Device) → (sheet : Option ℕ) → Option Format
+shown_in None device sheet = None
+shown_in (Some format) None sheet = None
+shown_in (Some format) (Some device) sheet = showing format (record { device = device; sheet = sheet })
+
+abbrev pub shown_of : (format device sheet : ℕ) → Option Format
+shown_of format device sheet = shown_in (format_of format) (device_of device) (sheet_of sheet)
+
+-- which intervals of a reading have a line: none, or those outside the bounds of the profile or of the guide
+abbrev pub detail_of : ℕ → Option Detail
+detail_of number =
+    if number == 0 then Some (record { intervals = false; bounds = Profile })
+    else (if number == 1 then Some (record { intervals = true; bounds = Profile })
+    else (if number == 2 then Some (record { intervals = false; bounds = Guide })
+    else (if number == 3 then Some (record { intervals = true; bounds = Guide }) else None)))
+
+-- how what a recording says is written: as lines, or as JSON
+abbrev pub wording_of : ℕ → Option Wording
+wording_of number = if number == 4 then Some Json else option_map (λ detail. Lines detail) (detail_of number)
+
+-- the samples in a second that are said of a table, if they are
+abbrev pub rate_of : ℕ → Option ℕ
+rate_of number = if number == 0 then None else Some number
+
+-- a recording with these names of its signals, with levels as they are or inverted, which starts at this microsecond
+-- and has `rate` samples in a second, or says itself how many if `rate` is 0
+pub record IsInput (source : Source) (atn clock line : List ℕ) (is_inverted : Bool) (start rate : ℕ)
+    (input : TraceInput) : Type 0 where
+  pub of_source : input.source ≡ source
+  pub of_atn : input.signals.atn.now ≡ atn
+  pub of_clock : input.signals.clock.now ≡ clock
+  pub of_line : input.signals.line.now ≡ line
+  pub of_inverted : input.signals.is_inverted ≡ is_inverted
+  pub of_start : input.start ≡ start
+  pub of_rate : input.rate ≡ rate_of rate

@@ -1,0 +1,59 @@
+//! The exports of the library for C and of the WebAssembly module: memory in, memory out, no pointer kept.
+//!
+//! The caller owns every buffer. Each slice is a pointer and then a length. A call puts its text or its numbers at the
+//! buffer's front where it has room, with the rest of the buffer as it was, and writes the whole answer; where it gives
+//! none, the buffer stays as it was. No enum, bool or returned pointer crosses.
+//!
+//! - `program` is the program as a function, over words, an input and a file of characters: all that is a text or a picture
+//!   goes through it.
+//!
+//! What a text does not serve are calls with numbers:
+//!
+//! - `numbers` has edges, readings (`rows`), what the lengths of their intervals come to (`lengths`) and the bounds of the
+//!   delays; `delays` has the delay that each edge ends, `scripts` the line of each statement and the place of a fault. The
+//!   page in a browser draws and marks by these.
+//! - `stops` has the error that stops a run, and `listings` a listing's text of a script, with the line and the column of its
+//!   fault. `printing` has the page of a printer's inputs, of which some are no bytes.
+//! - `recordings` and `explanations` serve callers in C, who have a recording's settings as numbers: the name of a
+//!   signal that they pass may be any bytes, and explanations are given beside their places, so their contracts say the place
+//!   without a word on the text. A recording that cannot be read to its end answers its fault, and the text of what comes
+//!   before it too.
+//!
+//! `settings` gives the numbers that a caller passes their meaning, `answer` has what is answered, and `faults` the numbers
+//! of faults.
+//!
+//! `tools/archive` makes the library for C of this crate and pr_ear, and `web/module` the WebAssembly module. The tests are
+//! in this crate, since no crate can be built on a static library.
+#![tactic(auto)]
+
+mod answer;
+mod delays;
+mod explanations;
+mod faults;
+mod lengths;
+mod listings;
+mod numbers;
+mod printing;
+mod program;
+mod recordings;
+mod rows;
+mod scripts;
+mod settings;
+mod stops;
+
+pub use answer::{Answer, Told};
+pub use delays::print1525_edge_delays;
+pub use explanations::{
+    print1525_explain_reading, print1525_explain_script, print1525_explain_stop,
+    print1525_explain_trace,
+};
+pub use listings::{Listed, print1525_listing};
+pub use numbers::{print1525_bounds, print1525_edges, print1525_intervals, print1525_reading_rows};
+pub use printing::{bytes_are_inputs, print1525_print};
+pub use program::{End, print1525_answer, print1525_names};
+pub use recordings::{print1525_readings, print1525_reprint};
+pub use scripts::{print1525_script_fault, print1525_statement_lines};
+pub use stops::print1525_stop;
+
+#[cfg(test)]
+mod tests;

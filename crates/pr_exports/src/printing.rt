@@ -1,0 +1,159 @@
+//! The page of a printer's inputs.
+
+ghost use Rattle.std.specs.Prelude.{◌≡◌, ◌≤◌, length, map, IfOk};
+ghost use Rattle.std.specs.List.{position};
+ghost use Rattle.pr_jobs.specs.Raw.{printed_on};
+ghost use Rattle.pr_page.specs.Page.{IsPage};
+ghost use Rattle.pr_exports.specs.Laws.{BytesAreInputs};
+ghost use Rattle.pr_exports.specs.Printed.{GivesInputsText};
+ghost use Rattle.pr_exports.specs.Printing.{input_of, inputs_limit, is_no_input};
+ghost use Rattle.pr_exports.specs.Asked.{HandsInputs, TellsPrint};
+ghost use Rattle.pr_exports.specs.Settings.{WithShapes, shown_of};
+
+use crate::answer::{Answer, ended, give, numbered, refused};
+use crate::settings::{shapes_for, shown_for};
+use pr_cli::End;
+use pr_dots::Shapes;
+use pr_jobs::{CliFault, ShapesFault, text_in_format};
+use pr_page::{Input, NoMemory, Paper, Printer, Sequence};
+use pr_render::Format;
+use pr_serial::Present;
+use pr_system::Outcome;
+use std::alloc::Global;
+
+/// The most inputs of a page: a printer takes no more.
+const INPUTS_LIMIT: usize = 4_294_967_296;
+
+/// The last number that means an input.
+const LAST_INPUT: u16 = 257;
+
+/// The printers of a page that is printed of inputs.
+const FOUR_ALONE: Present = Present {
+    four: true,
+    five: false,
+};
+
+/// The input that a number means: 0 to 255 a byte, 256 the selection of the graphic/upper case
+/// set, 257 that of the lower/upper case set.
+fn input_for(number: u16) -> Input
+    ensures { result ≡ input_of number }
+{
+    match u8::try_from(number) {
+        Ok(byte) => Input::Byte(byte),
+        Err(_) => Input::Select(number == LAST_INPUT),
+    }
+}
+
+/// The index of the first number that means no input, if there is one.
+fn first_no_input(numbers: &[u16]) -> Option<usize>
+    ensures { result ≡ position is_no_input numbers.now }
+{
+    for (index, number) in numbers.iter().enumerate() {
+        if *number > LAST_INPUT {
+            return Some(index);
+        }
+    }
+    None
+}
+
+/// The paper of a printer that has taken the inputs that numbers mean.
+fn paper_of(alloc: Global, numbers: &[u16]) -> Result<Paper, NoMemory>
+    requires few { length numbers.now ≤ inputs_limit }
+    ensures { IfOk result (λ paper. IsPage (map input_of numbers.now) paper) }
+{
+    let mut printer = Printer::new(alloc);
+    for number in numbers {
+        printer.take(input_for(*number))?;
+    }
+    Ok(printer.into_paper())
+}
+
+/// The outcome that is the paper of printer 4 and nothing else.
+fn outcome_with(alloc: Global, paper: Paper) -> Outcome
+    ensures { result ≡ printed_on paper }
+{
+    Outcome {
+        paper4: paper,
+        paper5: Paper {
+            rows: Sequence::new(alloc),
+            held: Sequence::new(alloc),
+        },
+        statuses: Sequence::new(alloc),
+        stop: None,
+        screen: Sequence::new(alloc),
+        trace: Sequence::new(alloc),
+    }
+}
+
+/// The text of the page of the inputs that numbers mean.
+fn text_of(
+    alloc: Global,
+    numbers: &[u16],
+    format: Format,
+    shapes: &Shapes,
+) -> Result<Vec<u8>, CliFault>
+    requires few { length numbers.now ≤ inputs_limit }
+    ensures { GivesInputsText shapes.now format (map input_of numbers.now) result }
+{
+    let paper = paper_of(alloc, numbers)?;
+    let outcome = outcome_with(alloc, paper);
+    let text = text_in_format(alloc, shapes, outcome, FOUR_ALONE, format)?;
+    Ok(text.into_vec()?)
+}
+
+/// Puts the text of the page that a printer prints of its inputs, as that of printer 4, at the front of a buffer.
+fn print(alloc: Global, inputs: &[u16], format: Format, shapes: &Shapes, out: &mut [u8]) -> Answer
+    ensures hands { HandsInputs shapes.now format inputs.now out.old out.new result }
+    ensures length { length out.new ≡ length out.old }
+{
+    if inputs.len() > INPUTS_LIMIT {
+        return ended(End::Job(CliFault::TooLarge));
+    }
+    if let Some(index) = first_no_input(inputs) {
+        return refused(28, index);
+    }
+    match text_of(alloc, inputs, format, shapes) {
+        Ok(text) => numbered(give(Ok(()), &text, out)),
+        Err(fault) => ended(End::Job(fault)),
+    }
+}
+
+/// Puts the text of the page that a printer prints of its inputs, or of a part of it, at the front of the caller's buffer. The
+/// inputs are numbers: 0 to 255 a byte, 256 the selection of the graphic/upper case set, 257 that of the lower/upper case set;
+/// before the first selection the former is selected. `format`, `device`, `sheet` and `characters` are those of
+/// [`crate::print1525_reprint`], with their refusals.
+///
+/// It is refused for more than 2^32 inputs, exactly; then exactly where a number is above 257, with the index of the first, from
+/// 0, before any memory is taken; where memory was refused; and where the text has more bytes than the buffer has room for, with
+/// their number. The buffer is then as it was.
+#[unsafe(no_mangle)]
+pub extern "C" fn print1525_print(
+    alloc: Global,
+    inputs: &[u16],
+    format: u8,
+    device: u8,
+    sheet: u64,
+    characters: &[u8],
+    out: &mut [u8],
+    answer: &mut Answer,
+)
+    ensures tells { WithShapes characters.now (λ shapes.
+        TellsPrint (shown_of format device sheet) shapes inputs.now out.old out.new answer.new) }
+    ensures length { length out.new ≡ length out.old }
+{
+    let shapes = shapes_for(characters);
+    let Some(format) = shown_for(format, device, sheet) else {
+        *answer = refused(24, 0);
+        return;
+    };
+    *answer = match shapes {
+        Ok(shapes) => print(alloc, inputs, format, &shapes, out),
+        Err(fault) => ended(End::Characters(ShapesFault::Characters(fault))),
+    };
+}
+
+/// A law, with nothing to run: bytes in a character set and inputs that select this set first, with
+/// these bytes after it, have the same pages.
+pub fn bytes_are_inputs()
+    ensures { BytesAreInputs }
+{}

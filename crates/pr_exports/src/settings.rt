@@ -1,0 +1,224 @@
+//! What the numbers and bytes that a caller passes mean.
+
+ghost use Rattle.std.specs.Prelude.{◌≡◌, take};
+ghost use Rattle.pr_options.specs.Found.{found_source};
+ghost use Rattle.pr_exports.specs.Settings.{AsksShapes, IsInput, detail_of, device_of, form_of, format_of, mode_of, presence, rate_of, sheet_of, shown_of, source_of, stop_of, wording_of};
+
+use pr_basic::StatusMode;
+use pr_capture::{Signals, Source, TraceInput};
+use pr_channels::Stop;
+use pr_characters::{CharactersFault, read_shapes};
+use pr_dots::Shapes;
+use pr_listing::ListingForm;
+use pr_options::found_source;
+use pr_recording::Wording;
+use pr_render::{Device, Format, Part};
+use pr_report::{Bounds, Detail};
+use pr_serial::Present;
+
+/// How many bytes of a recording show its format, at most.
+const FIRST: usize = 4096;
+
+/// The bytes that show a recording's format.
+fn first_of(bytes: &[u8]) -> &[u8]
+    ensures { result.now ≡ take 4096 bytes.now }
+{
+    &bytes[..FIRST.min(bytes.len())]
+}
+
+/// The format that they show, or else this one.
+fn found_in(source: Source, bytes: &[u8]) -> Source
+    ensures { result ≡ found_source source (take 4096 bytes.now) }
+{
+    found_source(source, first_of(bytes))
+}
+
+/// The format of a recording: 0 a trace text, 1 a Value Change Dump, 2 a table of comma separated values; 3 the one
+/// that its first bytes show, or else a trace text, 4 the same, or else a table.
+pub fn source_for(number: u8, bytes: &[u8]) -> Option<Source>
+    ensures { result ≡ source_of number bytes.now }
+{
+    match number {
+        0 => Some(Source::Text),
+        1 => Some(Source::Vcd),
+        2 => Some(Source::Csv),
+        3 => Some(found_in(Source::Text, bytes)),
+        4 => Some(found_in(Source::Csv, bytes)),
+        _ => None,
+    }
+}
+
+/// The shapes that a caller asks for: those of a file of characters, or this project's own where it is empty.
+pub fn shapes_for(characters: &[u8]) -> Result<Shapes, CharactersFault>
+    ensures { AsksShapes characters.now result }
+{
+    match characters {
+        [] => Ok(Shapes::own()),
+        [_, ..] => read_shapes(characters),
+    }
+}
+
+/// The BASIC error with a number.
+pub fn stop_for(number: u8) -> Option<Stop>
+    ensures { result ≡ stop_of number }
+{
+    match number {
+        1 => Some(Stop::TooManyFiles),
+        2 => Some(Stop::FileOpen),
+        3 => Some(Stop::FileNotOpen),
+        5 => Some(Stop::DeviceNotPresent),
+        6 => Some(Stop::NotInputFile),
+        _ => None,
+    }
+}
+
+/// The printers that are present; 0 for one that is not.
+pub fn presence(four: u8, five: u8) -> Present
+    ensures { result ≡ presence four five }
+{
+    Present {
+        four: four != 0,
+        five: five != 0,
+    }
+}
+
+/// The form of a listing: 0 the text of a script, 1 a saved program, 2 petcat's text.
+pub fn form_for(form: u8) -> Option<ListingForm>
+    ensures { result ≡ form_of form }
+{
+    match form {
+        0 => Some(ListingForm::Text),
+        1 => Some(ListingForm::Program),
+        2 => Some(ListingForm::Petcat),
+        _ => None,
+    }
+}
+
+/// How the status goes on: cleared before each statement, or kept.
+pub fn mode_for(is_kept: bool) -> StatusMode
+    ensures { result ≡ mode_of is_kept }
+{
+    if is_kept {
+        StatusMode::Kept
+    } else {
+        StatusMode::Each
+    }
+}
+
+/// The format of pages: 0 the page text, 1 lines of 80 columns, 2 an SVG document, 3 a sheet as a PNG file, 4 a PDF
+/// document.
+fn format_for(number: u8) -> Option<Format>
+    ensures { result ≡ format_of number }
+{
+    match number {
+        0 => Some(Format::List),
+        1 => Some(Format::Lines),
+        2 => Some(Format::Svg(Part::whole())),
+        3 => Some(Format::Png(Part::whole())),
+        4 => Some(Format::Pdf(None)),
+        _ => None,
+    }
+}
+
+/// The printer whose pages are shown: 0 all printers, or 4 or 5; `None` for another number.
+fn device_for(number: u8) -> Option<Option<Device>>
+    ensures { result ≡ device_of number }
+{
+    match number {
+        0 => Some(None),
+        4 => Some(Some(Device::Four)),
+        5 => Some(Some(Device::Five)),
+        _ => None,
+    }
+}
+
+/// The sheet that is shown, from 1; 0 for all of them.
+fn sheet_for(number: u64) -> Option<u64>
+    ensures { result ≡ sheet_of number }
+{
+    match number {
+        0 => None,
+        sheet => Some(sheet),
+    }
+}
+
+/// The format of pages and what of them it shows: one printer or all (0), one sheet or all (0). `None` where a number
+/// means no such setting, or the format cannot show this part.
+pub fn shown_for(format: u8, device: u8, sheet: u64) -> Option<Format>
+    ensures { result ≡ shown_of format device sheet }
+{
+    let Some(format) = format_for(format) else {
+        return None;
+    };
+    let Some(device) = device_for(device) else {
+        return None;
+    };
+    format.showing(Part {
+        device,
+        sheet: sheet_for(sheet),
+    })
+}
+
+/// Which intervals of a reading have a line: 0 and 2 none, 1 those outside the profile's bounds, 3 those outside the guide's;
+/// with 2 and 3 the summary and the verdict are by the guide.
+pub fn detail_for(number: u8) -> Option<Detail>
+    ensures { result ≡ detail_of number }
+{
+    let (intervals, bounds) = match number {
+        0 => (false, Bounds::Profile),
+        1 => (true, Bounds::Profile),
+        2 => (false, Bounds::Guide),
+        3 => (true, Bounds::Guide),
+        _ => return None,
+    };
+    Some(Detail { intervals, bounds })
+}
+
+/// How what a recording says is written: 0 to 3 as lines with this detail, 4 as JSON.
+pub fn wording_for(number: u8) -> Option<Wording>
+    ensures { result ≡ wording_of number }
+{
+    if number == 4 {
+        return Some(Wording::Json);
+    }
+    match detail_for(number) {
+        Some(detail) => Some(Wording::Lines(detail)),
+        None => None,
+    }
+}
+
+/// The samples in a second that are said of a table; 0 where none are.
+fn rate_for(number: u64) -> Option<u64>
+    ensures { result ≡ rate_of number }
+{
+    match number {
+        0 => None,
+        rate => Some(rate),
+    }
+}
+
+/// A recording with these names of its signals, of levels as they are or inverted, which starts at this
+/// microsecond and has `rate` samples in a second, or says itself how many (0).
+pub fn input_for<'a>(
+    source: Source,
+    atn: &'a [u8],
+    clock: &'a [u8],
+    line: &'a [u8],
+    is_inverted: bool,
+    start: u64,
+    rate: u64,
+) -> TraceInput<'a>
+    ensures { IsInput source atn.now clock.now line.now is_inverted start rate result }
+{
+    TraceInput {
+        source,
+        signals: Signals {
+            atn,
+            clock,
+            line,
+            is_inverted,
+        },
+        start,
+        rate: rate_for(rate),
+    }
+}

@@ -1,7 +1,0 @@
-use Rattle.std.proofs.Common.{◌≡◌, ◌++◌, drop}
-use Rattle.pr_web.specs.EdgeDelays.{edge_delays, numbers_from}
-use Rattle.pr_web.proofs.delays.delays_of.Given as goal
-
--- the numbers so far, and those of the edges that are left
-abbrev pub invariant-loop-edge : goal.invariant-loop-edge
-invariant-loop-edge l = l.numbers.items ++ numbers_from l.place (drop l.edge-index l.edges) ≡ edge_delays l.edges

@@ -1,9 +1,0 @@
-use Rattle.std.proofs.Common.{◌≡◌, ◌++◌, drop}
-use Rattle.pr_report.specs.Summary.{lengths}
-use Rattle.pr_web.specs.Lengths.{interval_of}
-use Rattle.pr_web.proofs.lengths.Measure.lengths.Given as goal
-
--- the lengths so far, and those of the readings that are left
-abbrev pub invariant-loop-reading : goal.invariant-loop-reading
-invariant-loop-reading l =
-    l.found.items ++ lengths (interval_of l.self) (drop l.reading-index l.readings) ≡ lengths (interval_of l.self) l.readings

@@ -1,5 +1,0 @@
-use Rattle.pr_web.proofs.Middles.{greatest_is_half}
-use Rattle.pr_web.proofs.lengths.push_figures.Goals as goal
-
-pub middle-requires : goal.middle-requires
-middle-requires c = record { all = rw c.greatest-greatest.ensures (greatest_is_half c.args.lengths.now) }

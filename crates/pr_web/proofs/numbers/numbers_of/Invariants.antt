@@ -1,7 +1,0 @@
-use Rattle.std.proofs.Common.{◌≡◌, ◌++◌, drop}
-use Rattle.pr_web.specs.Numbers.{edge_numbers}
-use Rattle.pr_web.proofs.numbers.numbers_of.Given as goal
-
--- the numbers so far, and those of the edges that are left
-abbrev pub invariant-loop-edge : goal.invariant-loop-edge
-invariant-loop-edge l = l.numbers.items ++ edge_numbers (drop l.edge-index l.edges) ≡ edge_numbers l.edges
