@@ -9,3 +9,4 @@ pub mod Asking
 pub mod Taking
 pub mod Counting
 pub mod Deciding
+pub mod Performed
