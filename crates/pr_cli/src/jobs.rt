@@ -1,7 +1,7 @@
 //! A job done over any reader and writer, and the exit statuses.
 
 ghost use Rattle.std.specs.Prelude.{◌≡◌, ◌↔◌, false, true, IfErr, IfSome, IsErrOf, OnOk};
-ghost use Rattle.pr_jobs.specs.Pages.{ReadsToEnd, WritesNothing, start_of};
+ghost use Rattle.pr_jobs.specs.Pages.{AnswersPages, IsPagesFault, ReadsToEnd, WritesNothing, start_of};
 ghost use Rattle.pr_jobs.specs.Report.{IsReportFault, ReadsAll, WritesNoReport};
 ghost use Rattle.pr_input.specs.Watched.{has_failed, is_flushed, wrapped};
 ghost use Rattle.pr_cli.specs.Jobs.{AnswersFrames, AnswersJob, AnswersRecording, AnswersRun, AnswersTrace, IsJobFault, IsPrintFault, IsRecordingFault, KeepsOutput, KeepsTrace, ReadsInput, ReadsRecording, ReadsTrace, found_job, restarted_job};
@@ -174,12 +174,8 @@ fn print_run<R: Read, W: Write>(
     ensures write_failed { IsErrOf result CliFault.WriteFailed ↔ (has_failed output.new ≡ true) }
 {
     match wanted {
-        PagesOutput::Pages(Format::List) => {
-            let ending = pages_over(alloc, input, output, present, delays, mode)?;
-            Ok(Answer::Ended(ending))
-        }
         PagesOutput::Pages(format) => {
-            let ending = pages_as_over(
+            let ending = print_pages(
                 alloc, input, output, present, delays, mode, format, shapes,
             )?;
             Ok(Answer::Ended(ending))
@@ -190,6 +186,40 @@ fn print_run<R: Read, W: Write>(
             )?;
             Ok(Answer::Heard(ending, heard))
         }
+    }
+}
+
+/// Runs a script and writes the pages of its run: a list of marks, which draws no characters, by the call for that alone.
+fn print_pages<R: Read, W: Write>(
+    alloc: Global,
+    input: &mut Watched<R>,
+    output: &mut Watched<W>,
+    present: Present,
+    delays: Delays,
+    mode: StatusMode,
+    format: Format,
+    shapes: &Shapes,
+) -> Result<Ending, CliFault>
+    // the caller's part
+    requires input { has_failed input.old ≡ false }
+    requires output { has_failed output.old ≡ false }
+    // what it gives
+    ensures pages { IfSome (R.remaining (wrapped input.old)) (λ script.
+        AnswersPages shapes.now (start_of present delays mode) format script
+        (W.contents (wrapped output.old)) (W.contents (wrapped output.new)) result) }
+    ensures at_end { ReadsToEnd (R.remaining (wrapped input.new)) result }
+    ensures flushed { OnOk result (is_flushed output.new ≡ true) }
+    // when it refuses, and what that leaves
+    ensures nothing { WritesNothing (W.contents (wrapped output.old)) (W.contents (wrapped output.new)) result }
+    ensures memory { IfErr result (IsPagesFault format) }
+    ensures read_failed { IsErrOf result CliFault.ReadFailed ↔ (has_failed input.new ≡ true) }
+    ensures write_failed { IsErrOf result CliFault.WriteFailed ↔ (has_failed output.new ≡ true) }
+{
+    match format {
+        Format::List => pages_over(alloc, input, output, present, delays, mode),
+        _ => pages_as_over(
+            alloc, input, output, present, delays, mode, format, shapes,
+        ),
     }
 }
 

@@ -1,6 +1,6 @@
 //! The calls of the program's library over readers and writers in memory.
 
-mod calls;
+pub mod calls;
 mod characters;
 mod growths;
 mod limits;

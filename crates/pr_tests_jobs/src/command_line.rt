@@ -3,6 +3,7 @@
 use pr_basic::StatusMode;
 use pr_bus::Delays;
 use pr_capture::Source;
+use pr_cli::read_job;
 use pr_options::{
     DecodeOutput, DelayFault, Job, JobFault, PagesOutput, bad_value, explains, found_source,
     read_delays, read_task,
@@ -26,8 +27,8 @@ fn first_delays(delays: &mut Delays) -> [u16; 3] {
 
 /// The job that words ask for, if they ask for one.
 fn job_of<'a>(alloc: Global, words: &'a [&'a str]) -> Option<Job<'a>> {
-    match read_task(alloc, words) {
-        Ok(task) => Some(task.job),
+    match read_job(alloc, words) {
+        Ok(job) => Some(job),
         Err(_fault) => None,
     }
 }

@@ -11,6 +11,8 @@ mod explanations;
 #[cfg(test)]
 mod files;
 #[cfg(test)]
+mod program;
+#[cfg(test)]
 mod recordings;
 #[cfg(test)]
 mod rows;
