@@ -42,6 +42,7 @@ use Rattle.pr_recording.specs.Pages as reprint
 use Rattle.pr_recording.specs.RunBytes.{AnswersRunBytes}
 use Rattle.pr_cli.specs.declared.jobs.Answer.{Answer}
 use Rattle.pr_cli.specs.declared.jobs.Answer.TheVariants as answer
+use Rattle.pr_cli.specs.Starts.{own_zero}
 use Rattle.pr_cli.specs.Statuses.{job_end, status_of}
 use Rattle.pr_cli.specs.declared.statuses.End.{End}
 use Rattle.pr_cli.specs.declared.statuses.End.TheVariants.{Listing}
@@ -166,27 +167,22 @@ EndsInput shapes job form bytes old new end = EndsListing shapes job form bytes 
 abbrev pub first_bytes : ℕ
 first_bytes = 4096
 
--- a job reads a table
-abbrev pub is_csv : Source → Bool
-is_csv source.Csv = true
-is_csv _ = false
+-- how long after its first moment a job's recording has its own moment 0, if the job reads one
+abbrev pub zero_of_job : Job → (recording : List ℕ) → ℕ
+zero_of_job (Check input output) recording = own_zero input recording
+zero_of_job (Decode is_found input output) recording = own_zero input recording
+zero_of_job _ recording = 0
 
-abbrev pub reads_table : Job → Bool
-reads_table (Check input output) = is_csv input.source
-reads_table (Decode is_found input output) = is_csv input.source
-reads_table _ = false
-
--- a job starts where it says, or so long before its recording's own moment 0, which only a table has later than at its first moment
-abbrev pub IsStarted : (before : Option ℕ) → (job started : Job) → Type 0
-IsStarted None job started = started ≡ job
-IsStarted (Some before) job started =
-    (zero : ℕ) × (reads_table job ≡ false → zero ≡ 0) × (started ≡ restarted_job (zero - before) job)
+-- a job that starts where it says, or so long before its recording's own moment 0, but not before the first moment
+abbrev pub started_job : (before : Option ℕ) → (recording : List ℕ) → Job → Job
+started_job None recording job = job
+started_job (Some before) recording job = restarted_job (zero_of_job job recording - before) job
 
 -- how it ends a job on a recording's bytes in the format that the first of them show, where the job has to find it, and from its
 -- start; or it does not get so far, and writes nothing
 abbrev pub EndsRecording : Shapes → (before : Option ℕ) → Job → List ℕ → Option (List ℕ) → Option (List ℕ) → End → Type 0
 EndsRecording shapes before job bytes old new end =
-    ((started : Job) × IsStarted before (found_job (take first_bytes bytes) job) started × EndsJob shapes started bytes old new end)
+    EndsJob shapes (started_job before bytes (found_job (take first_bytes bytes) job)) bytes old new end
     ⊎ ((status_of end ≡ 3) × (new ≡ old))
 
 -- the same where only its format may have to be found; every other job is ended as its input asks for

@@ -4,7 +4,7 @@ ghost use Rattle.std.specs.Prelude.{◌≡◌, None, take, IfErr, IfOk, IfSome};
 ghost use Rattle.std.specs.Io.KnownBytes.{Consumes};
 ghost use Rattle.pr_input.specs.Watched.{wrapped};
 ghost use Rattle.pr_cli.specs.Answered.{EndsTask};
-ghost use Rattle.pr_cli.specs.Jobs.{EndsJob, EndsListing, EndsRecording, EndsWork, IsStarted, finds_format, first_bytes, form_of, found_job};
+ghost use Rattle.pr_cli.specs.Jobs.{EndsJob, EndsListing, EndsRecording, EndsWork, finds_format, first_bytes, form_of, found_job, started_job};
 ghost use Rattle.pr_cli.specs.Statuses.{answer_end, fault_status, job_end, status_of};
 ghost use Rattle.pr_cli.specs.declared.statuses.End.TheVariants as end;
 
@@ -296,7 +296,7 @@ fn found_work<'a, R: Read>(
 ) -> Result<(Work<'a>, Vec<u8>), CliFault>
     ensures taken { IfOk result (λ found. Consumes (R.remaining (wrapped input.old)) (R.remaining (wrapped input.new)) found.1.items) }
     ensures work { IfOk result (λ found. IfSome (R.remaining (wrapped input.old)) (λ bytes.
-        IsStarted work.entry.before (found_job (take first_bytes bytes) work.entry.job) found.0.job)) }
+        found.0.job ≡ started_job work.entry.before bytes (found_job (take first_bytes bytes) work.entry.job))) }
     ensures shapes { IfOk result (λ found. found.0.shapes ≡ work.entry.shapes) }
     ensures refused { IfErr result (λ fault. fault_status fault ≡ 3) }
 {
@@ -307,10 +307,7 @@ fn found_work<'a, R: Read>(
     } = work;
     let mut first = read_first(alloc, input)?;
     let job = found_job(job, first.as_slice());
-    let job = match before {
-        Some(before) => started_job(alloc, job, input, &mut first, before)?,
-        None => job,
-    };
+    let job = started_job(alloc, job, input, &mut first, before)?;
     let work = Work {
         job,
         before: None,

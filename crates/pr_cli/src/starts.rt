@@ -1,20 +1,28 @@
 //! Where a trace starts that starts before its recording's own moment 0.
 
-ghost use Rattle.std.specs.Prelude.{◌≡◌, ◌+◌, ◌^◌, ◌<◌, ◌≤◌, Some, false, IfErr, IfOk, IfSome, length};
-ghost use Rattle.pr_capture.specs.CsvSteps.{line_number};
+ghost use Rattle.std.specs.Prelude.{◌≡◌, ◌≢◌, ◌+◌, ◌^◌, ◌<◌, ◌≤◌, ◌++◌, ◌∷◌, [], None, Some, drop, false, true, IfErr, IfOk, IfSome, OnOk, length};
+ghost use Rattle.std.specs.Io.KnownBytes.{IsAtEnd};
+ghost use Rattle.std.specs.List.{prefix_len};
+ghost use Rattle.pr_capture.specs.Csv.{is_separator};
+ghost use Rattle.pr_capture.specs.CsvSteps.{is_inner, line_number};
+ghost use Rattle.pr_capture.specs.Samples.{listed};
+ghost use Rattle.pr_capture.specs.declared.fault.CaptureFault.TheVariants.{NoMemory};
 ghost use Rattle.pr_input.specs.Watched.{wrapped};
-ghost use Rattle.pr_cli.specs.Jobs.{IsStarted, is_csv};
+ghost use Rattle.pr_cli.specs.Jobs.{started_job, zero_of_job};
 ghost use Rattle.pr_cli.specs.Reading.{ReadsMore};
+ghost use Rattle.pr_cli.specs.Starts.{after_time, at_zero, is_csv, is_instant, own_zero, same_time, samples_in, table_zero, with_line, with_zeros, zero_by};
+ghost use Rattle.pr_cli.specs.StartSteps.{EndsLine, FindsSample, GoesOn, ShowsZero};
 ghost use Rattle.pr_cli.specs.Statuses.{fault_status};
 
 use crate::jobs::restarted_job;
 use pr_capture::{CaptureFault, CsvReader, Source, TraceInput};
 use pr_jobs::{BLOCK, CliFault, Watched};
 use pr_options::Job;
+use pr_wire::Edge;
 use std::alloc::{AllocError, Global};
 use std::io::Read;
 
-/// A job whose trace starts so long before its recording's own moment 0: the start that a job has counts from the
+/// A job whose trace starts so long before its recording's own moment 0, if it is to: the start that a job has counts from the
 /// recording's first moment. The first bytes of the input have been read already; where a table's first row does not
 /// end in them, more are read after them, until it does. Of a job that reads no recording nothing changes.
 ///
@@ -26,58 +34,54 @@ pub fn started_job<'a, R: Read>(
     job: Job<'a>,
     input: &mut Watched<R>,
     first: &mut Vec<u8>,
-    before: u64,
+    before: Option<u64>,
 ) -> Result<Job<'a>, CliFault>
-    ensures started { IfOk result (IsStarted (Some before) job.entry) }
+    ensures started { IfOk result (λ started. IfSome (R.remaining (wrapped input.old)) (λ left. started ≡ started_job before (first.old.items ++ left) job.entry)) }
     ensures more { IfOk result (λ _. ReadsMore first.old.items first.new.items (R.remaining (wrapped input.old)) (R.remaining (wrapped input.new))) }
     ensures refused { IfErr result (λ fault. fault_status fault ≡ 3) }
 {
-    let zero = match &job {
-        Job::Check(trace, _) | Job::Decode { input: trace, .. } => {
-            zero_of(alloc, *trace, input, first)?
-        }
-        Job::Pages(..) | Job::Bus(..) | Job::Raw { .. } => 0,
+    let Some(before) = before else {
+        return Ok(job);
     };
+    let zero = zero_of_job(alloc, &job, input, first)?;
     Ok(restarted_job(job, zero.saturating_sub(before)))
 }
 
-/// How long after its first moment a recording's own moment 0 is, in microseconds: 0 where it does not begin before
-/// that, as dumps never do, and where it has no sample.
-fn zero_of<R: Read>(
+/// How long after its first moment a job's recording has its own moment 0, in microseconds; 0 if the job reads none.
+fn zero_of_job<R: Read>(
+    alloc: Global,
+    job: &Job<'_>,
+    input: &mut Watched<R>,
+    first: &mut Vec<u8>,
+) -> Result<u64, CliFault>
+    ensures zero { IfOk result (λ zero. IfSome (R.remaining (wrapped input.old)) (λ left. zero ≡ zero_of_job job.now (first.old.items ++ left))) }
+    ensures more { IfOk result (λ _. ReadsMore first.old.items first.new.items (R.remaining (wrapped input.old)) (R.remaining (wrapped input.new))) }
+    ensures refused { IfErr result (λ fault. fault_status fault ≡ 3) }
+{
+    match job {
+        Job::Check(trace, _) | Job::Decode { input: trace, .. } => {
+            own_zero(alloc, *trace, input, first)
+        }
+        Job::Pages(..) | Job::Bus(..) | Job::Raw { .. } => Ok(0),
+    }
+}
+
+/// A recording's own moment 0, in microseconds after its first moment: 0 where it does not begin before that, as dumps never
+/// do, and where it has no sample.
+fn own_zero<R: Read>(
     alloc: Global,
     trace: TraceInput<'_>,
     input: &mut Watched<R>,
     first: &mut Vec<u8>,
 ) -> Result<u64, CliFault>
-    ensures first { IfOk result (λ zero. is_csv trace.entry.source ≡ false → zero ≡ 0) }
+    ensures zero { IfOk result (λ zero. IfSome (R.remaining (wrapped input.old)) (λ left. zero ≡ own_zero trace.entry (first.old.items ++ left))) }
     ensures more { IfOk result (λ _. ReadsMore first.old.items first.new.items (R.remaining (wrapped input.old)) (R.remaining (wrapped input.new))) }
     ensures refused { IfErr result (λ fault. fault_status fault ≡ 3) }
 {
-    if !is_csv(trace.source) {
-        return Ok(0);
-    }
-    let mut reader = CsvReader::new(alloc, trace.signals, trace.rate);
-    let mut taken = 0;
-    'blocks: for _ in 0..usize::MAX {
-        let bytes = first.as_slice();
-        match row_end(&mut reader, &bytes[taken..]) {
-            Ok(Some(len)) => return Ok(zero_behind(
-                alloc,
-                reader,
-                last_line(&bytes[..taken + len]),
-            )?),
-            Ok(None) => taken = bytes.len(),
-            Err(CaptureFault::NoMemory) => return Err(CliFault::NoMemory),
-            Err(_) => return Ok(0),
-        }
-        if !read_more(input, first)? {
-            break;
-        }
-    }
-    // The last line may lack its end.
-    match time_of(&mut reader, b"\n")? {
-        Some(_) => Ok(zero_behind(alloc, reader, last_line(first.as_slice()))?),
-        None => Ok(0),
+    if is_csv(trace.source) {
+        table_zero(alloc, trace, input, first)
+    } else {
+        Ok(0)
     }
 }
 
@@ -88,9 +92,82 @@ fn is_csv(source: Source) -> bool
     matches!(source, Source::Csv)
 }
 
+/// The same of a table.
+fn table_zero<R: Read>(
+    alloc: Global,
+    trace: TraceInput<'_>,
+    input: &mut Watched<R>,
+    first: &mut Vec<u8>,
+) -> Result<u64, CliFault>
+    ensures zero { IfOk result (λ zero. IfSome (R.remaining (wrapped input.old)) (λ left. zero ≡ table_zero trace.entry (first.old.items ++ left))) }
+    ensures more { IfOk result (λ _. ReadsMore first.old.items first.new.items (R.remaining (wrapped input.old)) (R.remaining (wrapped input.new))) }
+    ensures refused { IfErr result (λ fault. fault_status fault ≡ 3) }
+{
+    let mut reader = CsvReader::new(alloc, trace.signals, trace.rate);
+    let mut taken = 0;
+    'lines: while let Some(len) = line_len(input, first, taken)? {
+        let (front, rest) = first.as_slice().split_at(taken);
+        if let Some(zero) = zero_shown(alloc, trace, &mut reader, front, &rest[..len])? {
+            return Ok(zero);
+        }
+        taken += len + 1;
+    }
+    let (front, last) = first.as_slice().split_at(taken);
+    if last.is_empty() {
+        return Ok(0);
+    }
+    // The last line may lack its end.
+    match zero_shown(alloc, trace, &mut reader, front, last)? {
+        Some(zero) => Ok(zero),
+        None => Ok(0),
+    }
+}
+
+/// How many bytes the line has that begins at a place, without its end. Where it does not end in the bytes so far, more are
+/// read. None where it does not end at all.
+fn line_len<R: Read>(
+    input: &mut Watched<R>,
+    first: &mut Vec<u8>,
+    from: usize,
+) -> Result<Option<usize>, CliFault>
+    requires within { from ≤ length first.old.items }
+    ensures line { IfOk result (λ len. EndsLine (drop from first.new.items) (R.remaining (wrapped input.new)) len) }
+    ensures more { IfOk result (λ _. ReadsMore first.old.items first.new.items (R.remaining (wrapped input.old)) (R.remaining (wrapped input.new))) }
+    ensures on { IfOk result (λ _. GoesOn first.old.items first.new.items) }
+    ensures refused { IfErr result (λ fault. fault_status fault ≡ 3) }
+{
+    let mut seen = from;
+    'blocks: loop {
+        if let Some(len) = first_len(&first.as_slice()[seen..]) {
+            return Ok(Some(seen - from + len));
+        }
+        seen = first.len();
+        if !read_more(input, first)? {
+            return Ok(None);
+        }
+    }
+}
+
+/// Where the first line of some bytes ends, if it ends in them.
+fn first_len(bytes: &[u8]) -> Option<usize>
+    ensures len { IfSome result (λ len. len ≡ prefix_len is_inner bytes.now) }
+    ensures within { IfSome result (λ len. len < length bytes.now) }
+    ensures none { result ≡ None → prefix_len is_inner bytes.now ≡ length bytes.now }
+{
+    for (i, b) in bytes.iter().enumerate() {
+        if *b == b'\n' {
+            return Some(i);
+        }
+    }
+    None
+}
+
 /// Reads a block more of an input, and adds it. Gives whether there was more.
 fn read_more<R: Read>(input: &mut Watched<R>, first: &mut Vec<u8>) -> Result<bool, CliFault>
-    ensures longer { IfOk result (λ _. length first.old.items ≤ length first.new.items) }
+    ensures on { IfOk result (λ _. GoesOn first.old.items first.new.items) }
+    ensures longer { IfOk result (λ is_more. is_more ≡ true → length first.old.items < length first.new.items) }
+    ensures end { IfOk result (λ is_more. is_more ≡ false → IsAtEnd (R.remaining (wrapped input.new))) }
+    ensures same { IfOk result (λ is_more. is_more ≡ false → first.new.items ≡ first.old.items) }
     ensures more { IfOk result (λ _. ReadsMore first.old.items first.new.items (R.remaining (wrapped input.old)) (R.remaining (wrapped input.new))) }
     ensures refused { IfErr result (λ fault. fault_status fault ≡ 3) }
 {
@@ -104,84 +181,185 @@ fn read_more<R: Read>(input: &mut Watched<R>, first: &mut Vec<u8>) -> Result<boo
     Ok(n > 0)
 }
 
-/// Takes bytes up to the end of a table's first row, and gives how many; None where it takes all of them.
-fn row_end(reader: &mut CsvReader<'_>, bytes: &[u8]) -> Result<Option<usize>, CaptureFault>
+/// A table's moment 0, where this line after its front is its first row or has its first fault; None where it is neither.
+fn zero_shown(
+    alloc: Global,
+    trace: TraceInput<'_>,
+    reader: &mut CsvReader<'_>,
+    front: &[u8],
+    line: &[u8],
+) -> Result<Option<u64>, AllocError>
+    requires few { line_number reader.old + length line.now + 1 < 2 ^ 64 }
+    ensures zero { IfOk result (λ zero. ShowsZero trace.entry front.now line.now zero reader.old reader.new) }
+    ensures number { IfOk result (λ zero. zero ≡ None → line_number reader.new ≤ line_number reader.old + length line.now + 1) }
+{
+    match has_sample(reader, line) {
+        Ok(true) => Ok(Some(zero_behind(alloc, trace, front, line)?)),
+        Ok(false) => Ok(None),
+        Err(fault) => {
+            check_memory(fault)?;
+            Ok(Some(0))
+        }
+    }
+}
+
+/// Refuses to go on where memory was refused; any other fault is the table's own.
+fn check_memory(fault: CaptureFault) -> Result<(), AllocError>
+    ensures { OnOk result (fault ≢ NoMemory) }
+{
+    match fault {
+        CaptureFault::NoMemory => Err(AllocError),
+        _ => Ok(()),
+    }
+}
+
+/// Takes a line of a table, and gives whether it has a sample.
+fn has_sample(reader: &mut CsvReader<'_>, line: &[u8]) -> Result<bool, CaptureFault>
+    requires few { line_number reader.old + length line.now + 1 < 2 ^ 64 }
+    ensures found { FindsSample (line.now ++ 10 ∷ []) result reader.old reader.new }
+    ensures number { IfOk result (λ _. line_number reader.new ≤ line_number reader.old + length line.now + 1) }
+{
+    if find_sample(reader, line)? {
+        return Ok(true);
+    }
+    find_sample(reader, b"\n")
+}
+
+/// Takes bytes of a table up to a sample, and gives whether there was one.
+fn find_sample(reader: &mut CsvReader<'_>, bytes: &[u8]) -> Result<bool, CaptureFault>
     requires few { line_number reader.old + length bytes.now < 2 ^ 64 }
+    ensures found { FindsSample bytes.now result reader.old reader.new }
     ensures number { IfOk result (λ _. line_number reader.new ≤ line_number reader.old + length bytes.now) }
-    ensures within { IfOk result (λ end. IfSome end (λ len. len ≤ length bytes.now)) }
 {
     let mut rest = bytes;
     while !rest.is_empty() {
-        match reader.take_front(rest)? {
-            (len, None) => rest = &rest[len..],
-            (len, Some(_)) => return Ok(Some(bytes.len() - rest.len() + len)),
+        let (len, sample) = reader.take_front(rest)?;
+        if sample.is_some() {
+            return Ok(true);
+        }
+        rest = &rest[len..];
+    }
+    Ok(false)
+}
+
+/// The moment 0 of a table whose first row this is, after its front: the time of the same row with 0 for its time.
+/// In a table without times a second such row is later. Dates have no moment 0 but the first.
+fn zero_behind(
+    alloc: Global,
+    trace: TraceInput<'_>,
+    front: &[u8],
+    row: &[u8],
+) -> Result<u64, AllocError>
+    ensures { IfOk result (λ zero. zero ≡ zero_by row.now (samples_in trace.entry (with_zeros front.now row.now))) }
+{
+    if is_instant(row) {
+        return Ok(0);
+    }
+    let mut table = Vec::new(alloc);
+    table.extend_from_slice(front)?;
+    push_line(&mut table, row)?;
+    push_at_zero(&mut table, row)?;
+    push_at_zero(&mut table, row)?;
+    let samples = samples_in(alloc, trace, table.as_slice())?;
+    Ok(same_time(samples.as_slice()))
+}
+
+/// Adds a line to a text.
+fn push_line(text: &mut Vec<u8>, line: &[u8]) -> Result<(), AllocError>
+    ensures { IfOk result (λ _. text.new.items ≡ with_line text.old.items line.now) }
+{
+    text.extend_from_slice(line)?;
+    text.push(b'\n')?;
+    Ok(())
+}
+
+/// Adds a row with 0 for its time.
+fn push_at_zero(text: &mut Vec<u8>, row: &[u8]) -> Result<(), AllocError>
+    ensures { IfOk result (λ _. text.new.items ≡ with_line text.old.items (at_zero row.now)) }
+{
+    text.push(b'0')?;
+    push_line(text, after_time(row))
+}
+
+/// A row from the first comma, semicolon or tab on.
+fn after_time(row: &[u8]) -> &[u8]
+    ensures { result.now ≡ after_time row.now }
+{
+    for (i, b) in row.iter().enumerate() {
+        if is_separator(*b) {
+            return &row[i..];
         }
     }
-    Ok(None)
+    &[]
 }
 
-/// The last line of a text, with its end if it has one.
-fn last_line(text: &[u8]) -> &[u8] {
-    let inner = text.len().saturating_sub(1);
-    match text[..inner].iter().rposition(|b| *b == b'\n') {
-        Some(i) => &text[i + 1..],
-        None => text,
-    }
-}
-
-/// The same after a table's first row. Since times count from that row's, it is the time of a row with 0 in that place; in a
-/// table without times a row more is later. Instants have no moment 0 but the first.
-fn zero_behind(alloc: Global, mut reader: CsvReader<'_>, row: &[u8]) -> Result<u64, AllocError>
-    requires few { line_number reader + 2 < 2 ^ 64 }
+/// Whether a row's time has a colon, as 2024-06-21T14:28:30.5Z. Later fields do not count.
+fn is_instant(row: &[u8]) -> bool
+    ensures { result ≡ is_instant row.now }
 {
-    if has_instant(row) {
-        return Ok(0);
+    for b in row {
+        if is_separator(*b) {
+            return false;
+        }
+        if *b == b':' {
+            return true;
+        }
     }
-    let row = with_zero(alloc, row)?;
-    let Some(time) = time_of(&mut reader, row.as_slice())? else {
-        return Ok(0);
-    };
-    match time_of(&mut reader, row.as_slice())? {
-        Some(next) if next == time => Ok(time),
-        _ => Ok(0),
-    }
+    false
 }
 
-/// How many bytes a row's first field has.
-fn first_len(row: &[u8]) -> usize
-    ensures within { result ≤ length row.now }
+/// Whether a byte can separate fields.
+fn is_separator(b: u8) -> bool
+    ensures { result ≡ is_separator b }
 {
-    match row.iter().position(|b| matches!(*b, b',' | b';' | b'\t')) {
-        Some(len) => len,
-        None => row.len(),
-    }
+    matches!(b, b',' | b';' | b'\t')
 }
 
-/// Whether a row has an instant of a day, as 2024-06-21T14:28:30.5Z, for its time. Later fields do not count.
-fn has_instant(row: &[u8]) -> bool {
-    row[..first_len(row)].contains(&b':')
-}
-
-/// A row with 0 for its time.
-fn with_zero(alloc: Global, row: &[u8]) -> Result<Vec<u8>, AllocError> {
-    let mut made = Vec::new(alloc);
-    made.push(b'0')?;
-    made.extend_from_slice(&row[first_len(row)..])?;
-    Ok(made)
-}
-
-/// The time of a row, if it has a sample.
-fn time_of(reader: &mut CsvReader<'_>, row: &[u8]) -> Result<Option<u64>, AllocError>
-    requires few { line_number reader.old + 1 < 2 ^ 64 }
-    ensures number { IfOk result (λ time. IfSome time (λ _. line_number reader.new ≤ line_number reader.old + 1)) }
+/// The time of the second and the third of three samples, if they have the same, or else 0.
+fn same_time(samples: &[Edge]) -> u64
+    ensures { result ≡ same_time samples.now }
 {
-    if row.is_empty() {
-        return Ok(None);
+    match samples {
+        [_, second, third] if second.time == third.time => second.time,
+        _ => 0,
     }
-    match reader.take_front(row) {
-        Ok((_, Some(sample))) => Ok(Some(sample.time)),
-        Ok((_, None)) => Ok(None),
-        Err(CaptureFault::NoMemory) => Err(AllocError),
-        Err(_) => Ok(None),
+}
+
+/// The samples of a table, up to its first fault.
+fn samples_in(alloc: Global, trace: TraceInput<'_>, table: &[u8]) -> Result<Vec<Edge>, AllocError>
+    requires few { length table.now + 2 < 2 ^ 64 }
+    ensures { IfOk result (λ samples. samples.items ≡ samples_in trace.entry table.now) }
+{
+    let mut reader = CsvReader::new(alloc, trace.signals, trace.rate);
+    let mut samples = Vec::new(alloc);
+    let mut rest = table;
+    while !rest.is_empty() {
+        match reader.take_front(rest) {
+            Ok((len, sample)) => {
+                push_sample(&mut samples, sample)?;
+                rest = &rest[len..];
+            }
+            Err(fault) => {
+                check_memory(fault)?;
+                return Ok(samples);
+            }
+        }
     }
+    match reader.finish() {
+        Ok(sample) => {
+            push_sample(&mut samples, sample)?;
+            Ok(samples)
+        }
+        Err(_) => Ok(samples),
+    }
+}
+
+/// Adds a sample, if there is one.
+fn push_sample(samples: &mut Vec<Edge>, sample: Option<Edge>) -> Result<(), AllocError>
+    ensures { IfOk result (λ _. samples.new.items ≡ samples.old.items ++ listed sample) }
+{
+    if let Some(sample) = sample {
+        samples.push(sample)?;
+    }
+    Ok(())
 }

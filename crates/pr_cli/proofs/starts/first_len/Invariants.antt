@@ -1,0 +1,8 @@
+use Rattle.std.proofs.Common.{◌≡◌, ◌+◌, drop}
+use Rattle.std.specs.List.{prefix_len}
+use Rattle.pr_capture.specs.CsvSteps.{is_inner}
+use Rattle.pr_cli.proofs.starts.first_len.Given as goal
+
+-- no line ends in what was passed
+abbrev pub invariant-loop-i : goal.invariant-loop-i
+invariant-loop-i l = prefix_len is_inner l.bytes ≡ l.i + prefix_len is_inner (drop l.i l.bytes)
