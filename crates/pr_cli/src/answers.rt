@@ -409,14 +409,26 @@ fn answer_over<R: Read + Drop, W: Write + Drop>(
     let input = input.into_inner();
     let output = output.into_inner();
     let end = tell_end(rt, subject, names, answer, input.error(), output.error());
+    tell_read(rt, input.into_inner(), subject, names, answer, aside);
+    (end, output.into_inner())
+}
+
+/// Says what more there is to say of what a job has read, where that is asked for.
+fn tell_read<R: Read + Drop>(
+    rt: &(impl Outside + Eprint + AllocGlobal),
+    kept: TeeReader<R>,
+    subject: Subject<'_>,
+    names: Names<'_>,
+    answer: Result<Answer, CliFault>,
+    aside: Aside<'_>,
+) {
     let bytes = match names.input {
         Some(name) if aside.is_file => rt.again(name, aside.count.get()),
-        _ => input.into_inner().into_bytes(),
+        _ => kept.into_bytes(),
     };
     if let Some(bytes) = bytes {
         tell_more(rt, bytes.as_slice(), subject, ending_of(answer));
     }
-    (end, output.into_inner())
 }
 
 /// How a job ended, or its fault.
