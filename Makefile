@@ -13,7 +13,9 @@
 # make web-test     tests that page in Chromium, Firefox and WebKitGTK beside the built program, and print1525.mjs in Node
 # make install      copies the built program, the library for C with its header and what pkg-config needs, the manual page and the
 #                   completions of bash, zsh and fish to $(DESTDIR)$(PREFIX), where PREFIX is /usr/local unless it is given
-# make manual       makes the manual page and the completions anew from the program's help; make test says if they differ from it
+# make docs         makes anew what is made of sources without a proof: docs/TRUST.md, docs/WRONG_BODIES.md, tests/names.txt, the faults
+#                   of include/faults.txt in the header and the wrappers, and what make manual makes; make test says if they differ
+# make manual       makes the manual page and the completions anew from the program's help
 # make dist         packs all that make install copies, the page in the browser, examples, cases and documents as
 #                   out/print1525-VERSION-x86_64-linux.tar.gz with its SHA-256: of one commit always the same bytes
 
@@ -40,7 +42,7 @@ PARTS := $(foreach crate,$(PART_CRATES),crates/$(crate)/out/lib$(crate).a)
 # What the program and the tests are built from.
 SOURCES := crates.txt $(shell find crates -path '*/out' -prune -o \( -name '*.rt' -o -name '*.antt' \) -print)
 
-.PHONY: run try build test outside cases edits bench peer lib web web-test install manual dist
+.PHONY: run try build test outside cases edits bench peer lib web web-test install docs manual dist
 
 run: build
 	@$(PROGRAM) pages < examples/hello.bas
@@ -146,6 +148,13 @@ install: build lib
 	sed -e 's|@PREFIX@|$(PREFIX)|' -e 's|@VERSION@|$(LIBRARY_VERSION)|' include/print1525.pc.in > $(DESTDIR)$(PREFIX)/lib/pkgconfig/print1525.pc
 	chmod 644 $(DESTDIR)$(PREFIX)/lib/pkgconfig/print1525.pc
 	@[ -n "$(DESTDIR)" ] || ldconfig 2> /dev/null || echo 'Run ldconfig, or set LD_LIBRARY_PATH, for the shared library.'
+
+docs: manual
+	@tools/faults
+	@mkdir -p out
+	@tools/trust > out/made && cp out/made docs/TRUST.md
+	@tools/edits --named > out/made && cp out/made docs/WRONG_BODIES.md
+	@tools/calls --names > out/made && cp out/made tests/names.txt
 
 manual:
 	@tools/manual

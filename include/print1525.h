@@ -31,8 +31,8 @@
  * wraps the calls for C++17; examples/ has wrappers for Python and Rust.
  *
  * The calls are proved: each gives exactly what its definition says (docs/C.md says where the definitions are); of an
- * explanation only its place is. Not proved is the last part of this file: the functions that unpack settings, refuse
- * pointers and call them.
+ * explanation only its place is. Not proved is the last part of this file: the functions that unpack settings or say
+ * them as words of a command line, refuse pointers and call them.
  *
  * ANSWERS. A call returns an exit status of the program print1525 (enum print1525_status), and writes all of its
  * details, unless they are NULL. A text is at the front of the buffer, without a zero byte after it; the rest of the
@@ -317,7 +317,8 @@ typedef struct {
  * Reads: a script of at most 16,777,216 bytes; present, mode, from, page, printer, sheet, the delays (which change no
  * page) and characters.
  * Gives: the text that `print1525 pages` writes. Status 1 comes with the BASIC error that stopped the run; what was
- * printed until then is in the text. A script that stopped runs twice, the second time to find the error.
+ * printed until then is in the text. A script that stopped runs three times: once more to find the error, and once
+ * more to write the text.
  * Refuses: present (22), mode (23) and page with printer and sheet (24), in this order: SVG and PNG show any part of
  * the pages, PDF one printer, and the others all of them; characters, by their first bad line (52); from (60) and a
  * listing, as print1525_listing; a script above the limit (9), or by its first fault (1 to 7); after the run a sheet
@@ -755,81 +756,80 @@ PRINT1525_OWN_SIZE(print1525_region, 32);
 #undef PRINT1525_OWN_SIZE
 
 /* The proved calls, as the library names them (tools/archive). Each slice is a pointer, which is not NULL, and a
- * length; what is written overlaps nothing else. */
+ * length; what is written overlaps nothing else.
+ *
+ * The program as a function: words with a byte 0 between each two in, and what it writes and says out. */
+typedef struct {
+    size_t status; /* the program's exit status: above `most` the buffers stay as they were; 4: one is too small */
+    size_t fault;  /* one of enum print1525_fault, or 54: the words ask for nothing; 0 with statuses 0 and 1 */
+    size_t place, column;
+    size_t output, messages; /* how many bytes they have */
+} print1525_plain_end;
+
+void print1525_plain_answer(const uint8_t *words, size_t words_length, uint8_t explained, uint8_t most,
+                            const uint8_t *input, size_t input_length, const uint8_t *characters,
+                            size_t characters_length, uint8_t *output, size_t capacity, uint8_t *messages,
+                            size_t messages_capacity, print1525_plain_end *end);
+
+/* What a call with numbers answers. */
 typedef struct {
     size_t code;   /* 0 done, 1 stopped, 2 refused, 3 out of memory, 4 the buffer is too small */
-    size_t fault;  /* of code 1 the number of the BASIC error, of code 2 one of enum print1525_fault */
+    size_t fault;  /* of codes 1 and 2 one of enum print1525_fault */
     size_t place;
     size_t length; /* with the faults 63 and 64 the column */
-} print1525_plain_answer;
+} print1525_plain_numbers;
 
-void print1525_plain_pages_part(const uint8_t *script, size_t script_length, uint8_t printers, uint8_t status,
-                                const uint16_t *computer, size_t computer_length, const uint16_t *four,
-                                size_t four_length, const uint16_t *five, size_t five_length, uint8_t format,
-                                uint8_t device, uint64_t sheet, const uint8_t *characters, size_t characters_length,
-                                uint8_t *buffer, size_t capacity, print1525_plain_answer *answer);
-void print1525_plain_bus(const uint8_t *script, size_t script_length, uint8_t printers, uint8_t status,
-                         const uint16_t *computer, size_t computer_length, const uint16_t *four, size_t four_length,
-                         const uint16_t *five, size_t five_length, uint8_t format, uint8_t *buffer, size_t capacity,
-                         print1525_plain_answer *answer);
+void print1525_plain_stop(const uint8_t *script, size_t script_length, uint8_t four, uint8_t five, uint8_t kept,
+                          print1525_plain_numbers *answer);
 void print1525_plain_listing(const uint8_t *bytes, size_t bytes_length, uint8_t form, uint8_t *buffer, size_t capacity,
-                             print1525_plain_answer *answer);
-void print1525_plain_raw_part(const uint8_t *bytes, size_t bytes_length, uint8_t set, uint8_t format, uint8_t device,
-                              uint64_t sheet, const uint8_t *characters, size_t characters_length, uint8_t *buffer,
-                              size_t capacity, print1525_plain_answer *answer);
-void print1525_plain_print_part(const uint16_t *inputs, size_t inputs_length, uint8_t format, uint8_t device,
-                                uint64_t sheet, const uint8_t *characters, size_t characters_length, uint8_t *buffer,
-                                size_t capacity, print1525_plain_answer *answer);
-void print1525_plain_check(const uint8_t *text, size_t text_length, uint8_t *buffer, size_t capacity,
-                           print1525_plain_answer *answer);
-void print1525_plain_report(const uint8_t *bytes, size_t bytes_length, uint8_t source, const uint8_t *atn,
-                            size_t atn_length, const uint8_t *clock, size_t clock_length, const uint8_t *line,
-                            size_t line_length, uint8_t inverted, uint64_t start, uint64_t rate, uint8_t story,
-                            uint8_t *buffer, size_t capacity, print1525_plain_answer *answer);
+                             print1525_plain_numbers *answer);
+void print1525_plain_print(const uint16_t *inputs, size_t inputs_length, uint8_t format, uint8_t device,
+                           uint64_t sheet, const uint8_t *characters, size_t characters_length, uint8_t *buffer,
+                           size_t capacity, print1525_plain_numbers *answer);
+void print1525_plain_check(const uint8_t *bytes, size_t bytes_length, uint8_t source, const uint8_t *atn,
+                           size_t atn_length, const uint8_t *clock, size_t clock_length, const uint8_t *line,
+                           size_t line_length, uint8_t inverted, uint64_t start, uint64_t rate, uint8_t words,
+                           uint8_t *buffer, size_t capacity, print1525_plain_numbers *answer);
 void print1525_plain_readings(const uint8_t *bytes, size_t bytes_length, uint8_t source, const uint8_t *atn,
                               size_t atn_length, const uint8_t *clock, size_t clock_length, const uint8_t *line,
                               size_t line_length, uint8_t inverted, uint64_t start, uint64_t rate, uint8_t wording,
-                              uint8_t *buffer, size_t capacity, print1525_plain_answer *answer);
+                              uint8_t *buffer, size_t capacity, print1525_plain_numbers *answer);
 void print1525_plain_reprint(const uint8_t *bytes, size_t bytes_length, uint8_t source, const uint8_t *atn,
                              size_t atn_length, const uint8_t *clock, size_t clock_length, const uint8_t *line,
                              size_t line_length, uint8_t inverted, uint64_t start, uint64_t rate, uint8_t format,
                              uint8_t device, uint64_t sheet, const uint8_t *characters, size_t characters_length,
-                             uint8_t *buffer, size_t capacity, print1525_plain_answer *answer);
-void print1525_plain_check_json(const uint8_t *bytes, size_t bytes_length, uint8_t source, const uint8_t *atn,
-                                size_t atn_length, const uint8_t *clock, size_t clock_length, const uint8_t *line,
-                                size_t line_length, uint8_t inverted, uint64_t start, uint64_t rate, uint8_t *buffer,
-                                size_t capacity, print1525_plain_answer *answer);
+                             uint8_t *buffer, size_t capacity, print1525_plain_numbers *answer);
 void print1525_plain_explain_script(const uint8_t *script, size_t script_length, uint8_t *buffer, size_t capacity,
-                                    print1525_plain_answer *answer);
+                                    print1525_plain_numbers *answer);
 void print1525_plain_explain_stop(const uint8_t *script, size_t script_length, uint8_t kept, uint8_t stop,
                                   size_t statement, uint8_t four, uint8_t five, uint8_t *buffer, size_t capacity,
-                                  print1525_plain_answer *answer);
+                                  print1525_plain_numbers *answer);
 void print1525_plain_explain_trace(const uint8_t *bytes, size_t bytes_length, uint8_t source, const uint8_t *atn,
                                    size_t atn_length, const uint8_t *clock, size_t clock_length, const uint8_t *line,
                                    size_t line_length, uint8_t inverted, uint64_t start, uint64_t rate,
-                                   uint8_t *buffer, size_t capacity, print1525_plain_answer *answer);
+                                   uint8_t *buffer, size_t capacity, print1525_plain_numbers *answer);
 void print1525_plain_explain_reading(const uint8_t *bytes, size_t bytes_length, uint8_t source, const uint8_t *atn,
                                      size_t atn_length, const uint8_t *clock, size_t clock_length, const uint8_t *line,
                                      size_t line_length, uint8_t inverted, uint64_t start, uint64_t rate,
-                                     uint8_t *buffer, size_t capacity, print1525_plain_answer *answer);
+                                     uint8_t *buffer, size_t capacity, print1525_plain_numbers *answer);
 void print1525_plain_edges(const uint8_t *bytes, size_t bytes_length, uint8_t source, const uint8_t *atn,
                            size_t atn_length, const uint8_t *clock, size_t clock_length, const uint8_t *line,
                            size_t line_length, uint8_t inverted, uint64_t start, uint64_t rate, uint64_t *numbers,
-                           size_t capacity, print1525_plain_answer *answer);
-void print1525_plain_receiver_begin(print1525_receiver *receiver, uint8_t device, print1525_plain_answer *answer);
+                           size_t capacity, print1525_plain_numbers *answer);
+void print1525_plain_receiver_begin(print1525_receiver *receiver, uint8_t device, print1525_plain_numbers *answer);
 void print1525_plain_receiver_edge(print1525_receiver *receiver, const print1525_edge *edge,
-                                   print1525_received *received, print1525_plain_answer *answer);
+                                   print1525_received *received, print1525_plain_numbers *answer);
 void print1525_plain_receive(uint8_t device, const print1525_edge *edges, size_t edges_length, uint16_t *buffer,
-                             size_t capacity, print1525_plain_answer *answer);
-void print1525_plain_strict_begin(print1525_strict *strict, uint8_t device, print1525_plain_answer *answer);
+                             size_t capacity, print1525_plain_numbers *answer);
+void print1525_plain_strict_begin(print1525_strict *strict, uint8_t device, print1525_plain_numbers *answer);
 void print1525_plain_strict_edge(print1525_strict *strict, const print1525_edge *edge, uint16_t *input,
-                                 print1525_plain_answer *answer);
-void print1525_plain_strict_end(const print1525_strict *strict, print1525_plain_answer *answer);
+                                 print1525_plain_numbers *answer);
+void print1525_plain_strict_end(const print1525_strict *strict, print1525_plain_numbers *answer);
 void print1525_plain_decode_begin(print1525_decoder *decoder);
 void print1525_plain_decode_edge(print1525_decoder *decoder, const print1525_edge *edge, print1525_reading *reading,
-                                 print1525_plain_answer *answer);
+                                 print1525_plain_numbers *answer);
 void print1525_plain_decode_end(const print1525_decoder *decoder, print1525_reading *reading,
-                                print1525_plain_answer *answer);
+                                print1525_plain_numbers *answer);
 
 /* How many of some bytes a printer has taken, and how many marks they make. */
 typedef struct {
@@ -838,15 +838,15 @@ typedef struct {
 } print1525_plain_run;
 
 void print1525_plain_printer_begin(print1525_printer *printer);
-void print1525_plain_printer_select(print1525_printer *printer, uint8_t set, print1525_plain_answer *answer);
+void print1525_plain_printer_select(print1525_printer *printer, uint8_t set, print1525_plain_numbers *answer);
 void print1525_plain_printer_byte(print1525_printer *printer, uint8_t byte, print1525_mark *marks, size_t capacity,
-                                  print1525_plain_answer *answer);
+                                  print1525_plain_numbers *answer);
 void print1525_plain_printer_bytes(print1525_printer *printer, const uint8_t *bytes, size_t bytes_length,
                                    print1525_mark *marks, size_t capacity, print1525_plain_run *run);
 void print1525_plain_printer_page(const print1525_mark *marks, size_t marks_length, const print1525_region *region,
-                                  uint8_t *pixels, size_t capacity, print1525_plain_answer *answer);
+                                  uint8_t *pixels, size_t capacity, print1525_plain_numbers *answer);
 void print1525_plain_printer_draw(const print1525_mark *marks, size_t marks_length, const print1525_region *region,
-                                  uint8_t *pixels, size_t capacity, print1525_plain_answer *answer);
+                                  uint8_t *pixels, size_t capacity, print1525_plain_numbers *answer);
 
 #ifdef __cplusplus
 #define PRINT1525_OWN inline
@@ -951,14 +951,16 @@ PRINT1525_OWN void print1525_own_add_number(print1525_own_text *to, size_t numbe
 
 /* What a fault's place counts, or NULL. */
 PRINT1525_OWN const char *print1525_own_counted(int fault) {
-    if (fault >= PRINT1525_FAULT_UNKNOWN_WORD && fault <= PRINT1525_FAULT_BAD_LINE) return "line ";
+    if (fault >= PRINT1525_FAULT_UNKNOWN_WORD && fault <= PRINT1525_FAULT_TOO_MANY) return "line ";
+    if (fault == PRINT1525_FAULT_BAD_LINE) return "line ";
     if (fault >= PRINT1525_FAULT_BAD_START && fault <= PRINT1525_FAULT_TRUNCATED) return "edge ";
+    if (fault == PRINT1525_FAULT_NO_SUCH_INPUT) return "input ";
     if (fault >= PRINT1525_FAULT_NO_ATN && fault <= PRINT1525_FAULT_BAD_LEVEL) return "line ";
-    if (fault >= PRINT1525_FAULT_CUT_OFF && fault <= PRINT1525_FAULT_BAD_CHARACTER) return "line ";
-    if (fault == PRINT1525_FAULT_BAD_TIMESCALE || fault == PRINT1525_FAULT_NO_TIME) return "line ";
-    if (fault >= PRINT1525_FAULT_ANOTHER_ATN && fault <= PRINT1525_FAULT_ANOTHER_DATA) return "line ";
     if (fault == PRINT1525_FAULT_BAD_CHARACTER_LINE) return "line ";
-    return fault == PRINT1525_FAULT_NO_SUCH_INPUT ? "input " : NULL;
+    if (fault >= PRINT1525_FAULT_CUT_OFF && fault <= PRINT1525_FAULT_BAD_CHARACTER) return "line ";
+    if (fault >= PRINT1525_FAULT_BAD_TIMESCALE && fault <= PRINT1525_FAULT_NO_TIME) return "line ";
+    if (fault >= PRINT1525_FAULT_ANOTHER_ATN && fault <= PRINT1525_FAULT_ANOTHER_DATA) return "line ";
+    return NULL;
 }
 
 PRINT1525_CALL size_t print1525_message(const print1525_details *details, char *text, size_t capacity) {
@@ -1009,12 +1011,12 @@ PRINT1525_OWN int print1525_own_refuse(print1525_details *details, int fault) {
 }
 
 /* Reports what a proved call answered. */
-PRINT1525_OWN int print1525_own_answer(print1525_details *details, print1525_plain_answer answer) {
+PRINT1525_OWN int print1525_own_answer(print1525_details *details, print1525_plain_numbers answer) {
     const int fault = PRINT1525_OWN_AS(int, answer.fault);
     const int is_column = fault == PRINT1525_FAULT_UNKNOWN_NAME || fault == PRINT1525_FAULT_BAD_CHARACTER;
     switch (answer.code) {
     case 0: return print1525_own_tell(details, PRINT1525_DONE, PRINT1525_FAULT_NONE, 0, 0, answer.length);
-    case 1: return print1525_own_tell(details, PRINT1525_STOPPED, 100 + fault, answer.place, 0, answer.length);
+    case 1: return print1525_own_tell(details, PRINT1525_STOPPED, fault, answer.place, 0, answer.length);
     case 2:
         return print1525_own_tell(details, PRINT1525_REFUSED, fault, answer.place, is_column ? answer.length : 0, 0);
     case 4: return print1525_own_tell(details, PRINT1525_FAILED, PRINT1525_FAULT_TOO_SMALL, 0, 0, answer.length);
@@ -1095,30 +1097,146 @@ PRINT1525_OWN print1525_own_call *print1525_own_begin(print1525_own_call *call, 
     return call;
 }
 
-/* Runs the text of a script: its pages, or its trace. */
-PRINT1525_OWN print1525_plain_answer print1525_own_run(print1525_own_call *call, int is_bus, const void *script,
-                                                       size_t length, size_t capacity) {
+/* The subcommand that the program is asked for; and the fault of words that ask for no task. */
+enum print1525_own_subcommand { PRINT1525_OWN_PAGES, PRINT1525_OWN_BUS, PRINT1525_OWN_RAW };
+enum print1525_own_end { PRINT1525_OWN_NO_TASK = 54 };
+
+/* Adds a word to a command line. */
+PRINT1525_OWN void print1525_own_word(print1525_own_text *to, const char *word) {
+    if (to->length > 0 && to->length + 1 < to->capacity) to->text[to->length] = '\0';
+    if (to->length > 0) to->length++;
+    print1525_own_add(to, word);
+}
+
+PRINT1525_OWN void print1525_own_option(print1525_own_text *to, const char *name, const char *value) {
+    print1525_own_word(to, name);
+    print1525_own_word(to, value);
+}
+
+PRINT1525_OWN void print1525_own_list(print1525_own_text *to, print1525_delays list) {
+    size_t index;
+    for (index = 0; index < list.length; index++) {
+        if (index > 0) print1525_own_add(to, ",");
+        print1525_own_add_number(to, list.numbers[index]);
+    }
+}
+
+/* Adds the words of a command line that say these settings. Printers, mode and set are those of an option; any other
+ * number that an option does not have is a word that the program refuses. */
+PRINT1525_OWN void print1525_own_words(print1525_own_text *to, int of, const print1525_settings *s) {
+    static const char subcommands[3][6] = {"pages", "bus", "raw"}, printers[4][5] = {"none", "4", "5", "both"};
+    static const char modes[2][5] = {"each", "kept"}, sets[2][6] = {"upper", "lower"};
+    static const char formats[5][5] = {"list", "text", "svg", "png", "pdf"}, traces[2][5] = {"text", "vcd"};
+    print1525_own_word(to, "print1525");
+    print1525_own_word(to, subcommands[of]);
+    if (of == PRINT1525_OWN_RAW) {
+        print1525_own_option(to, "--set", sets[s->set]);
+    } else {
+        print1525_own_option(to, "--present", printers[s->present]);
+        print1525_own_option(to, "--status", modes[s->mode]);
+        print1525_own_option(to, "--delays", "");
+        print1525_own_list(to, s->computer_delays);
+        print1525_own_add(to, "/");
+        print1525_own_list(to, s->printer4_delays);
+        print1525_own_add(to, "/");
+        print1525_own_list(to, s->printer5_delays);
+    }
+    if (of == PRINT1525_OWN_BUS) {
+        print1525_own_option(to, "--as", s->trace <= PRINT1525_TRACE_VCD ? traces[s->trace] : "");
+        return;
+    }
+    print1525_own_option(to, "--as", s->page <= PRINT1525_PAGE_PDF ? formats[s->page] : "");
+    if (s->printer != 0) {
+        print1525_own_option(to, "--device", "");
+        print1525_own_add_number(to, s->printer);
+    }
+    if (s->sheet != 0) {
+        print1525_own_option(to, "--sheet", "");
+        print1525_own_add_number(to, s->sheet);
+    }
+    if (s->page >= PRINT1525_PAGE_SVG && s->characters_length > 0) print1525_own_option(to, "--characters", "given");
+}
+
+/* A refusal of settings. */
+PRINT1525_OWN print1525_plain_numbers print1525_own_no(size_t fault) {
+    print1525_plain_numbers answer = {2, 0, 0, 0};
+    answer.fault = fault;
+    return answer;
+}
+
+/* Does what the program does with the words of the settings and this input. The buffer is written with exit statuses up
+ * to `most`. */
+PRINT1525_OWN print1525_plain_numbers print1525_own_asked(const print1525_own_call *call, int of, uint8_t most,
+                                                          const uint8_t *input, size_t length, size_t capacity) {
     const print1525_settings *const s = &call->settings;
-    const uint8_t *const text = PRINT1525_OWN_AS(const uint8_t *, script);
-    uint8_t *const buffer = PRINT1525_OWN_AS(uint8_t *, call->buffer);
-    print1525_plain_answer answer;
-    if (is_bus)
-        print1525_plain_bus(text, length, s->present, s->mode, s->computer_delays.numbers, s->computer_delays.length,
-                            s->printer4_delays.numbers, s->printer4_delays.length, s->printer5_delays.numbers,
-                            s->printer5_delays.length, s->trace, buffer, capacity, &answer);
-    else
-        print1525_plain_pages_part(text, length, s->present, s->mode, s->computer_delays.numbers,
-                                   s->computer_delays.length, s->printer4_delays.numbers, s->printer4_delays.length,
-                                   s->printer5_delays.numbers, s->printer5_delays.length, s->page, s->printer, s->sheet,
-                                   PRINT1525_OWN_AS(const uint8_t *, call->characters), s->characters_length, buffer,
-                                   capacity, &answer);
+    print1525_plain_numbers answer = {3, 0, 0, 0};
+    print1525_plain_end end;
+    char few[256], *many = NULL;
+    uint8_t nothing[1];
+    print1525_own_text words = {few, sizeof few, 0};
+    print1525_own_words(&words, of, s);
+    if (words.length >= sizeof few) {
+        words.capacity = words.length + 1;
+        words.text = many = PRINT1525_OWN_AS(char *, malloc(words.capacity));
+        words.length = 0;
+        if (many == NULL) return answer;
+        print1525_own_words(&words, of, s);
+    }
+    /* (No file of characters of more bytes is good, and its first bad line is in front of them.) */
+    print1525_plain_answer(PRINT1525_OWN_AS(const uint8_t *, PRINT1525_OWN_AS(const void *, words.text)), words.length,
+                           0, most, input, length, PRINT1525_OWN_AS(const uint8_t *, call->characters),
+                           s->characters_length < 65536 ? s->characters_length : 65536,
+                           PRINT1525_OWN_AS(uint8_t *, call->buffer), capacity, nothing, 0, &end);
+    free(many);
+    if (end.fault == PRINT1525_OWN_NO_TASK) return print1525_own_no(PRINT1525_FAULT_NO_SUCH_FORMAT);
+    answer.code = end.status;
+    answer.fault = end.fault;
+    answer.place = end.place;
+    answer.length = end.status == 2 ? end.column : end.output;
+    return answer;
+}
+
+/* Runs the text of a script, for its pages or its trace, or prints bytes. */
+PRINT1525_OWN print1525_plain_numbers print1525_own_run(const print1525_own_call *call, int of, const void *input,
+                                                        size_t length, size_t capacity) {
+    const print1525_settings *const s = &call->settings;
+    const uint8_t *const bytes = PRINT1525_OWN_AS(const uint8_t *, input);
+    print1525_plain_numbers answer, stop;
+    if (of == PRINT1525_OWN_RAW) {
+        if (s->set > PRINT1525_SET_LOWER) return print1525_own_no(PRINT1525_FAULT_NO_SUCH_SET);
+    } else {
+        if (s->present > PRINT1525_PRESENT_BOTH) return print1525_own_no(PRINT1525_FAULT_NO_SUCH_PRINTERS);
+        if (s->mode > PRINT1525_MODE_KEPT) return print1525_own_no(PRINT1525_FAULT_NO_SUCH_STATUS);
+    }
+    /* The program takes characters for pictures alone; here those of other pages are read too, to be refused. */
+    if (of != PRINT1525_OWN_BUS && s->page < PRINT1525_PAGE_SVG && s->characters_length > 0) {
+        const uint16_t no_input = 0;
+        uint8_t nothing[1];
+        print1525_plain_print(&no_input, 0, s->page, s->printer, s->sheet,
+                              PRINT1525_OWN_AS(const uint8_t *, call->characters), s->characters_length, nothing, 0,
+                              &answer);
+        if (answer.code == 2 || answer.code == 3) return answer;
+    }
+    answer = print1525_own_asked(call, of, 0, bytes, length, capacity);
+    if (answer.code != 1) return answer;
+    /* The buffer is written when the BASIC error is known, for which there may be no memory. */
+    stop.code = 4;
+    if (answer.length <= capacity)
+        print1525_plain_stop(bytes, length, s->present & 1, PRINT1525_OWN_AS(uint8_t, s->present >> 1), s->mode, &stop);
+    if (stop.code == 1) {
+        answer = print1525_own_asked(call, of, 1, bytes, length, capacity);
+        answer.fault = stop.fault;
+        answer.place = stop.place;
+    } else {
+        answer.code = stop.code;
+    }
     return answer;
 }
 
 /* The text of a script that a listing has, in memory for free(), with its length in the answer; or NULL, and the answer
  * says why. */
 PRINT1525_OWN uint8_t *print1525_own_listed(const print1525_own_call *call, size_t length,
-                                            print1525_plain_answer *answer) {
+                                            print1525_plain_numbers *answer) {
     const uint8_t *const listing = PRINT1525_OWN_AS(const uint8_t *, call->input);
     uint8_t nothing[1], *text;
     print1525_plain_listing(listing, length, call->settings.from, nothing, 0, answer);
@@ -1132,43 +1250,47 @@ PRINT1525_OWN uint8_t *print1525_own_listed(const print1525_own_call *call, size
 }
 
 /* Runs what a listing says. Settings are refused before the listing is: they are those of an empty script. */
-PRINT1525_OWN print1525_plain_answer print1525_own_run_listing(print1525_own_call *call, int is_bus, size_t length,
-                                                               size_t capacity) {
-    print1525_plain_answer answer = print1525_own_run(call, is_bus, call->nothing, 0, 0);
+PRINT1525_OWN print1525_plain_numbers print1525_own_run_listing(print1525_own_call *call, int of, size_t length,
+                                                                size_t capacity) {
+    print1525_plain_numbers answer = print1525_own_run(call, of, call->nothing, 0, 0);
     uint8_t *text;
     if ((answer.code == 2 && answer.fault != PRINT1525_FAULT_NO_SUCH_SHEET) || answer.code == 3) return answer;
     text = print1525_own_listed(call, length, &answer);
-    if (text != NULL) answer = print1525_own_run(call, is_bus, text, answer.length, capacity);
+    if (text != NULL) answer = print1525_own_run(call, of, text, answer.length, capacity);
     free(text);
     return answer;
 }
 
-/* Runs a script. */
-PRINT1525_OWN int print1525_own_script(int is_bus, const void *script, size_t length,
-                                       const print1525_settings *settings, void *buffer, size_t capacity,
-                                       print1525_details *details) {
+/* Runs a script, or prints bytes. */
+PRINT1525_OWN int print1525_own_task(int of, const void *input, size_t length, const print1525_settings *settings,
+                                     void *buffer, size_t capacity, print1525_details *details) {
     print1525_own_call call;
-    if (print1525_own_begin(&call, script, length, settings, buffer, capacity)->fault != PRINT1525_FAULT_NONE)
+    if (print1525_own_begin(&call, input, length, settings, buffer, capacity)->fault != PRINT1525_FAULT_NONE)
         return print1525_own_refuse(details, call.fault);
-    return print1525_own_answer(details, call.settings.from == PRINT1525_FROM_TEXT
-                                             ? print1525_own_run(&call, is_bus, call.input, length, capacity)
-                                             : print1525_own_run_listing(&call, is_bus, length, capacity));
+    return print1525_own_answer(details, of == PRINT1525_OWN_RAW || call.settings.from == PRINT1525_FROM_TEXT
+                                             ? print1525_own_run(&call, of, call.input, length, capacity)
+                                             : print1525_own_run_listing(&call, of, length, capacity));
 }
 
 PRINT1525_CALL int print1525_pages(const void *script, size_t length, const print1525_settings *settings, void *buffer,
                                    size_t capacity, print1525_details *details) {
-    return print1525_own_script(0, script, length, settings, buffer, capacity, details);
+    return print1525_own_task(PRINT1525_OWN_PAGES, script, length, settings, buffer, capacity, details);
 }
 
 PRINT1525_CALL int print1525_bus(const void *script, size_t length, const print1525_settings *settings, void *buffer,
                                  size_t capacity, print1525_details *details) {
-    return print1525_own_script(1, script, length, settings, buffer, capacity, details);
+    return print1525_own_task(PRINT1525_OWN_BUS, script, length, settings, buffer, capacity, details);
+}
+
+PRINT1525_CALL int print1525_raw(const void *bytes, size_t length, const print1525_settings *settings, void *buffer,
+                                 size_t capacity, print1525_details *details) {
+    return print1525_own_task(PRINT1525_OWN_RAW, bytes, length, settings, buffer, capacity, details);
 }
 
 PRINT1525_CALL int print1525_listing(const void *listing, size_t length, const print1525_settings *settings,
                                      void *buffer, size_t capacity, print1525_details *details) {
     print1525_own_call call;
-    print1525_plain_answer answer;
+    print1525_plain_numbers answer;
     if (print1525_own_begin(&call, listing, length, settings, buffer, capacity)->fault != PRINT1525_FAULT_NONE)
         return print1525_own_refuse(details, call.fault);
     print1525_plain_listing(PRINT1525_OWN_AS(const uint8_t *, call.input), length, call.settings.from,
@@ -1176,27 +1298,14 @@ PRINT1525_CALL int print1525_listing(const void *listing, size_t length, const p
     return print1525_own_answer(details, answer);
 }
 
-PRINT1525_CALL int print1525_raw(const void *bytes, size_t length, const print1525_settings *settings, void *buffer,
-                                 size_t capacity, print1525_details *details) {
-    print1525_own_call call;
-    print1525_plain_answer answer;
-    if (print1525_own_begin(&call, bytes, length, settings, buffer, capacity)->fault != PRINT1525_FAULT_NONE)
-        return print1525_own_refuse(details, call.fault);
-    print1525_plain_raw_part(PRINT1525_OWN_AS(const uint8_t *, call.input), length, call.settings.set,
-                             call.settings.page, call.settings.printer, call.settings.sheet,
-                             PRINT1525_OWN_AS(const uint8_t *, call.characters), call.settings.characters_length,
-                             PRINT1525_OWN_AS(uint8_t *, call.buffer), capacity, &answer);
-    return print1525_own_answer(details, answer);
-}
-
 PRINT1525_CALL int print1525_print(const uint16_t *inputs, size_t length, const print1525_settings *settings,
                                    void *buffer, size_t capacity, print1525_details *details) {
     const size_t size = print1525_own_room(length, sizeof *inputs);
     print1525_own_call call;
-    print1525_plain_answer answer;
+    print1525_plain_numbers answer;
     if (print1525_own_begin(&call, inputs, size, settings, buffer, capacity)->fault != PRINT1525_FAULT_NONE)
         return print1525_own_refuse(details, call.fault);
-    print1525_plain_print_part(PRINT1525_OWN_AS(const uint16_t *, call.input), length, call.settings.page,
+    print1525_plain_print(PRINT1525_OWN_AS(const uint16_t *, call.input), length, call.settings.page,
                                call.settings.printer, call.settings.sheet,
                                PRINT1525_OWN_AS(const uint8_t *, call.characters), call.settings.characters_length,
                                PRINT1525_OWN_AS(uint8_t *, call.buffer), capacity, &answer);
@@ -1205,10 +1314,9 @@ PRINT1525_CALL int print1525_print(const uint16_t *inputs, size_t length, const 
 
 /* What a call says of a recording, by its number. */
 enum print1525_own_of {
-    PRINT1525_OWN_REPORT,
+    PRINT1525_OWN_CHECK,
     PRINT1525_OWN_READINGS,
     PRINT1525_OWN_REPRINT,
-    PRINT1525_OWN_JSON,
     PRINT1525_OWN_EXPLAIN_TRACE,
     PRINT1525_OWN_EXPLAIN_READING,
     PRINT1525_OWN_EDGES
@@ -1219,8 +1327,8 @@ PRINT1525_OWN const uint8_t *print1525_own_bytes(const print1525_name *name) {
     return PRINT1525_OWN_AS(const uint8_t *, PRINT1525_OWN_AS(const void *, name->bytes));
 }
 
-/* Calls the proved call with a recording. `words` is whether a story is wanted, or the wording of readings. */
-PRINT1525_OWN print1525_plain_answer print1525_own_recording(const print1525_own_call *call, int of, size_t length,
+/* Calls the proved call with a recording. `words` is one of enum print1525_words, or the wording of readings. */
+PRINT1525_OWN print1525_plain_numbers print1525_own_recording(const print1525_own_call *call, int of, size_t length,
                                                              uint8_t words, size_t capacity) {
     const print1525_settings *const s = &call->settings;
     const uint8_t *const bytes = PRINT1525_OWN_AS(const uint8_t *, call->input);
@@ -1228,12 +1336,12 @@ PRINT1525_OWN print1525_plain_answer print1525_own_recording(const print1525_own
     const uint8_t *const data = print1525_own_bytes(&s->data);
     const size_t a = s->atn.length, c = s->clock.length, d = s->data.length;
     uint8_t *const buffer = PRINT1525_OWN_AS(uint8_t *, call->buffer);
-    print1525_plain_answer answer = {2, PRINT1525_FAULT_NO_SUCH_RECORDING, 0, 0};
+    print1525_plain_numbers answer = {2, PRINT1525_FAULT_NO_SUCH_RECORDING, 0, 0};
     if (s->inverted > 1) return answer;
     switch (of) {
-    case PRINT1525_OWN_REPORT:
-        print1525_plain_report(bytes, length, s->recording, atn, a, clock, c, data, d, s->inverted, s->start, s->rate,
-                               words, buffer, capacity, &answer);
+    case PRINT1525_OWN_CHECK:
+        print1525_plain_check(bytes, length, s->recording, atn, a, clock, c, data, d, s->inverted, s->start, s->rate,
+                              words, buffer, capacity, &answer);
         break;
     case PRINT1525_OWN_READINGS:
         print1525_plain_readings(bytes, length, s->recording, atn, a, clock, c, data, d, s->inverted, s->start,
@@ -1243,10 +1351,6 @@ PRINT1525_OWN print1525_plain_answer print1525_own_recording(const print1525_own
         print1525_plain_reprint(bytes, length, s->recording, atn, a, clock, c, data, d, s->inverted, s->start, s->rate,
                                 s->page, s->printer, s->sheet, PRINT1525_OWN_AS(const uint8_t *, call->characters),
                                 s->characters_length, buffer, capacity, &answer);
-        break;
-    case PRINT1525_OWN_JSON:
-        print1525_plain_check_json(bytes, length, s->recording, atn, a, clock, c, data, d, s->inverted, s->start,
-                                   s->rate, buffer, capacity, &answer);
         break;
     case PRINT1525_OWN_EXPLAIN_TRACE:
         print1525_plain_explain_trace(bytes, length, s->recording, atn, a, clock, c, data, d, s->inverted, s->start,
@@ -1265,7 +1369,7 @@ PRINT1525_OWN print1525_plain_answer print1525_own_recording(const print1525_own
 
 /* Puts what such a call answered into the details, with its length divided by `unit`: after a fault of the recording,
  * how much comes before it. */
-PRINT1525_OWN int print1525_own_said(print1525_details *details, print1525_plain_answer answer, size_t unit) {
+PRINT1525_OWN int print1525_own_said(print1525_details *details, print1525_plain_numbers answer, size_t unit) {
     answer.length /= unit;
     if (answer.code != 2) return print1525_own_answer(details, answer);
     return print1525_own_tell(details, PRINT1525_REFUSED, PRINT1525_OWN_AS(int, answer.fault), answer.place, 0,
@@ -1273,7 +1377,7 @@ PRINT1525_OWN int print1525_own_said(print1525_details *details, print1525_plain
 }
 
 /* Reports an explanation, with its place. */
-PRINT1525_OWN int print1525_own_explained(print1525_details *details, print1525_plain_answer answer) {
+PRINT1525_OWN int print1525_own_explained(print1525_details *details, print1525_plain_numbers answer) {
     if (answer.code != 0) return print1525_own_answer(details, answer);
     return print1525_own_tell(details, PRINT1525_DONE, PRINT1525_FAULT_NONE, answer.place, 0, answer.length);
 }
@@ -1281,20 +1385,12 @@ PRINT1525_OWN int print1525_own_explained(print1525_details *details, print1525_
 PRINT1525_CALL int print1525_check(const void *trace, size_t length, const print1525_settings *settings, void *buffer,
                                    size_t capacity, print1525_details *details) {
     print1525_own_call call;
-    print1525_plain_answer answer;
     if (print1525_own_begin(&call, trace, length, settings, buffer, capacity)->fault != PRINT1525_FAULT_NONE)
         return print1525_own_refuse(details, call.fault);
     if (call.settings.words > PRINT1525_WORDS_JSON)
         return print1525_own_refuse(details, PRINT1525_FAULT_NO_SUCH_WORDS);
-    if (call.settings.words != PRINT1525_WORDS_LIST || call.settings.recording != PRINT1525_RECORDING_TEXT) {
-        const int of = call.settings.words == PRINT1525_WORDS_JSON ? PRINT1525_OWN_JSON : PRINT1525_OWN_REPORT;
-        return print1525_own_said(details,
-                                  print1525_own_recording(&call, of, length, call.settings.words, capacity), 1);
-    }
-    if (call.settings.inverted > 1) return print1525_own_refuse(details, PRINT1525_FAULT_NO_SUCH_RECORDING);
-    print1525_plain_check(PRINT1525_OWN_AS(const uint8_t *, call.input), length,
-                          PRINT1525_OWN_AS(uint8_t *, call.buffer), capacity, &answer);
-    return print1525_own_answer(details, answer);
+    return print1525_own_said(
+        details, print1525_own_recording(&call, PRINT1525_OWN_CHECK, length, call.settings.words, capacity), 1);
 }
 
 PRINT1525_CALL int print1525_readings(const void *recording, size_t length, const print1525_settings *settings,
@@ -1326,7 +1422,7 @@ PRINT1525_OWN int print1525_own_explain(int is_stop, const void *script, size_t 
                                         print1525_details *details) {
     print1525_own_call call;
     const print1525_settings *const s = &call.settings;
-    print1525_plain_answer answer = {0, 0, 0, 0};
+    print1525_plain_numbers answer = {0, 0, 0, 0};
     uint8_t *listed = NULL, *to;
     const uint8_t *text;
     if (print1525_own_begin(&call, script, length, settings, buffer, capacity)->fault != PRINT1525_FAULT_NONE)
@@ -1385,7 +1481,7 @@ PRINT1525_CALL int print1525_edges(const void *recording, size_t length, const p
                                    print1525_edge *edges, size_t capacity, print1525_details *details) {
     const size_t size = print1525_own_room(capacity, sizeof *edges);
     print1525_own_call call;
-    print1525_plain_answer answer;
+    print1525_plain_numbers answer;
     size_t index, count;
     if (print1525_own_begin(&call, recording, length, settings, edges, size)->fault != PRINT1525_FAULT_NONE)
         return print1525_own_refuse(details, call.fault);
@@ -1402,7 +1498,7 @@ PRINT1525_CALL int print1525_edges(const void *recording, size_t length, const p
 }
 
 /* Reports what a proved call answered that takes the edges of any bus and refuses nothing but their order. */
-PRINT1525_OWN int print1525_own_bus_answer(print1525_details *details, print1525_plain_answer answer) {
+PRINT1525_OWN int print1525_own_bus_answer(print1525_details *details, print1525_plain_numbers answer) {
     if (answer.fault == PRINT1525_FAULT_BAD_ORDER) answer.fault = PRINT1525_FAULT_GOES_BACK;
     return print1525_own_answer(details, answer);
 }
@@ -1417,7 +1513,7 @@ PRINT1525_CALL int print1525_decoder_edge(print1525_decoder *decoder, const prin
                                           print1525_reading *reading, print1525_details *details) {
     print1525_edge read;
     print1525_reading settled;
-    print1525_plain_answer answer;
+    print1525_plain_numbers answer;
     if (decoder == NULL || edge == NULL || reading == NULL)
         return print1525_own_refuse(details, PRINT1525_FAULT_NULL_POINTER);
     read = *edge;
@@ -1429,7 +1525,7 @@ PRINT1525_CALL int print1525_decoder_edge(print1525_decoder *decoder, const prin
 PRINT1525_CALL int print1525_decoder_end(const print1525_decoder *decoder, print1525_reading *reading,
                                          print1525_details *details) {
     print1525_reading cut;
-    print1525_plain_answer answer;
+    print1525_plain_numbers answer;
     if (decoder == NULL || reading == NULL) return print1525_own_refuse(details, PRINT1525_FAULT_NULL_POINTER);
     print1525_plain_decode_end(decoder, &cut, &answer);
     *reading = cut;
@@ -1437,7 +1533,7 @@ PRINT1525_CALL int print1525_decoder_end(const print1525_decoder *decoder, print
 }
 
 PRINT1525_CALL int print1525_receiver_begin(print1525_receiver *receiver, uint8_t device) {
-    print1525_plain_answer answer;
+    print1525_plain_numbers answer;
     if (receiver == NULL) return PRINT1525_REFUSED;
     print1525_plain_receiver_begin(receiver, device, &answer);
     return print1525_own_answer(NULL, answer);
@@ -1447,7 +1543,7 @@ PRINT1525_CALL int print1525_receiver_edge(print1525_receiver *receiver, const p
                                            print1525_received *received, print1525_details *details) {
     print1525_edge read;
     print1525_received came;
-    print1525_plain_answer answer;
+    print1525_plain_numbers answer;
     if (receiver == NULL || edge == NULL || received == NULL)
         return print1525_own_refuse(details, PRINT1525_FAULT_NULL_POINTER);
     read = *edge;
@@ -1457,7 +1553,7 @@ PRINT1525_CALL int print1525_receiver_edge(print1525_receiver *receiver, const p
 }
 
 PRINT1525_CALL int print1525_strict_begin(print1525_strict *strict, uint8_t device) {
-    print1525_plain_answer answer;
+    print1525_plain_numbers answer;
     if (strict == NULL) return PRINT1525_REFUSED;
     print1525_plain_strict_begin(strict, device, &answer);
     return print1525_own_answer(NULL, answer);
@@ -1467,7 +1563,7 @@ PRINT1525_CALL int print1525_strict_edge(print1525_strict *strict, const print15
                                          print1525_details *details) {
     print1525_edge read;
     uint16_t came;
-    print1525_plain_answer answer;
+    print1525_plain_numbers answer;
     if (strict == NULL || edge == NULL || input == NULL)
         return print1525_own_refuse(details, PRINT1525_FAULT_NULL_POINTER);
     read = *edge;
@@ -1478,7 +1574,7 @@ PRINT1525_CALL int print1525_strict_edge(print1525_strict *strict, const print15
 }
 
 PRINT1525_CALL int print1525_strict_end(const print1525_strict *strict, print1525_details *details) {
-    print1525_plain_answer answer;
+    print1525_plain_numbers answer;
     if (strict == NULL) return print1525_own_refuse(details, PRINT1525_FAULT_NULL_POINTER);
     print1525_plain_strict_end(strict, &answer);
     return print1525_own_answer(details, answer);
@@ -1490,7 +1586,7 @@ PRINT1525_CALL int print1525_strict_edges(uint8_t device, const print1525_edge *
                                             print1525_own_room(capacity, sizeof *inputs));
     print1525_edge no_edge = {0, 0, 0, 0};
     uint16_t nothing[1];
-    print1525_plain_answer answer;
+    print1525_plain_numbers answer;
     if (fault != PRINT1525_FAULT_NONE) return print1525_own_refuse(details, fault);
     print1525_plain_receive(device, edges == NULL ? &no_edge : edges, length, inputs == NULL ? nothing : inputs,
                             capacity, &answer);
@@ -1504,7 +1600,7 @@ PRINT1525_CALL int print1525_printer_begin(print1525_printer *printer) {
 }
 
 PRINT1525_CALL int print1525_printer_select(print1525_printer *printer, uint8_t set) {
-    print1525_plain_answer answer;
+    print1525_plain_numbers answer;
     if (printer == NULL) return PRINT1525_REFUSED;
     print1525_plain_printer_select(printer, set, &answer);
     return print1525_own_answer(NULL, answer);
@@ -1514,7 +1610,7 @@ PRINT1525_CALL int print1525_printer_byte(print1525_printer *printer, uint8_t by
                                           size_t capacity, print1525_details *details) {
     print1525_printer kept;
     print1525_mark nothing[1];
-    print1525_plain_answer answer;
+    print1525_plain_numbers answer;
     if (printer == NULL || (marks == NULL && capacity > 0))
         return print1525_own_refuse(details, PRINT1525_FAULT_NULL_POINTER);
     if (print1525_own_overlap(printer, sizeof *printer, marks, print1525_own_room(capacity, sizeof *marks)))
@@ -1552,7 +1648,7 @@ PRINT1525_OWN int print1525_own_pixels(int over, const print1525_mark *marks, si
     print1525_region read;
     print1525_mark no_mark = {0, 0, 0, 0, 0, 0, 0};
     uint8_t nothing[1];
-    print1525_plain_answer answer;
+    print1525_plain_numbers answer;
     if (region == NULL) return print1525_own_refuse(details, PRINT1525_FAULT_NULL_POINTER);
     if (fault != PRINT1525_FAULT_NONE) return print1525_own_refuse(details, fault);
     read = *region;

@@ -644,7 +644,7 @@ static void try_settings(void) {
     };
     static const int32_t stops[] = {0, 1, 3, 91, 100, 104, 107, 109, 110, 356, 359, -153, -1, INT32_MAX, INT32_MIN};
     static const uint16_t no_input[1] = {65535};
-    static const char *const drawing[] = {"pages", "raw", "print", "reprint"};
+    static const char *const drawing[] = {"pages", "raw", "print", "reprint", "pages"};
     static const char *const all[] = {"pages", "bus", "listing", "raw", "print", "check", "decode", "reprint", "explain_script", "explain_stop", "explain_trace", "explain_reading"};
     static const print1525_settings defaults = PRINT1525_SETTINGS_INIT;
     static job j;
@@ -708,9 +708,10 @@ static void try_settings(void) {
         if (!is_answer(call(&j, buffer.bytes, buffer.size), PRINT1525_REFUSED, PRINT1525_FAULT_NO_SUCH_STOP, 0, 0) || !is_untouched(buffer.bytes, buffer.size))
             is_wrong("no BASIC error, row", row);
     }
-    for (row = 0; row < 8; row++) {
+    for (row = 0; row < 10; row++) {
         j.name = drawing[row / 2];
         j.settings = defaults;
+        if (row >= 8) j.settings.from = 3; /* (refused after them) */
         j.settings.page = row % 2 ? PRINT1525_PAGE_SVG : PRINT1525_PAGE_LIST;
         j.settings.characters = bad.bytes;
         j.settings.characters_length = bad.size;

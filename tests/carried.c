@@ -96,7 +96,7 @@ static const struct {
     {"reprint", PRINT1525_STACK}, {"check as a story", PRINT1525_STACK}, {"check as JSON", PRINT1525_STACK}, {"explain script", PRINT1525_STACK},
     {"explain stop", PRINT1525_STACK}, {"explain trace", PRINT1525_STACK}, {"explain reading", PRINT1525_STACK}, {"edges", PRINT1525_STACK},
     {"a sheet", PRINT1525_STACK}, {"receiver", SMALL_STACK}, {"printer, byte by byte", SMALL_STACK}, {"printer, bytes", SMALL_STACK}, {"printer, page", SMALL_STACK},
-    {"printer, draw", SMALL_STACK},
+    {"printer, draw", SMALL_STACK}, {"pages with characters", PRINT1525_STACK}, {"raw with characters", PRINT1525_STACK},
 };
 #define CALLS ((int)(sizeof calls / sizeof *calls))
 
@@ -176,6 +176,22 @@ static void make_more(int call, uint8_t *buffer, size_t room, print1525_details 
     }
 }
 
+/* The calls 34 and 35: pages with the characters of a file, each of them blank. */
+static void make_drawn(int call, uint8_t *buffer, size_t room, print1525_details *details) {
+    static const char *const sets[] = {"upper", "lower"};
+    print1525_settings settings = PRINT1525_SETTINGS_INIT;
+    static char characters[16384];
+    size_t length = 0, set, code;
+    for (set = 0; set < 2; set++)
+        for (code = 32; code < 224; code += code == 95 ? 65 : 1)
+            length += (size_t)snprintf(characters + length, sizeof characters - length, "%s %lu\n......\n......\n......\n......\n......\n......\n......\n", sets[set], (unsigned long)code);
+    settings.characters = characters;
+    settings.characters_length = length;
+    settings.page = PRINT1525_PAGE_SVG;
+    if (call == 34) print1525_pages(script, sizeof script - 1, &settings, buffer, room, details);
+    else print1525_raw(script, sizeof script - 1, &settings, buffer, room, details);
+}
+
 static void make(int call, uint8_t *buffer, size_t room, print1525_details *details) {
     static const uint16_t inputs[] = {65, 66, PRINT1525_SELECT_LOWER, 67, 13, 8, 255, 13};
     print1525_settings settings = PRINT1525_SETTINGS_INIT;
@@ -186,7 +202,8 @@ static void make(int call, uint8_t *buffer, size_t room, print1525_details *deta
     size_t index;
     memset(details, 0, sizeof *details);
     if (call >= 18) {
-        if (call >= 30) make_printed(call, buffer, room, details);
+        if (call >= 34) make_drawn(call, buffer, room, details);
+        else if (call >= 30) make_printed(call, buffer, room, details);
         else make_more(call, buffer, room, details);
         return;
     }
