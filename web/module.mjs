@@ -384,7 +384,7 @@ export const loadPrint1525 = (() => {
       // input, and `characters` in that of the file of characters: its exit status, what it writes, and its lines for people.
       answer({ words, explained = false, input = new Uint8Array(0), characters = new Uint8Array(0) }) {
         const bytes = bytesOf(input), room = Math.max(ROOM, Math.min(WIDER * bytes.byteLength, KEPT / 4));
-        return said('print1525_answer', [lineOf(words), explained ? 1 : 0, bytes, bytesOf(characters)], room);
+        return said('print1525_answer', [lineOf(words), explained ? 1 : 0, 3, bytes, bytesOf(characters)], room);
       },
       // The names of the files that words name, or null: that which is read, that which is written and that of characters; and what is
       // said where the input comes from a terminal. With another status than 0 words ask for no task, as `answer` says.

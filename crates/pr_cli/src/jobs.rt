@@ -148,6 +148,7 @@ pub fn do_job<R: Read, W: Write>(
 }
 
 /// Runs a script and writes the pages of its run, or the bytes that a printer hears in it.
+#[inline(never)]
 fn print_run<R: Read, W: Write>(
     alloc: Global,
     input: &mut Watched<R>,
@@ -224,6 +225,7 @@ fn print_pages<R: Read, W: Write>(
 }
 
 /// Checks a trace and writes what it says: its readings as JSON, or the report asked for.
+#[inline(never)]
 fn check_trace<R: Read, W: Write>(
     alloc: Global,
     input: &mut Watched<R>,
@@ -281,6 +283,7 @@ fn report_trace<R: Read, W: Write>(
 }
 
 /// Reads a recording and writes what it says: its readings, the bytes that a printer hears in it, or its pages.
+#[inline(never)]
 fn decode_recording<R: Read, W: Write>(
     alloc: Global,
     input: &mut Watched<R>,

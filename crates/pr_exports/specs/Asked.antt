@@ -25,9 +25,10 @@ use Rattle.pr_characters.specs.declared.fault.CharactersFault.{CharactersFault}
 use Rattle.pr_dots.specs.declared.character_sets.Shapes.{Shapes}
 use Rattle.pr_render.specs.declared.format.Format.{Format}
 use Rattle.pr_recording.specs.declared.wording.Wording.{Wording}
+use Rattle.pr_options.specs.declared.outputs.CheckOutput.{CheckOutput}
 use Rattle.pr_report.specs.declared.detail.Detail.{Detail}
 use Rattle.pr_exports.specs.Answers.{answer_of, ended, number_read, place_of_trace, refusal, stopped}
-use Rattle.pr_exports.specs.Giving.{Gives, GivesDelays, GivesEdges, GivesFault, GivesIntervals, GivesLines, GivesPages, GivesReadings, GivesRows, Hands, HasNoMemory}
+use Rattle.pr_exports.specs.Giving.{Gives, GivesCheck, GivesDelays, GivesEdges, GivesFault, GivesIntervals, GivesLines, GivesPages, GivesReadings, GivesRows, Hands, HasNoMemory}
 use Rattle.pr_exports.specs.Listings.{TellsText, answer_for}
 use Rattle.pr_exports.specs.Numbers.{bounds_numbers}
 use Rattle.pr_exports.specs.Printing.{AnswersInputs, inputs_limit, is_no_input}
@@ -49,6 +50,16 @@ TellsReadings (Some source) atn clock line inverted start rate None bytes old ne
 TellsReadings (Some source) atn clock line inverted start rate (Some wording) bytes old new answer =
     (input : TraceInput) × IsInput source atn clock line (is_yes inverted) start rate input
     × (told : Told) × GivesReadings input wording bytes old new told × (answer ≡ answer_of told)
+
+-- what is said of a trace that is checked
+abbrev pub TellsCheck :
+    Option Source → (atn clock line : List ℕ) → (inverted start rate : ℕ) → Option CheckOutput → List ℕ → (old new : List ℕ)
+    → Answer → Type 0
+TellsCheck None atn clock line inverted start rate wanted bytes old new answer = Refuses 29 old new answer
+TellsCheck (Some source) atn clock line inverted start rate None bytes old new answer = Refuses 20 old new answer
+TellsCheck (Some source) atn clock line inverted start rate (Some wanted) bytes old new answer =
+    (input : TraceInput) × IsInput source atn clock line (is_yes inverted) start rate input
+    × (told : Told) × GivesCheck input wanted bytes old new told × (answer ≡ answer_of told)
 
 -- a file of characters is refused, with its first bad line, and the buffer is as it was
 abbrev pub RefusesCharacters : CharactersFault → (old new : List ℕ) → Answer → Type 0

@@ -7,17 +7,20 @@ use Rattle.pr_basic.specs.Grammar.{IsScript}
 use Rattle.pr_basic.specs.declared.fault.ScriptFault.{ScriptFault}
 use Rattle.pr_basic.specs.declared.statement.Statement.{Statement}
 use Rattle.pr_jobs.specs.Check.{trace_limit}
-use Rattle.pr_jobs.specs.Report.{Says}
+use Rattle.pr_jobs.specs.Report.{AnswersReport, Says}
 use Rattle.pr_jobs.specs.declared.fault.CliFault.{CliFault}
 use Rattle.pr_jobs.specs.declared.fault.CliFault.TheVariants.{Script, Trace, Wave, Capture, NoMemory}
 use Rattle.pr_render.specs.declared.format.Format.{Format}
 use Rattle.pr_capture.specs.declared.format.TraceInput.{TraceInput}
 use Rattle.pr_dots.specs.declared.character_sets.Shapes.{Shapes}
+use Rattle.pr_recording.specs.Checked.{AnswersJson}
 use Rattle.pr_recording.specs.Decoded.{AnswersDecode, back_in, stop_at}
 use Rattle.pr_recording.specs.Pages.{AnswersPages, readings_up_to}
 use Rattle.pr_recording.specs.declared.wording.Wording.{Wording}
 use Rattle.pr_report.specs.declared.detail.Detail.{Detail}
 use Rattle.pr_report.specs.Contexts.{at_start}
+use Rattle.pr_options.specs.declared.outputs.CheckOutput.{CheckOutput}
+use Rattle.pr_options.specs.declared.outputs.CheckOutput.TheVariants.{Report as Reported, Json}
 use Rattle.pr_report.specs.declared.oddities.Oddities.{Oddities}
 use Rattle.pr_exports.specs.Answers.{answer_of}
 use Rattle.pr_exports.specs.EdgeDelays.{edge_delays}
@@ -72,6 +75,15 @@ abbrev pub GivesReadings : TraceInput → Wording → List ℕ → (old new : Li
 GivesReadings input wording bytes old new told =
     (made : Made) × (text : List ℕ) × AnswersDecode trace_limit wording input bytes (Some []) (Some text) made
     × Gives made text old new told
+
+-- the buffer gets what is said of a trace: a report on it, or its readings as JSON and whether it is lawful
+abbrev pub AnswersCheck : TraceInput → CheckOutput → List ℕ → List ℕ → Made → Type 0
+AnswersCheck input (Reported report) bytes text made = AnswersReport input report bytes (Some []) (Some text) made
+AnswersCheck input Json bytes text made = AnswersJson input bytes (Some []) (Some text) made
+
+abbrev pub GivesCheck : TraceInput → CheckOutput → List ℕ → (old new : List ℕ) → Told → Type 0
+GivesCheck input wanted bytes old new told =
+    (made : Made) × (text : List ℕ) × AnswersCheck input wanted bytes text made × Gives made text old new told
 
 -- the buffer gets the pages that printers print of a recording
 abbrev pub GivesPages : Shapes → TraceInput → Format → List ℕ → (old new : List ℕ) → Told → Type 0

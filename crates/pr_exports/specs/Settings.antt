@@ -24,6 +24,10 @@ use Rattle.pr_capture.specs.declared.format.Source.{Source}
 use Rattle.pr_capture.specs.declared.format.Source.TheVariants as source
 use Rattle.pr_capture.specs.declared.format.TraceInput.{TraceInput}
 use Rattle.pr_serial.specs.declared.Present.{Present}
+use Rattle.pr_options.specs.declared.outputs.CheckOutput.{CheckOutput}
+use Rattle.pr_options.specs.declared.outputs.CheckOutput.TheVariants as check
+use Rattle.pr_options.specs.declared.outputs.CheckOutput.TheVariants.{Report as Reported}
+use Rattle.pr_report.specs.declared.report.Report.TheVariants.{Frames, Story}
 
 -- the format of a recording: a trace text, a Value Change Dump, a table of comma separated values, or the one that its
 -- first 4096 bytes show and else a text, or else a table
@@ -109,6 +113,13 @@ detail_of number =
 -- how what a recording says is written: as lines, or as JSON
 abbrev pub wording_of : ℕ → Option Wording
 wording_of number = if number == 4 then Some Json else option_map (λ detail. Lines detail) (detail_of number)
+
+-- what is said of a trace that is checked: its frames, its story, or JSON
+abbrev pub check_of : ℕ → Option CheckOutput
+check_of 0 = Some (Reported Frames)
+check_of 1 = Some (Reported Story)
+check_of 2 = Some check.Json
+check_of _ = None
 
 -- the samples in a second that are said of a table, if they are
 abbrev pub rate_of : ℕ → Option ℕ

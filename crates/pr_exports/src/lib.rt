@@ -51,7 +51,7 @@ pub use listings::{Listed, print1525_listing};
 pub use numbers::{print1525_bounds, print1525_edges, print1525_intervals, print1525_reading_rows};
 pub use printing::{bytes_are_inputs, print1525_print};
 pub use program::{End, print1525_answer, print1525_names};
-pub use recordings::{print1525_readings, print1525_reprint};
+pub use recordings::{print1525_check, print1525_readings, print1525_reprint};
 pub use scripts::{print1525_script_fault, print1525_statement_lines};
 pub use stops::print1525_stop;
 

@@ -31,24 +31,25 @@ pub struct End {
 /// where `explained` is not 0, or where words ask for it.
 ///
 /// The output is at the front of the first buffer and the messages at that of the second, and the rest of each is as it was.
-/// Where one has too little room, both stay as they were.
+/// Where one has too little room, both stay as they were; and so they do with a status above `most`, whatever room they have.
 #[unsafe(no_mangle)]
 pub extern "C" fn print1525_answer(
     alloc: Global,
     words: &[u8],
     explained: u8,
+    most: u8,
     input: &[u8],
     characters: &[u8],
     output: &mut [u8],
     messages: &mut [u8],
     answer: &mut End,
 )
-    ensures tells { TellsAnswer words.now input.now characters.now output.old output.new messages.old answer.new }
+    ensures tells { TellsAnswer words.now input.now characters.now most output.old output.new messages.old answer.new }
     ensures length { length output.new ≡ length output.old }
     ensures messages { length messages.new ≡ length messages.old }
 {
     let answered = answer_line(alloc, words, explained != 0, input, characters);
-    *answer = handed(&answered, output, messages);
+    *answer = handed(&answered, most, output, messages);
 }
 
 /// Puts the names of the files that words name in the first buffer, and what the program says where the input comes from a
@@ -66,31 +67,32 @@ pub extern "C" fn print1525_names(
     ensures messages { length messages.new ≡ length messages.old }
 {
     let answered = named_files(alloc, words);
-    *answer = handed(&answered, names, messages);
+    *answer = handed(&answered, 3, names, messages);
 }
 
-/// Puts texts at the fronts of two buffers, where both have room.
-fn handed(answered: &Answered, output: &mut [u8], messages: &mut [u8]) -> End
-    ensures hands { HandsTexts answered.now.output.items answered.now.messages.items answered.now.end output.old output.new messages.old result }
+/// Puts texts at the fronts of two buffers, where the status is at most this one and both have room.
+fn handed(answered: &Answered, most: u8, output: &mut [u8], messages: &mut [u8]) -> End
+    ensures hands { HandsTexts answered.now.output.items answered.now.messages.items answered.now.end most output.old output.new messages.old result }
     ensures length { length output.new ≡ length output.old }
     ensures messages { length messages.new ≡ length messages.old }
 {
     let (fault, place, column) = numbers_of(answered.end);
+    let status = answered.end.status();
     let made = End {
-        status: 4,
+        status: usize::from(status),
         fault,
         place,
         column,
         output: answered.output.len(),
         messages: answered.messages.len(),
     };
-    if made.output > output.len() || made.messages > messages.len() {
+    if status > most {
         return made;
+    }
+    if made.output > output.len() || made.messages > messages.len() {
+        return End { status: 4, ..made };
     }
     output[..made.output].copy_from_slice(&answered.output);
     messages[..made.messages].copy_from_slice(&answered.messages);
-    End {
-        status: usize::from(answered.end.status()),
-        ..made
-    }
+    made
 }

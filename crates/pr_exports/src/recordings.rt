@@ -1,17 +1,18 @@
 //! What a recording says, as text.
 
 ghost use Rattle.std.specs.Prelude.{◌≡◌, length};
-ghost use Rattle.pr_exports.specs.Asked.{TellsReadings, TellsReprint};
-ghost use Rattle.pr_exports.specs.Giving.{GivesPages, GivesReadings};
-ghost use Rattle.pr_exports.specs.Settings.{WithShapes, shown_of, source_of, wording_of};
+ghost use Rattle.pr_exports.specs.Asked.{TellsCheck, TellsReadings, TellsReprint};
+ghost use Rattle.pr_exports.specs.Giving.{GivesCheck, GivesPages, GivesReadings};
+ghost use Rattle.pr_exports.specs.Settings.{WithShapes, check_of, shown_of, source_of, wording_of};
 
 use crate::answer::{Answer, Told, ended, give, numbered, refused, without_value};
-use crate::settings::{input_for, shapes_for, shown_for, source_for, wording_for};
+use crate::settings::{check_for, input_for, shapes_for, shown_for, source_for, wording_for};
 use pr_capture::TraceInput;
 use pr_cli::End;
 use pr_dots::Shapes;
-use pr_jobs::{ShapesFault, Watched};
-use pr_recording::{Wording, decode_over, reprint_over};
+use pr_jobs::{ShapesFault, Watched, check_as_over};
+use pr_options::CheckOutput;
+use pr_recording::{Wording, check_json_over, decode_over, reprint_over};
 use pr_render::Format;
 use std::alloc::Global;
 
@@ -48,6 +49,63 @@ fn reprint(
     let mut output = Watched::new(Vec::new(alloc));
     let made = reprint_over(alloc, &mut reader, &mut output, input, format, shapes);
     give(without_value(made), &output.into_inner(), out)
+}
+
+/// Reads a trace, and puts what is said of it at the front of a buffer.
+fn check(
+    alloc: Global,
+    bytes: &[u8],
+    input: TraceInput<'_>,
+    wanted: CheckOutput,
+    out: &mut [u8],
+) -> Told
+    ensures told { GivesCheck input.entry wanted bytes.now out.old out.new result }
+    ensures length { length out.new ≡ length out.old }
+{
+    let mut reader = Watched::new(bytes);
+    let mut output = Watched::new(Vec::new(alloc));
+    let made = match wanted {
+        CheckOutput::Report(report) => {
+            check_as_over(alloc, &mut reader, &mut output, input, report)
+        }
+        CheckOutput::Json => check_json_over(alloc, &mut reader, &mut output, input),
+    };
+    give(made, &output.into_inner(), out)
+}
+
+/// Reads a trace, and puts what `print1525 check` writes at the front of the caller's buffer: its frames with `words` 0, its
+/// story with 1, and JSON with 2. The trace is passed as to [`print1525_readings`], with its refusals.
+///
+/// The story and the JSON of a trace that is refused for its edges or its lines are in the buffer up to the fault, with
+/// code 2. With every other refusal the buffer is as it was.
+#[unsafe(no_mangle)]
+pub extern "C" fn print1525_check(
+    alloc: Global,
+    bytes: &[u8],
+    source: u8,
+    atn: &[u8],
+    clock: &[u8],
+    line: &[u8],
+    inverted: u8,
+    start: u64,
+    rate: u64,
+    words: u8,
+    out: &mut [u8],
+    answer: &mut Answer,
+)
+    ensures tells { TellsCheck (source_of source bytes.now) atn.now clock.now line.now inverted start rate (check_of words) bytes.now out.old out.new answer.new }
+    ensures length { length out.new ≡ length out.old }
+{
+    let Some(source) = source_for(source, bytes) else {
+        *answer = refused(29, 0);
+        return;
+    };
+    let Some(wanted) = check_for(words) else {
+        *answer = refused(20, 0);
+        return;
+    };
+    let input = input_for(source, atn, clock, line, inverted != 0, start, rate);
+    *answer = numbered(check(alloc, bytes, input, wanted, out));
 }
 
 /// Reads a recording, and puts what it says, as `print1525 decode` writes it, at the front of the

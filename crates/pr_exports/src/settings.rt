@@ -2,7 +2,7 @@
 
 ghost use Rattle.std.specs.Prelude.{◌≡◌, take};
 ghost use Rattle.pr_options.specs.Found.{found_source};
-ghost use Rattle.pr_exports.specs.Settings.{AsksShapes, IsInput, detail_of, device_of, form_of, format_of, mode_of, presence, rate_of, sheet_of, shown_of, source_of, stop_of, wording_of};
+ghost use Rattle.pr_exports.specs.Settings.{AsksShapes, IsInput, check_of, detail_of, device_of, form_of, format_of, mode_of, presence, rate_of, sheet_of, shown_of, source_of, stop_of, wording_of};
 
 use pr_basic::StatusMode;
 use pr_capture::{Signals, Source, TraceInput};
@@ -10,10 +10,10 @@ use pr_channels::Stop;
 use pr_characters::{CharactersFault, read_shapes};
 use pr_dots::Shapes;
 use pr_listing::ListingForm;
-use pr_options::found_source;
+use pr_options::{CheckOutput, found_source};
 use pr_recording::Wording;
 use pr_render::{Device, Format, Part};
-use pr_report::{Bounds, Detail};
+use pr_report::{Bounds, Detail, Report};
 use pr_serial::Present;
 
 /// How many bytes of a recording show its format, at most.
@@ -184,6 +184,18 @@ pub fn wording_for(number: u8) -> Option<Wording>
     match detail_for(number) {
         Some(detail) => Some(Wording::Lines(detail)),
         None => None,
+    }
+}
+
+/// What is said of a trace that is checked: 0 its frames, 1 its story, 2 JSON.
+pub fn check_for(number: u8) -> Option<CheckOutput>
+    ensures { result ≡ check_of number }
+{
+    match number {
+        0 => Some(CheckOutput::Report(Report::Frames)),
+        1 => Some(CheckOutput::Report(Report::Story)),
+        2 => Some(CheckOutput::Json),
+        _ => None,
     }
 }
 
