@@ -45,6 +45,16 @@ fn lines(text: &str) -> usize {
         .count()
 }
 
+/// What follows these parts in a text, each of which comes after the end of the one before; None where one does not come.
+fn after<'a>(text: &'a str, parts: &[&'static str]) -> Option<&'a str> {
+    let mut rest = text;
+    for part in parts {
+        let (_, more) = rest.split_once(*part)?;
+        rest = more;
+    }
+    Some(rest)
+}
+
 /// Whether this is said of a trace text.
 fn is_trace(text: &str, trace: Trace) -> bool {
     match trace {
@@ -57,7 +67,7 @@ fn is_trace(text: &str, trace: Trace) -> bool {
         } => {
             lines(text) == edges
                 && text.starts_with(start)
-                && inside.iter().all(|part| text.contains(*part))
+                && after(text, inside).is_some()
                 && text.ends_with(end)
         }
         Trace::Unsaid => text.starts_with("0 111\n"),

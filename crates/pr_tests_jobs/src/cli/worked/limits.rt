@@ -130,7 +130,7 @@ static MILLION: Row = Row {
 /// A script of a line more.
 static LINE_MORE: Row = Row {
     name: "million_statements, a line more",
-    calls: &[PAGES],
+    calls: &BOTH_CALLS,
     first: b"REM\n",
     text: REMARKS,
     times: 100_000,
@@ -140,7 +140,7 @@ static LINE_MORE: Row = Row {
 /// A script of one line, with a statement more.
 static ON_ONE_LINE: Row = Row {
     name: "million_statements, one more on a line",
-    calls: &[PAGES],
+    calls: &BOTH_CALLS,
     first: b"PRINT",
     text: b":PRINT:PRINT:PRINT:PRINT:PRINT:PRINT:PRINT:PRINT:PRINT:PRINT",
     times: 100_000,

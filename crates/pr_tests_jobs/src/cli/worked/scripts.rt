@@ -11,7 +11,7 @@ use pr_wire::example::TRACE_TEXT;
 pub enum Trace {
     /// It is this text.
     Whole(&'static str),
-    /// It has this many edges, begins with these, has these one after the other, and ends with these.
+    /// It has this many edges, begins with these, has these further on, in this order, and ends with these.
     Parts {
         edges: usize,
         start: &'static str,
