@@ -152,7 +152,7 @@ install: build lib
 docs: manual
 	@tools/faults
 	@mkdir -p out
-	@tools/trust > out/made && cp out/made docs/TRUST.md
+	@tools/trust --write
 	@tools/edits --named > out/made && cp out/made docs/WRONG_BODIES.md
 	@tools/calls --names > out/made && cp out/made tests/names.txt
 

@@ -10,12 +10,15 @@ import { useBounds } from './wire.js';
 import { keptSource, leaveSource, showFile, takeFile } from './files.js';
 import { fillMenu, FIRST, isNewAddress, keepEarlier, listingChanged, openFromMenu, own, readAddress, save, saving, store, through } from './kept.js';
 
+/** No delay number: every delay is typical. */
+const TYPICAL = [[], [], []];
+
 /** The lists of delays as numbers, or null where one is none; says so beside them. */
 export function readLists() {
-  if (state.delays !== 'lists') return [];
+  if (state.delays !== 'lists') return TYPICAL;
   const names = ['the computer', 'printer 4', 'printer 5'], lists = state.lists.map(list => {
     const parts = list.trim() ? list.split(',').map(part => part.trim()) : [];
-    return parts.every(part => /^\d{1,5}$/.test(part) && Number(part) <= 65535) ? Uint16Array.from(parts, Number) : null;
+    return parts.every(part => /^\d{1,5}$/.test(part) && Number(part) <= 65535) ? parts.map(Number) : null;
   });
   const bad = lists.indexOf(null);
   $('lists-fault').textContent = bad < 0 ? '' : `The list of ${names[bad]} must be numbers from 0 to 65535, separated by commas.`;
@@ -148,7 +151,7 @@ for (const made of all('[data-save]')) {
   made.onclick = async () => {
     const what = made.dataset.save, [ending, type] = FILES[what];
     try {
-      const bytes = await ask('text', { what, delays: state.taken || [[], [], []].map(() => new Uint16Array(0)) });
+      const bytes = await ask('text', { what, delays: state.taken || TYPICAL });
       if (bytes) download(bytes, `${(state.source?.name || 'listing').replace(/\.[^.]*$/, '')}.${ending}`, type);
     } catch (error) {
       tellFailed(error);
@@ -282,7 +285,8 @@ document.body.dataset.shows = 'script';
 
 /** Puts a listing and its choices in. */
 function put({ text, form = 'text', printers, status, delays, lists }) {
-  Object.assign(state, { form, printers, status, delays, lists });
+  // (other delays were kept by earlier pages)
+  Object.assign(state, { form, printers, status, delays: delays === 'lists' ? delays : 'typical', lists });
   leaveSource();
   showChoices();
   editor.replace(text);

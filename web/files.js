@@ -97,7 +97,7 @@ export function showFile(source) {
   print();
 }
 
-/** What the module is asked of a recording. */
+/** A recording, and how it is read. */
 export const recordingOf = ({ bytes, kind, names, inverted, start, rate }) => ({ bytes, input: kind, ...(kind === 'text' ? {} : { names, inverted, start, rate: kind === 'csv' ? rate : 0 }) });
 
 /** The signals of a dump or a table: their names, whether their levels are inverted, where the recording begins, and a table's rate. */
@@ -195,7 +195,7 @@ export function showSource(answer) {
   document.body.classList.remove('stale');
   const why = answer.code === 2 ? `It cannot be read to its end: ${answer.words}.` : answer.code > 2 ? 'Memory ran out.' : '';
   const verdict = !answer.verdict ? '' : answer.isLawful ? 'It is lawful.' : `${answer.verdict[0].toUpperCase()}${answer.verdict.slice(1)}.`;
-  tellSource(why || verdict, (answer.told || '').trimEnd());
+  tellSource(why || verdict, (answer.told || []).join('\n'));
   if (answer.svg) showPaper(decode(answer.svg)); else clearPaper();
   if (source.kind === 'raw') { showWire(null); cover('A printer\'s bytes have no trace.'); return; }
   cover('');

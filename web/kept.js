@@ -95,7 +95,7 @@ async function address() {
   const { form, printers, status, delays, lists } = state, parts = [`p=${['none', '4', '5', 'both'][printers]}`];
   if (form !== 'text') parts.push(`f=${form}`);
   if (status) parts.push('s=kept');
-  if (delays !== 'typical') parts.push(`d=${delays === 'lists' ? lists.map(list => list.replace(/\s/g, '')).join('/') : delays}`);
+  if (delays === 'lists') parts.push(`d=${lists.map(list => list.replace(/\s/g, '')).join('/')}`);
   const bytes = await through(new CompressionStream('deflate-raw'), encode(editor.text));
   parts.push(`t=${toBase64(bytes).replace(/\+/g, '-').replace(/\//g, '_').replace(/=+$/, '')}`);
   return parts.join('&');
@@ -107,11 +107,11 @@ export async function readAddress(hash) {
   if (!parts.has('t')) return null;
   try {
     const text = decode(await through(new DecompressionStream('deflate-raw'), fromBase64(parts.get('t').replace(/-/g, '+').replace(/_/g, '/'))));
-    const printers = ['none', '4', '5', 'both'].indexOf(parts.get('p')), delays = decodeURIComponent(parts.get('d') || 'typical');
-    const isWord = ['typical', 'least', 'greatest'].includes(delays);
+    const printers = ['none', '4', '5', 'both'].indexOf(parts.get('p')), delays = decodeURIComponent(parts.get('d') || '');
+    const isWord = /^[a-z]*$/.test(delays);      // (earlier pages had others)
     return {
       text, form: parts.get('f') === 'petcat' ? 'petcat' : 'text', printers: printers < 0 ? 3 : printers, status: parts.get('s') === 'kept' ? 1 : 0,
-      delays: isWord ? delays : 'lists', lists: isWord ? ['', '', ''] : [...delays.split('/'), '', ''].slice(0, 3),
+      delays: isWord ? 'typical' : 'lists', lists: isWord ? ['', '', ''] : [...delays.split('/'), '', ''].slice(0, 3),
     };
   } catch {
     tellOnce('link', 'The listing in this address cannot be read. A part of the link may be missing.');

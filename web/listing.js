@@ -75,12 +75,6 @@ export function petcatOf(file) {
 /** Whether a text seems to be petcat's: it has its heading, or a name in braces in a string. */
 export const looksPetcat = text => /^\s*;.*==[0-9a-f]{4}==\s*$/im.test(text.slice(0, 400)) || /"[^"\n]*\{(?:\d+ )?(?:[a-z][a-z0-9@*+-]*|\$[0-9a-f]{2})\}/i.test(text);
 
-/** Whether a string of a script, before its remark, has a small letter or a brace. */
-export const hasTyped = text => text.length < 200000 && /[a-z{]/.test(text) && text.split('\n').some(line => {
-  const front = /^(?:"[^"]*(?:"|$)|(?!rem)[^"])*/i.exec(line)[0];
-  return (front.match(/"[^"]*/g) || []).some((part, index) => index % 2 === 0 && /[a-z{]/.test(part));
-});
-
 /** Whether bytes are a text's: control codes are tabs and line ends alone. */
 export const isTextual = bytes => bytes.every(byte => byte >= 32 || byte === 9 || byte === 10 || byte === 13);
 

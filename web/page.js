@@ -2,7 +2,6 @@
 
 import { $, button, decode, encode } from './basics.js';
 import { Reader } from './reader.js';
-import { hasTyped } from './listing.js';
 import { partsOf, wordsAt } from './reading.js';
 import { Editor } from './editor.js';
 import { Paper } from './paper.js';
@@ -334,13 +333,12 @@ function tellStatuses(answer, words) {
   const places = unanswered.slice(0, 4).map(index => isKnown ? `${index + 1} (line ${lines[index] + 1})` : index + 1).join(', ');
   const others = unanswered.length > 4 ? ` and ${spaced(unanswered.length - 4)} more` : '';
   if (unanswered.length) words('', `Status 128, no device answered: statement ${places}${others}`);
-  tellTyped(words);
+  if (answer.isTyped && state.form === 'text') tellTyped(words);
   editor.tell(signs, titles, note);
 }
 
 /** Where strings of a script have small letters or names in braces: what they print, and the reading that has them as typed. */
 function tellTyped(words) {
-  if (state.form !== 'text' || !hasTyped(editor.text)) return;
   const hint = 'Small letters print as graphics (as capitals in the lower/upper case set), and a name in braces as its letters.';
   words('', hint).append(' ', button('Read it as petcat\'s text', () => chooseForm('petcat')));
 }

@@ -22,19 +22,13 @@ export async function openPrint1525() {
   return loadPrint1525(inflateRawSync(Buffer.from(packed, 'base64')));
 }
 
-/** Words that ask for no job, or a job that failed: what is written and where, and the exit status. */
-class NoJob extends Error {
-  constructor(status, text) {
-    super(text);
-    this.status = status;
-  }
-}
+/** A failed read or write: its line on standard error. The exit status is 3. */
+class Failed extends Error {}
 
 /** A text with its control characters escaped, as the program shows a name. */
 const shown = text => text.replace(/[\0-\x1f\x7f-\x9f]/g, sign => ({ '\t': '\\t', '\n': '\\n', '\r': '\\r' }[sign] || `\\u{${sign.charCodeAt(0).toString(16)}}`));
 
 const STANDARD_OUTPUT = ['/dev/stdout', '/dev/fd/1', '/proc/self/fd/1'];      // it is written on, and not replaced
-const CHARACTERS_LIMIT = 65536;                                               // bytes of a file of characters
 
 /** What the system says of an error, in the words of Linux, which the program has too. */
 const REASONS = {
@@ -45,8 +39,7 @@ const REASONS = {
   ELOOP: 'Too many levels of symbolic links',
 };
 
-/** A failed read or write: its line on standard error, and exit status 3. */
-const failed = words => new NoJob(3, `print1525: ${words}\n`);
+const failed = words => new Failed(`print1525: ${words}\n`);
 const failedFile = (name, error) => failed(`${shown(name)}: ${REASONS[error.code] || error.message} (os error ${-error.errno})`);
 
 /** The files of a job, read and written with Node. */
@@ -65,11 +58,10 @@ async function makeFiles() {
     }
   }
 
-  /** Reads a file to its end, or until it has more than some bytes. */
-  function readAll(file, limit = Infinity) {
+  /** Reads a file to its end. */
+  function readAll(file) {
     const parts = [], block = Buffer.allocUnsafe(65536);
-    let length = 0;
-    for (let n; length <= limit && (n = whenReady(() => fs.readSync(file, block))) > 0; length += n) parts.push(Buffer.from(block.subarray(0, n)));
+    for (let n; (n = whenReady(() => fs.readSync(file, block))) > 0;) parts.push(Buffer.from(block.subarray(0, n)));
     return new Uint8Array(Buffer.concat(parts));
   }
 
@@ -127,18 +119,16 @@ async function run(words, files) {
   const tell = text => { try { files.writeAll(2, text); } catch { /* there is nowhere to report it */ } };
   const module = await openPrint1525().catch(error => { throw failed(error.message); });
   const { status: isRefused, names: [file, name, characters], messages: waits } = module.names({ words });
-  const explained = process.env.PRINT1525_EXPLAIN === '1';
-  const isFile = name !== null && !STANDARD_OUTPUT.includes(name);
+  const place = STANDARD_OUTPUT.includes(name) ? null : name;
   const inputFailed = error => (file === null ? failed('read failed') : failedFile(file, error));
-  const outputFailed = error => (isFile ? failedFile(name, error) : failed('write failed'));
+  const outputFailed = error => (place === null ? failed('write failed') : failedFile(place, error));
   const standard = { write: bytes => files.writeAll(1, bytes), keep() {}, discard() {} };
-  const asked = { words, explained };
-  if (!isRefused) {
-    if (characters !== null) asked.characters = trying(() => files.readAll(files.open(characters), CHARACTERS_LIMIT), error => failedFile(characters, error));
-    if (file === null && process.stdin.isTTY) tell(waits);
-  }
-  const input = isRefused || file === null ? 0 : trying(() => files.open(file), inputFailed);
-  const output = isFile && !isRefused ? trying(() => files.save(name), outputFailed) : standard;
+  /** @type {import('./print1525.mjs').Asked} */
+  const asked = { words, explained: process.env.PRINT1525_EXPLAIN === '1' };
+  if (characters !== null) asked.characters = trying(() => files.readAll(files.open(characters)), error => failedFile(characters, error));
+  if (!isRefused && file === null && process.stdin.isTTY) tell(waits);
+  const input = file === null ? 0 : trying(() => files.open(file), inputFailed);
+  const output = place === null ? standard : trying(() => files.save(place), outputFailed);
   try {
     if (!isRefused) asked.input = trying(() => files.readAll(input), inputFailed);
     const { status, output: text, messages } = module.answer(asked);
@@ -157,10 +147,10 @@ async function main() {
   const files = await makeFiles();
   try {
     process.exitCode = await run(process.argv.slice(2), files);
-  } catch (fault) {
-    if (!(fault instanceof NoJob)) throw fault;
-    process.exitCode = fault.status;
-    try { files.writeAll(fault.status ? 2 : 1, Buffer.from(fault.message)); } catch { if (!fault.status) process.exitCode = 3; }
+  } catch (error) {
+    if (!(error instanceof Failed)) throw error;
+    process.exitCode = 3;
+    try { files.writeAll(2, Buffer.from(error.message)); } catch { /* there is nowhere to report it */ }
   }
 }
 

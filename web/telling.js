@@ -30,16 +30,13 @@ export function traceSoon(version, length) {
 
 async function trace(version) {
   if (version !== wanted || state.source) return;
-  const { printers, status, delays } = state, lists = readLists();
-  if (!lists) {
+  const { printers, status } = state, delays = readLists();
+  if (!delays) {
     showWire(null);
     return cover('A list of delays cannot be read, so there is no trace.');
   }
   try {
-    const answer = await ask('trace', {
-      script: encode(editor.text), form: state.form, printers, status, delays: delays === 'lists' ? lists : [[], [], []].map(() => new Uint16Array(0)),
-      extreme: delays === 'least' || delays === 'greatest' ? delays : null,
-    }, version);
+    const answer = await ask('trace', { script: encode(editor.text), form: state.form, printers, status, delays }, version);
     if (version !== wanted || state.source || !answer) return;
     traced = version;
     state.taken = answer.delays;

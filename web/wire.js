@@ -20,11 +20,34 @@ const DELAYS = {
 const boundsOf = kind => bounds[kind === 'Ei' ? 'answers' : kind] || null;
 const nameOf = kind => DELAYS[kind][0];
 
-/** Takes the bounds that the module gives. */
-export function useBounds(given) {
-  bounds = given;
-  kinds = [...Object.keys(given).slice(0, 14), 'rest'];
+/** Takes the bounds that the module gives: the least and the greatest delay of each kind, and then of the answers. */
+export function useBounds(numbers) {
+  kinds = Object.keys(DELAYS);
+  bounds = Object.fromEntries([...kinds.slice(0, -1), 'answers'].map((kind, index) => [kind, Array.from(numbers.subarray(2 * index, 2 * index + 2))]));
 }
+
+/** The numbers of a reading's row, and how a byte ends. */
+const ROW = ['end', 'endMoment', 'bits', 'byte', 'isCommand', 'readyToSend', 'readyForData', 'hasEoi', 'pulled', 'released', 'firstPull', 'lastPull',
+  'shortestLow', 'longestLow', 'shortestHigh', 'longestHigh', 'printerListens', 'textLength'];
+const ENDS = ['acknowledged', 'not acknowledged', 'ended by ATN', 'CLOCK released too long', 'cut'];
+
+/** What the lengths of an interval come to, and the intervals of a byte. */
+const FIGURES = ['count', 'least', 'middle', 'greatest', 'from', 'to', 'outside'];
+const INTERVALS = ['ready', 'first pull', 'answer', 'answer length', 'pull after answer', 'shortest low half', 'longest low half', 'shortest high half',
+  'longest high half', 'acknowledgement'];
+
+/** Rows of numbers, each by these names. */
+function rowsOf(numbers, names) {
+  return Array.from({ length: numbers.length / names.length }, (_, row) => {
+    /** @type {any} */
+    const made = {};
+    for (let i = 0; i < names.length; i++) made[names[i]] = numbers[row * names.length + i];
+    return made;
+  });
+}
+
+/** What the lengths of each interval come to, by the module's numbers. */
+export const figuresOf = numbers => rowsOf(numbers, FIGURES).map((row, index) => ({ name: INTERVALS[index], ...row }));
 
 /** Where each line of a text begins, and where the last one ends. */
 export function lineStarts(bytes) {
@@ -65,25 +88,25 @@ function dataName(byte, printerListens) {
 
 /** What is written at a reading's frame. */
 function frameName({ end, bits, byte, isCommand, printerListens }) {
-  if (end === 'acknowledged') return isCommand ? commandName(byte) : dataName(byte, printerListens);
+  if (ENDS[end] === 'acknowledged') return isCommand ? commandName(byte) : dataName(byte, printerListens);
   return bits === 8 ? `${isCommand ? 'command' : 'byte'} ${byte}` : bits === 1 ? '1 bit' : `${bits} bits`;
 }
 
 /**
- * The readings of a recording as frames: `{ look, end, kind, byte, name, eoi, fault, line }`, and the moments and lengths of
+ * The readings of a recording, as the module's rows, as frames: `{ look, end, kind, byte, name, eoi, fault, line }`, and the moments and lengths of
  * their intervals. `end` is Infinity where the recording ends before, `kind` is `command`, `data` or `glitch`, and `line` is the
  * index of a frame's own line in `text`, the bytes of all readings' lines, which is the last of its lines.
  */
-export function framesOf(readings, text) {
+export function framesOf(rows, text) {
   let from = 0, line = -1;
-  return readings.map(reading => {
-    const isHeard = reading.end === 'acknowledged', isWhole = reading.bits === 8, to = from + reading.textLength;
+  return rowsOf(rows, ROW).map(reading => {
+    const end = ENDS[reading.end], isHeard = end === 'acknowledged', isWhole = reading.bits === 8, to = from + reading.textLength;
     for (let at = text.indexOf(10, from); at >= 0 && at < to; at = text.indexOf(10, at + 1)) line++;
     from = to;
     return {
-      look: reading.readyToSend, end: reading.end === 'cut' ? Infinity : reading.endMoment, kind: !isWhole ? 'glitch' : reading.isCommand ? 'command' : 'data',
-      byte: isWhole ? reading.byte : null, name: frameName(reading), eoi: isHeard && reading.hasEoi,
-      fault: isHeard ? '' : reading.end === 'cut' ? 'cut by the end' : reading.end, line,
+      look: reading.readyToSend, end: end === 'cut' ? Infinity : reading.endMoment, kind: !isWhole ? 'glitch' : reading.isCommand ? 'command' : 'data',
+      byte: isWhole ? reading.byte : null, name: frameName(reading), eoi: isHeard && reading.hasEoi > 0,
+      fault: isHeard ? '' : end === 'cut' ? 'cut by the end' : end, line,
       ready: reading.readyForData, pulled: reading.hasEoi ? reading.pulled : null, released: reading.released, pull: reading.firstPull, last: reading.lastPull,
       bits: reading.bits, low: [reading.shortestLow, reading.longestLow], high: [reading.shortestHigh, reading.longestHigh],
     };

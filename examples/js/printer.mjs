@@ -6,6 +6,7 @@
 import { openPrint1525 } from '../../web/print1525.mjs';
 
 const GRAPHIC = 256, LOWER = 257;      // what a LISTEN selects: the graphic/upper case set, or with secondary address 7 the lower/upper case set
+const FORMATS = { list: 0, text: 1, svg: 2, png: 3, pdf: 4 };
 
 /** A VIC-1525 on an emulator's bus. */
 export class Printer {
@@ -24,9 +25,9 @@ export class Printer {
 
   /** What is on its paper: 'svg' and 'png' for a screen, 'pdf' to be printed, 'text' for a terminal. */
   paper(format = 'svg') {
-    const answer = this.module.print({ inputs: this.inputs, format, characters: this.characters });
-    if (answer.code) throw new Error(`print1525: ${this.module.words(answer)}`);
-    return answer.text;
+    const { code, fault, place, text } = this.module.print({ inputs: this.inputs, format: FORMATS[format], characters: this.characters });
+    if (code) throw new Error(code === 3 ? 'print1525: out of memory' : `print1525: fault ${fault} at ${place}`);
+    return text;
   }
 
   /** Tears the paper off. */

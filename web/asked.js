@@ -1,0 +1,38 @@
+// What the module is asked by the page's settings: the words of a command line, or the numbers in their place.
+
+const PRESENT = ['none', '4', '5', 'both'], STATUS = ['each', 'kept'], SETS = ['upper', 'lower'], SOURCES = ['text', 'vcd', 'csv'], FORMS = ['text', 'prg', 'petcat'];
+
+/** The number of a listing's form. */
+export const formNumber = form => FORMS.indexOf(form);
+
+/** A run's settings: which printers are present (4 by 1, 5 by 2, both by 3), and whether the status is kept. */
+const runWords = ({ printers = 3, status = 0 }) => ['--present', PRESENT[printers], '--status', STATUS[status]];
+
+/** The same as numbers, with the script. */
+export const runNumbers = ({ script, printers, status }) => ({ script, four: (printers & 1) > 0, five: (printers & 2) > 0, kept: status > 0 });
+
+/** The words for the pages of a run, of a listing in some form. */
+export const pagesWords = (run, as, form = 'text') => ['pages', '--from', form, ...runWords(run), '--as', as];
+
+/** The words for the trace of a run at delays: the numbers of the computer, of printer 4 and of printer 5. */
+export const busWords = (run, as) => ['bus', '--from', 'text', ...runWords(run), '--delays', Array.from(run.delays, list => list.join()).join('/'), '--as', as];
+
+/** The words for the pages of a printer's bytes. */
+export const rawWords = ({ set }, as) => ['raw', '--set', SETS[set], '--as', as];
+
+/**
+ * The words that read a recording: its format, and of a dump or a table the names of its signals, whether its levels are inverted
+ * and the microsecond at which it begins; how many samples a second a table without times has.
+ * @param {any} recording
+ */
+export function recordingWords(command, recording, as) {
+  const { input, names, inverted, start, rate } = recording;
+  const words = [command, '--from', input, '--as', as];
+  if (names) words.push(`--names=${names.join()}`, '--from-time', String(BigInt(start)));
+  if (inverted) words.push('--invert');
+  if (rate) words.push('--rate', String(BigInt(rate)));
+  return words;
+}
+
+/** The same as numbers. */
+export const recordingNumbers = ({ input, ...recording }) => ({ ...recording, source: SOURCES.indexOf(input) });
