@@ -113,8 +113,15 @@ fn explained_in_memory(rt: HostRuntime) {
     for (words, is_explained, lines) in ROWS {
         let input = b"PRINT#4,CHR$(256)\n";
         let answered = answer_in_memory(rt.alloc(), words, is_explained, input, b"");
-        let count = answered.messages.iter().filter(|byte| **byte == b'\n').count();
-        assert!(&rt; count == lines && answered.end == End::Job(BAD_BYTE), "{words:?}");
+        let count = answered
+            .messages
+            .iter()
+            .filter(|byte| **byte == b'\n')
+            .count();
+        assert!(&rt;
+            count == lines && answered.end == End::Job(BAD_BYTE),
+            "{words:?}"
+        );
     }
 }
 
@@ -129,7 +136,11 @@ fn words_as_one_text(rt: HostRuntime) {
     assert!(&rt; answered.end == End::Done && answered.output.as_slice() == PAGE.as_bytes());
     let answered = answer_line(alloc, b"print1525\0\xff", false, b"", b"");
     assert!(&rt; answered.end == End::Words && answered.output.is_empty());
-    assert!(&rt; answered.messages.starts_with(b"print1525: \\xff: not UTF-8\n"));
+    assert!(&rt;
+        answered
+            .messages
+            .starts_with(b"print1525: \\xff: not UTF-8\n")
+    );
 }
 
 /// The files that words name: the one that is read, the one that is written, and that of characters.
@@ -146,7 +157,10 @@ fn files_that_words_name(rt: HostRuntime) {
     ];
     for (words, end, names) in ROWS {
         let named = named_files(rt.alloc(), words);
-        assert!(&rt; named.end == end && named.output.as_slice() == names, "{names:?}");
+        assert!(&rt;
+            named.end == end && named.output.as_slice() == names,
+            "{names:?}"
+        );
     }
 }
 
@@ -173,6 +187,9 @@ fn words_without_a_job(rt: HostRuntime) {
         };
         assert!(&rt; found == wanted, "{words:?}");
     }
-    let is_check = matches!(read_job(rt.alloc(), &["print1525", "check"]), Ok(Job::Check(..)));
+    let is_check = matches!(
+        read_job(rt.alloc(), &["print1525", "check"]),
+        Ok(Job::Check(..))
+    );
     assert!(&rt; is_check);
 }
