@@ -7,9 +7,9 @@ ghost use Rattle.pr_cli.specs.Characters.{GivenShapes};
 
 use crate::outside::Outside;
 use crate::shown::Shown;
-use pr_jobs::{ShapesFault, Watched, read_characters};
 use pr_dots::Shapes;
 use pr_files::Noting;
+use pr_jobs::{ShapesFault, Watched, read_characters};
 use std::fs::{File, Files};
 use std::io::{Error, Read};
 

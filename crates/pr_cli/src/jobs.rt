@@ -9,11 +9,11 @@ ghost use Rattle.pr_cli.specs.Jobs.{AnswersFrames, AnswersJob, AnswersRecording,
 use pr_basic::StatusMode;
 use pr_bus::Delays;
 use pr_capture::{Source, TraceFormat, TraceInput};
+use pr_dots::Shapes;
 use pr_jobs::{
     CliFault, Ending, Watched, bus_as_over, bus_over, check_as_over, check_over, pages_as_over,
     pages_over, raw_over,
 };
-use pr_dots::Shapes;
 use pr_options::{CheckOutput, DecodeOutput, Job, PagesOutput, found_source};
 use pr_recording::{
     Heard, Wording, bytes_over, check_json_over, decode_json_over, decode_over, reprint_over,
@@ -176,9 +176,7 @@ fn print_run<R: Read, W: Write>(
 {
     match wanted {
         PagesOutput::Pages(format) => {
-            let ending = print_pages(
-                alloc, input, output, present, delays, mode, format, shapes,
-            )?;
+            let ending = print_pages(alloc, input, output, present, delays, mode, format, shapes)?;
             Ok(Answer::Ended(ending))
         }
         PagesOutput::Bytes(device) => {
@@ -218,9 +216,7 @@ fn print_pages<R: Read, W: Write>(
 {
     match format {
         Format::List => pages_over(alloc, input, output, present, delays, mode),
-        _ => pages_as_over(
-            alloc, input, output, present, delays, mode, format, shapes,
-        ),
+        _ => pages_as_over(alloc, input, output, present, delays, mode, format, shapes),
     }
 }
 

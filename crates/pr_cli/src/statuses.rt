@@ -67,7 +67,13 @@ impl End {
         ensures { result ≡ refusal_end fault.now }
     {
         match fault {
-            JobFault::Line(error) => { if error.use_stderr() { End::Words } else { End::Done } }
+            JobFault::Line(error) => {
+                if error.use_stderr() {
+                    End::Words
+                } else {
+                    End::Done
+                }
+            }
             JobFault::NoMemory => End::Job(CliFault::NoMemory),
             _ => End::Words,
         }

@@ -6,10 +6,10 @@ ghost use Rattle.pr_basic.specs.Limits.{statement_limit};
 use pr_basic::{ScriptFault, Statement, StatusMode, cut_line, read_script};
 use pr_bus::Delays;
 use pr_capture::{Source, TraceInput};
-use pr_jobs::{CliFault, Ending, PictureFault};
 use pr_explain::{
     explain_line, explain_reading, explain_script, explain_stop, explain_trace, remark_on,
 };
+use pr_jobs::{CliFault, Ending, PictureFault};
 use pr_listing::{
     ListingFault, ListingForm, TextFault, has_typed_strings, looks_like_disk, looks_like_text,
     looks_saved,
