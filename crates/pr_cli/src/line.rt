@@ -40,6 +40,19 @@ pub fn answer_line(
     let Ok(text) = str::from_utf8(line) else {
         return refused_line(alloc, line);
     };
+    answer_text(alloc, text, is_explained, input, characters)
+}
+
+/// Does the same with words that are UTF-8.
+fn answer_text(
+    alloc: Global,
+    text: &str,
+    is_explained: bool,
+    input: &[u8],
+    characters: &[u8],
+) -> Answered
+    ensures { AnswersLine text.now input.now characters.now result.output.items result.end }
+{
     match words_in(alloc, text) {
         Ok(words) => answer_in_memory(alloc, words.as_slice(), is_explained, input, characters),
         Err(AllocError) => no_memory(alloc),
