@@ -6,6 +6,7 @@ use Rattle.clap.specs.Words.{Text}
 use Rattle.pr_dots.specs.declared.character_sets.Shapes.{Shapes}
 use Rattle.pr_options.specs.Jobs.{IsRefused, TaskView, asked, task_view}
 use Rattle.pr_options.specs.declared.command_line.JobFault.{JobFault}
+use Rattle.pr_options.specs.declared.command_line.JobFault.TheVariants.{NoMemory}
 use Rattle.pr_options.specs.declared.command_line.Task.{Task}
 use Rattle.pr_cli.specs.Characters.{GivenShapes}
 use Rattle.pr_jobs.specs.declared.characters.ShapesFault.{ShapesFault}
@@ -38,14 +39,18 @@ AnswersWords words input characters output end =
 -- the same of words as one text; those that are not UTF-8 are refused
 abbrev pub AnswersLine : (line input characters : List ℕ) → (output : List ℕ) → End → Type 0
 AnswersLine line input characters output end =
-    AnswersWords (words_in line) input characters output end
+    (IsUtf8 line × AnswersWords (words_in line) input characters output end)
     ⊎ ((IsUtf8 line → ⊥) × (end ≡ Words) × (output ≡ []))
+
+-- the names of the files of the task that words ask for; or they ask for none; or memory was refused, and nothing is written
+abbrev pub NamesFiles : List Text → (output : List ℕ) → End → Type 0
+NamesFiles words output end =
+    ((task : TaskView) × (asked (meant words) ≡ Some (Ok task)) × (output ≡ names_part task) × (end ≡ Done))
+    ⊎ ((fault : JobFault) × IsRefused (meant words) fault × (fault ≢ NoMemory) × (output ≡ []) × (end ≡ Words))
     ⊎ IsUntold output end
 
--- the names of the files of the task that words ask for; or they ask for none
-abbrev pub NamesFiles : (line : List ℕ) → (output : List ℕ) → End → Type 0
-NamesFiles line output end =
-    ((task : TaskView) × (asked (meant (words_in line)) ≡ Some (Ok task)) × (output ≡ names_part task) × (end ≡ Done))
-    ⊎ ((fault : JobFault) × IsRefused (meant (words_in line)) fault × (output ≡ []) × (end ≡ Words))
+-- the same of words as one text; those that are not UTF-8 ask for none
+abbrev pub NamesFilesOfLine : (line : List ℕ) → (output : List ℕ) → End → Type 0
+NamesFilesOfLine line output end =
+    (IsUtf8 line × NamesFiles (words_in line) output end)
     ⊎ ((IsUtf8 line → ⊥) × (output ≡ []) × (end ≡ Words))
-    ⊎ IsUntold output end

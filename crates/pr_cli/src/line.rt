@@ -2,7 +2,7 @@
 
 ghost use Rattle.std.specs.Prelude.{◌≡◌, ◌++◌, [], map, option_map, IfOk, OnOk};
 ghost use Rattle.pr_options.specs.Jobs.{task_view};
-ghost use Rattle.pr_cli.specs.Answered.{AnswersLine, IsUntold, NamesFiles};
+ghost use Rattle.pr_cli.specs.Answered.{AnswersLine, AnswersWords, IsUntold, NamesFiles, NamesFilesOfLine};
 ghost use Rattle.pr_cli.specs.Words.{name_part, names_part, words_in};
 ghost use Rattle.pr_cli.specs.declared.statuses.End.TheVariants as end;
 
@@ -51,7 +51,7 @@ fn answer_text(
     input: &[u8],
     characters: &[u8],
 ) -> Answered
-    ensures { AnswersLine text.now input.now characters.now result.output.items result.end }
+    ensures { AnswersWords (words_in text.now) input.now characters.now result.output.items result.end }
 {
     match words_in(alloc, text) {
         Ok(words) => answer_in_memory(alloc, words.as_slice(), is_explained, input, characters),
@@ -111,7 +111,7 @@ fn names_of(alloc: Global, task: &Task<'_>) -> Result<Vec<u8>, AllocError>
 /// messages are what is said where the input comes from a terminal. It ends with [`End::Done`]; with [`End::Words`] where words
 /// ask for no task, of which [`answer_line`] says why, and with lack of memory where memory was refused.
 pub fn named_files(alloc: Global, line: &[u8]) -> Answered
-    ensures { NamesFiles line.now result.output.items result.end }
+    ensures { NamesFilesOfLine line.now result.output.items result.end }
 {
     let Ok(text) = str::from_utf8(line) else {
         return Memory::new(alloc).answered(End::Words, Vec::new(alloc));
@@ -121,7 +121,7 @@ pub fn named_files(alloc: Global, line: &[u8]) -> Answered
 
 /// The names of the files that the words of a text name.
 fn named_in(alloc: Global, text: &str) -> Answered
-    ensures { NamesFiles text.now result.output.items result.end }
+    ensures { NamesFiles (words_in text.now) result.output.items result.end }
 {
     let memory = Memory::new(alloc);
     match named(&memory, text) {
@@ -132,7 +132,7 @@ fn named_in(alloc: Global, text: &str) -> Answered
 
 /// How it ends, and the names of files.
 fn named(memory: &Memory, text: &str) -> Result<(End, Vec<u8>), AllocError>
-    ensures { IfOk result (λ named. NamesFiles text.now named.1.items named.0) }
+    ensures { IfOk result (λ named. NamesFiles (words_in text.now) named.1.items named.0) }
 {
     let alloc = memory.alloc();
     let words = words_in(alloc, text)?;

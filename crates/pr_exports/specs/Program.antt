@@ -1,7 +1,6 @@
--- Trusted: what the program's two calls answer, and what they leave in the first buffer. Of the messages only their length
--- is told.
+-- Trusted: what the program's two calls answer, and what they leave in the first buffer. The messages may be any text.
 use Rattle.std.specs.Prelude.{◌≡◌, ◌⊎◌, ◌≤◌, ◌<◌, ℕ, List, ◌++◌, length, drop}
-use Rattle.pr_cli.specs.Answered.{AnswersLine, NamesFiles}
+use Rattle.pr_cli.specs.Answered.{AnswersLine, NamesFilesOfLine}
 use Rattle.pr_cli.specs.Statuses.{status_of}
 use Rattle.pr_cli.specs.declared.statuses.End.{End as Ending}
 use Rattle.pr_exports.specs.Faults.{numbers_of}
@@ -34,5 +33,5 @@ TellsAnswer words input characters most old new said answer =
 -- the names of the files that words name
 abbrev pub TellsNames : (words : List ℕ) → (old new said : List ℕ) → End → Type 0
 TellsNames words old new said answer =
-    (output messages : List ℕ) × (end : Ending) × NamesFiles words output end
+    (output messages : List ℕ) × (end : Ending) × NamesFilesOfLine words output end
     × HandsTexts output messages end 3 old new said answer
