@@ -1,4 +1,5 @@
 pub mod Given
+pub mod InputTexts
 pub mod Inputs
 pub mod InputNumbers
 pub mod Backs

@@ -116,10 +116,9 @@ wording_of number = if number == 4 then Some Json else option_map (λ detail. Li
 
 -- what is said of a trace that is checked: its frames, its story, or JSON
 abbrev pub check_of : ℕ → Option CheckOutput
-check_of 0 = Some (Reported Frames)
-check_of 1 = Some (Reported Story)
-check_of 2 = Some check.Json
-check_of _ = None
+check_of number =
+    if number == 0 then Some (Reported Frames)
+    else (if number == 1 then Some (Reported Story) else (if number == 2 then Some check.Json else None))
 
 -- the samples in a second that are said of a table, if they are
 abbrev pub rate_of : ℕ → Option ℕ
