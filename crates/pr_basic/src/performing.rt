@@ -244,6 +244,9 @@ fn perform_begun<S: Serial>(
 ///   after that one a line feed where the channel number is 128 or more.
 /// - CLOSE takes the file out of the table, and closes the channel at its device where it has a
 ///   secondary address.
+/// - CMD and PRINT# stop with DEVICE NOT PRESENT where the status is 128 after the LISTEN. In a run
+///   that is where the LISTEN or the byte directly before it is not answered (where the status is
+///   kept: the LISTEN or any item before it).
 /// - A stop sends UNLISTEN where a device of the bus is the output device, makes the screen the
 ///   output device and the channel number 0.
 ///

@@ -38,6 +38,7 @@ pub const RAW_LIMIT: usize = 4_294_967_295;
 /// - [`CliFault::NoMemory`]: memory was refused.
 ///
 /// After every error but `WriteFailed` nothing has been written.
+#[inline(never)]
 pub fn raw_over<R: Read, W: Write>(
     alloc: Global,
     input: &mut Watched<R>,

@@ -41,6 +41,7 @@ use std::io::{Read, Write};
 /// With one of the first three the story up to there has been written, without `lawful`. After every
 /// other error but `WriteFailed`, and of [`Report::Frames`] also with these three, nothing has been
 /// written.
+#[inline(never)]
 pub fn check_as_over<R: Read, W: Write>(
     alloc: Global,
     input: &mut Watched<R>,

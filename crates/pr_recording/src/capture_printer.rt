@@ -8,8 +8,8 @@ ghost use Rattle.pr_recording.specs.Copied.{CopiesMore, EndsCopy, HasCopied, Pri
 use crate::decode_report::stop_at;
 use crate::observer::Observer;
 use crate::printer_pair::{PrintedPages, PrinterPair};
-use pr_jobs::CliFault;
 use pr_decode::{GoesBack, Reading, readings_add_up};
+use pr_jobs::CliFault;
 use pr_page::NoMemory;
 use pr_report::Oddities;
 use pr_wire::Edge;

@@ -12,11 +12,11 @@ ghost use Rattle.pr_recording.specs.Narrated.{AnswersTold, EndsNarrated, GivesUp
 use crate::decode_report::{DecodeReport, Ended};
 use crate::wording::Wording;
 use pr_capture::TraceInput;
+use pr_decode::readings_add_up;
 use pr_jobs::{
     BLOCK, CHECK_LIMIT, CliFault, InputReader, Watched, WriteFault, read_edges_come_first,
     write_piece, write_whole,
 };
-use pr_decode::readings_add_up;
 use pr_report::Oddities;
 use std::alloc::{AllocError, Global};
 use std::io::{Read, Write};

@@ -13,10 +13,10 @@ ghost use Rattle.pr_recording.specs.Pages.{AnswersPages, IsReprintFault, ReadsPa
 use crate::capture_printer::{CapturePrinter, Printed};
 use crate::printer_pair::PrintedPages;
 use pr_capture::TraceInput;
+use pr_dots::Shapes;
 use pr_jobs::{
     BLOCK, CliFault, InputReader, Watched, WriteFault, read_edges_come_first, text_in_format,
 };
-use pr_dots::Shapes;
 use pr_page::Sequence;
 use pr_render::Format;
 use pr_report::Oddities;
