@@ -44,7 +44,7 @@ pub extern "C" fn print1525_answer(
     messages: &mut [u8],
     answer: &mut End,
 )
-    ensures tells { TellsAnswer words.now input.now characters.now most output.old output.new messages.old answer.new }
+    ensures tells { TellsAnswer words.now input.now characters.now most output.old output.new messages.old messages.new answer.new }
     ensures length { length output.new ≡ length output.old }
     ensures messages { length messages.new ≡ length messages.old }
 {
@@ -62,7 +62,7 @@ pub extern "C" fn print1525_names(
     messages: &mut [u8],
     answer: &mut End,
 )
-    ensures tells { TellsNames words.now names.old names.new messages.old answer.new }
+    ensures tells { TellsNames words.now names.old names.new messages.old messages.new answer.new }
     ensures length { length names.new ≡ length names.old }
     ensures messages { length messages.new ≡ length messages.old }
 {
@@ -72,7 +72,7 @@ pub extern "C" fn print1525_names(
 
 /// Puts texts at the fronts of two buffers, where the status is at most this one and both have room.
 fn handed(answered: &Answered, most: u8, output: &mut [u8], messages: &mut [u8]) -> End
-    ensures hands { HandsTexts answered.now.output.items answered.now.messages.items answered.now.end most output.old output.new messages.old result }
+    ensures hands { HandsTexts answered.now.output.items answered.now.messages.items answered.now.end most output.old output.new messages.old messages.new result }
     ensures length { length output.new ≡ length output.old }
     ensures messages { length messages.new ≡ length messages.old }
 {
