@@ -16,8 +16,11 @@
 # make docs         makes anew what is made of sources without a proof: docs/TRUST.md, docs/WRONG_BODIES.md, tests/names.txt, the faults
 #                   of include/faults.txt in the header and the wrappers, and what make manual makes; make test says if they differ
 # make manual       makes the manual page and the completions anew from the program's help
-# make dist         packs all that make install copies, the page in the browser, examples, cases and documents as
-#                   out/print1525-VERSION-x86_64-linux.tar.gz with its SHA-256: of one commit always the same bytes
+# make dist         packs an archive for each platform of docs/PLATFORMS.md, and the library as one C file: program, library, page in the
+#                   browser, examples, cases and documents, as out/print1525-VERSION-PLATFORM.tar.gz or .zip with its SHA-256: of one
+#                   commit always the same bytes
+# make test-more    tests that are not in the gate since they take long or need further packages: the archives' programs and libraries as
+#                   users of other platforms run them (tests/platforms, docs/PLATFORMS.md)
 
 SHELL := /bin/bash
 export PYTHONDONTWRITEBYTECODE := 1
@@ -42,7 +45,14 @@ PARTS := $(foreach crate,$(PART_CRATES),crates/$(crate)/out/lib$(crate).a)
 # What the program and the tests are built from.
 SOURCES := crates.txt $(shell find crates -path '*/out' -prune -o \( -name '*.rt' -o -name '*.antt' \) -print)
 
-.PHONY: run try build test outside cases edits bench peer lib web web-test install docs manual dist
+# What is made for other platforms (tools/port): of the LLVM modules of these crates.
+PORT := out/port
+LLVM := $(PORT)/llvm
+LLVM_MODULES := $(foreach crate,$(PART_CRATES) print1525,$(LLVM)/$(crate).ll)
+PLATFORMS := aarch64-linux riscv64-linux x86_64-windows arm64-macos x86_64-macos
+PORTED := $(foreach platform,$(PLATFORMS),$(PORT)/$(platform)/made) $(PORT)/universal/made $(PORT)/c/print1525.c
+
+.PHONY: run try build test outside cases edits bench peer lib web web-test install docs manual ports dist test-more
 
 run: build
 	@$(PROGRAM) pages < examples/hello.bas
@@ -119,17 +129,18 @@ web: $(MODULE)
 	@if git diff --quiet HEAD -- web/print1525.html; then echo 'web/print1525.html is the committed file.'; else \
 		echo 'web/print1525.html is another file than the committed one.'; exit 1; fi
 
-$(MODULE): $(SOURCES) tools/crates.py web/module
+$(MODULE): $(SOURCES) tools/crates.py tools/llvm.py web/module
 	@mkdir -p $(@D)
 	web/module $@
 
-# Needs chromium, firefox-esr, webkit2gtk-driver, xvfb, nodejs and node-typescript (Debian's packages); the pictures of the page are
+# Needs chromium, firefox-esr, webkit2gtk-driver, xvfb, nodejs, npm and node-typescript (Debian's packages); the pictures of the page are
 # left in out/web, to be looked at.
 web-test: build
 	@tsc -p web
 	@web/compare $(PROGRAM) web/print1525.html 40
 	@web/test --program $(PROGRAM)
 	@web/compare-node $(PROGRAM)
+	@web/test-package
 
 install: build lib
 	install -d $(DESTDIR)$(PREFIX)/bin $(DESTDIR)$(PREFIX)/include $(DESTDIR)$(PREFIX)/lib/pkgconfig $(DESTDIR)$(PREFIX)/share/man/man1
@@ -159,5 +170,29 @@ docs: manual
 manual:
 	@tools/manual
 
+$(LLVM_MODULES) &: $(SOURCES) tools/crates.py tools/llvm.py tools/port/modules
+	@tools/port/modules $(LLVM) $(PART_CRATES) print1525
+
+PORT_TOOLS := $(LLVM_MODULES) tools/llvm.py $(wildcard tools/port/*) $(wildcard include/*.[ch])
+
+$(PORT)/universal/made: $(PORT)/arm64-macos/made $(PORT)/x86_64-macos/made
+	@tools/port/build.py universal $(PORT)/arm64-macos $(PORT)/x86_64-macos $(@D) && touch $@
+
+$(PORT)/%/made: $(PORT_TOOLS)
+	@tools/port/build.py $* $(LLVM) $(@D) && touch $@
+
+$(PORT)/c/print1525.c: $(PORT_TOOLS)
+	@mkdir -p $(@D)
+	@tools/port/amalgamation $(LLVM) $@
+
+ports: $(PORTED)
+
+# The gate makes and tests what is for x86-64 Linux; the rest is made of the same proved crates, four at a time.
 dist: build lib
+	@$(MAKE) --no-print-directory -j4 ports
 	@tools/dist $(VERSION) out
+
+# Others belong here that take long, or need packages that few have.
+test-more: build
+	@$(MAKE) --no-print-directory -j4 ports
+	@tests/platforms

@@ -317,8 +317,7 @@ typedef struct {
  * Reads: a script of at most 16,777,216 bytes; present, mode, from, page, printer, sheet, the delays (which change no
  * page) and characters.
  * Gives: the text that `print1525 pages` writes. Status 1 comes with the BASIC error that stopped the run; what was
- * printed until then is in the text. A script that stopped runs three times: once more to find the error, and once
- * more to write the text.
+ * printed until then is in the text.
  * Refuses: present (22), mode (23) and page with printer and sheet (24), in this order: SVG and PNG show any part of
  * the pages, PDF one printer, and the others all of them; characters, by their first bad line (52); from (60) and a
  * listing, as print1525_listing; a script above the limit (9), or by its first fault (1 to 7); after the run a sheet
@@ -381,12 +380,12 @@ PRINT1525_CALL int print1525_check(const void *trace, size_t length, const print
 
 /* Reads a recording of any bus, wherever it begins, and gives what it says.
  *
- * Reads: a recording: a trace text, or a dump or a table by recording, atn, clock, data, inverted, start and rate;
- * words, a list or JSON, and of a list intervals and bounds.
+ * Reads: a recording of at most 1,099,511,627,776 bytes: a trace text, or a dump or a table by recording, atn, clock,
+ * data, inverted, start and rate; words, a list or JSON, and of a list intervals and bounds (of JSON neither is read).
  * Gives: the text that `print1525 decode` writes.
- * Refuses: words with intervals and bounds (20), recording with inverted (29); and a recording by its first fault: a
- * bad line (8), an edge earlier than the one before it (12), or a line of a dump or a table (31 to 49, 70 to 77). What
- * comes before the fault is given. */
+ * Refuses: words with intervals and bounds (20), recording with inverted (29); a recording above the limit (9), or by
+ * its first fault: a bad line (8), an edge earlier than the one before it (12), or a line of a dump or a table (31 to
+ * 49, 70 to 77). What comes before the fault is given. */
 PRINT1525_CALL int print1525_readings(const void *recording, size_t length, const print1525_settings *settings,
                                       void *buffer, size_t capacity, print1525_details *details);
 
@@ -395,8 +394,9 @@ PRINT1525_CALL int print1525_readings(const void *recording, size_t length, cons
  * Reads: a recording, as print1525_readings; page, printer, sheet and characters.
  * Gives: the text that `print1525 decode --as text` and the others write, with page as its format.
  * Refuses: recording with inverted (29), page with printer and sheet (24), in this order; characters, by their first
- * bad line (52); a recording, as print1525_readings, with the pages of what comes before the fault; and a picture (50,
- * 51), as print1525_pages. */
+ * bad line (52); a recording of more than 4,000,000,000 bytes (9); a picture (50, 51), as print1525_pages,
+ * also where the recording has a fault too; and a recording, as print1525_readings, with the pages of what comes before the
+ * fault. */
 PRINT1525_CALL int print1525_reprint(const void *recording, size_t length, const print1525_settings *settings,
                                      void *buffer, size_t capacity, print1525_details *details);
 
@@ -760,10 +760,10 @@ PRINT1525_OWN_SIZE(print1525_region, 32);
  *
  * The program as a function: words with a byte 0 between each two in, and what it writes and says out. */
 typedef struct {
-    size_t status; /* the program's exit status: above `most` the buffers stay as they were; 4: one is too small */
-    size_t fault;  /* one of enum print1525_fault, or 54: the words ask for nothing; 0 with statuses 0 and 1 */
+    size_t status; /* the program's exit status: above `most` the output is not written; 4: its buffer is too small */
+    size_t fault;  /* one of enum print1525_fault, or 54: the words ask for nothing; 0 with status 0 */
     size_t place, column;
-    size_t output, messages; /* how many bytes they have */
+    size_t output, messages; /* how many bytes they have; messages without room are not written */
 } print1525_plain_end;
 
 void print1525_plain_answer(const uint8_t *words, size_t words_length, uint8_t explained, uint8_t most,
@@ -773,14 +773,12 @@ void print1525_plain_answer(const uint8_t *words, size_t words_length, uint8_t e
 
 /* What a call with numbers answers. */
 typedef struct {
-    size_t code;   /* 0 done, 1 stopped, 2 refused, 3 out of memory, 4 the buffer is too small */
-    size_t fault;  /* of codes 1 and 2 one of enum print1525_fault */
-    size_t place;
+    size_t code;   /* 0 done, 1 a run that a BASIC error stopped, 2 refused, 3 out of memory, 4 the buffer is too small */
+    size_t fault;  /* of code 2 one of enum print1525_fault, of code 1 100 and the number of the error */
+    size_t place;  /* of code 1 the statement */
     size_t length; /* with the faults 63 and 64 the column */
 } print1525_plain_numbers;
 
-void print1525_plain_stop(const uint8_t *script, size_t script_length, uint8_t four, uint8_t five, uint8_t kept,
-                          print1525_plain_numbers *answer);
 void print1525_plain_listing(const uint8_t *bytes, size_t bytes_length, uint8_t form, uint8_t *buffer, size_t capacity,
                              print1525_plain_numbers *answer);
 void print1525_plain_print(const uint16_t *inputs, size_t inputs_length, uint8_t format, uint8_t device,
@@ -1164,10 +1162,10 @@ PRINT1525_OWN print1525_plain_numbers print1525_own_no(size_t fault) {
     return answer;
 }
 
-/* Does what the program does with the words of the settings and this input. The buffer is written with exit statuses up
- * to `most`. */
-PRINT1525_OWN print1525_plain_numbers print1525_own_asked(const print1525_own_call *call, int of, uint8_t most,
-                                                          const uint8_t *input, size_t length, size_t capacity) {
+/* Does what the program does with the words of the settings and this input. The buffer is written where the program is
+ * done, or a BASIC error stops the run. */
+PRINT1525_OWN print1525_plain_numbers print1525_own_asked(const print1525_own_call *call, int of, const uint8_t *input,
+                                                          size_t length, size_t capacity) {
     const print1525_settings *const s = &call->settings;
     print1525_plain_numbers answer = {3, 0, 0, 0};
     print1525_plain_end end;
@@ -1184,7 +1182,7 @@ PRINT1525_OWN print1525_plain_numbers print1525_own_asked(const print1525_own_ca
     }
     /* (No file of characters of more bytes is good, and its first bad line is in front of them.) */
     print1525_plain_answer(PRINT1525_OWN_AS(const uint8_t *, PRINT1525_OWN_AS(const void *, words.text)), words.length,
-                           0, most, input, length, PRINT1525_OWN_AS(const uint8_t *, call->characters),
+                           0, 1, input, length, PRINT1525_OWN_AS(const uint8_t *, call->characters),
                            s->characters_length < 65536 ? s->characters_length : 65536,
                            PRINT1525_OWN_AS(uint8_t *, call->buffer), capacity, nothing, 0, &end);
     free(many);
@@ -1200,8 +1198,6 @@ PRINT1525_OWN print1525_plain_numbers print1525_own_asked(const print1525_own_ca
 PRINT1525_OWN print1525_plain_numbers print1525_own_run(const print1525_own_call *call, int of, const void *input,
                                                         size_t length, size_t capacity) {
     const print1525_settings *const s = &call->settings;
-    const uint8_t *const bytes = PRINT1525_OWN_AS(const uint8_t *, input);
-    print1525_plain_numbers answer, stop;
     if (of == PRINT1525_OWN_RAW) {
         if (s->set > PRINT1525_SET_LOWER) return print1525_own_no(PRINT1525_FAULT_NO_SUCH_SET);
     } else {
@@ -1212,25 +1208,13 @@ PRINT1525_OWN print1525_plain_numbers print1525_own_run(const print1525_own_call
     if (of != PRINT1525_OWN_BUS && s->page < PRINT1525_PAGE_SVG && s->characters_length > 0) {
         const uint16_t no_input = 0;
         uint8_t nothing[1];
+        print1525_plain_numbers answer;
         print1525_plain_print(&no_input, 0, s->page, s->printer, s->sheet,
                               PRINT1525_OWN_AS(const uint8_t *, call->characters), s->characters_length, nothing, 0,
                               &answer);
         if (answer.code == 2 || answer.code == 3) return answer;
     }
-    answer = print1525_own_asked(call, of, 0, bytes, length, capacity);
-    if (answer.code != 1) return answer;
-    /* The buffer is written when the BASIC error is known, for which there may be no memory. */
-    stop.code = 4;
-    if (answer.length <= capacity)
-        print1525_plain_stop(bytes, length, s->present & 1, PRINT1525_OWN_AS(uint8_t, s->present >> 1), s->mode, &stop);
-    if (stop.code == 1) {
-        answer = print1525_own_asked(call, of, 1, bytes, length, capacity);
-        answer.fault = stop.fault;
-        answer.place = stop.place;
-    } else {
-        answer.code = stop.code;
-    }
-    return answer;
+    return print1525_own_asked(call, of, PRINT1525_OWN_AS(const uint8_t *, input), length, capacity);
 }
 
 /* The text of a script that a listing has, in memory for free(), with its length in the answer; or NULL, and the answer

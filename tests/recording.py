@@ -1,5 +1,5 @@
 #!/usr/bin/env python3
-"""tests/recording.py SEED [--guide]: a made recording of a bus as a C64's KERNAL and its devices drive it, as a trace text.
+"""tests/recording.py SEED [--guide] | --prints TEXT: a made recording of a bus as a C64's KERNAL and its devices drive it, as a trace text.
 
 It is no trace of the profile: ATN is pulled 20 microseconds before CLOCK, DATA is set after CLOCK's pull, a bit takes 60 to 90
 microseconds, and listeners hold DATA for up to 20 ms. Before UNLISTEN the KERNAL lets CLOCK go, as if it sent one more byte. Some
@@ -7,7 +7,8 @@ recordings begin or end in the middle of a transfer; in some a byte is given up,
 some talkers set DATA before CLOCK's first pull. The same seed makes the same recording.
 
 In some bits CLOCK is released for 18 microseconds; with --guide for 20, as the Programmer's Reference Guide's table of the bus wants
-it, and then all intervals of a byte are within that table's bounds where no byte is given up."""
+it, and then all intervals of a byte are within that table's bounds where no byte is given up. With --prints printer 4 is alone on
+the bus and gets a text and a carriage return, without a flaw and within the guide's bounds."""
 
 import os
 import sys
@@ -285,10 +286,29 @@ class Session:
         return edges
 
 
-def main():
+def printing(text):
+    """The edges of a session in which printer 4 gets a text and a carriage return."""
+    session = Session(1525, 20)
+    session.devices, session.sets_data_early, session.is_flawed = [4], False, False
+    session.attention(LISTEN + 4)
+    for value in text + b"\r":
+        session.now += session.chance.within(80, 900)
+        session.send(COMPUTER, session.listeners, value, value == 13)
+    session.attention(UNLISTEN)
+    return session.wires.edges()
+
+
+def made():
+    """The recording that the words ask for."""
+    if sys.argv[1] == "--prints":
+        return printing(sys.argv[2].encode("ascii"))
     session = Session(int(sys.argv[1]), 20 if "--guide" in sys.argv else 18)
+    return session.part(session.run())
+
+
+def main():
     try:
-        for time, levels in session.part(session.run()):
+        for time, levels in made():
             print(time, levels)
         sys.stdout.flush()
     except BrokenPipeError:  # `head` has what it wants

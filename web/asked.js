@@ -8,9 +8,6 @@ export const formNumber = form => FORMS.indexOf(form);
 /** A run's settings: which printers are present (4 by 1, 5 by 2, both by 3), and whether the status is kept. */
 const runWords = ({ printers = 3, status = 0 }) => ['--present', PRESENT[printers], '--status', STATUS[status]];
 
-/** The same as numbers, with the script. */
-export const runNumbers = ({ script, printers, status }) => ({ script, four: (printers & 1) > 0, five: (printers & 2) > 0, kept: status > 0 });
-
 /** The words for the pages of a run, of a listing in some form. */
 export const pagesWords = (run, as, form = 'text') => ['pages', '--from', form, ...runWords(run), '--as', as];
 
@@ -26,8 +23,9 @@ export const rawWords = ({ set }, as) => ['raw', '--set', SETS[set], '--as', as]
  * @param {any} recording
  */
 export function recordingWords(command, recording, as) {
-  const { input, names, inverted, start, rate } = recording;
+  const { input, bounds, names, inverted, start, rate } = recording;
   const words = [command, '--from', input, '--as', as];
+  if (bounds === 'guide' && command === 'decode' && as === 'list') words.push('--bounds', bounds);
   if (names) words.push(`--names=${names.join()}`, '--from-time', String(BigInt(start)));
   if (inverted) words.push('--invert');
   if (rate) words.push('--rate', String(BigInt(rate)));
@@ -35,4 +33,4 @@ export function recordingWords(command, recording, as) {
 }
 
 /** The same as numbers. */
-export const recordingNumbers = ({ input, ...recording }) => ({ ...recording, source: SOURCES.indexOf(input) });
+export const recordingNumbers = ({ input, bounds, ...recording }) => ({ ...recording, source: SOURCES.indexOf(input), detail: bounds === 'guide' ? 2 : 0 });

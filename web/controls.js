@@ -3,12 +3,14 @@
 import './inside.js';
 import './printed.js';
 import { CODES } from './reading.js';
-import { $, all, decode, encode, fromBase64 } from './basics.js';
-import { ask, editor, fillReader, hasWebAssembly, notice, paper, print, readers, state, tellBriefly, tellFailed, wave } from './page.js';
+import { $, all, button, decode, encode, fromBase64 } from './basics.js';
+import { ask, editor, fillReader, hasWebAssembly, notice, openModule, paper, print, readers, state, tellBriefly, tellFailed, wave } from './page.js';
 import { cover } from './telling.js';
 import { useBounds } from './wire.js';
-import { keptSource, leaveSource, showFile, takeFile } from './files.js';
-import { fillMenu, FIRST, isNewAddress, keepEarlier, listingChanged, openFromMenu, own, readAddress, save, saving, store, through } from './kept.js';
+import { keptSource, leaveSource, showFile, takeFile, takeFiles } from './files.js';
+import { keptCharacters } from './characters.js';
+import { showCards } from './cards.js';
+import { embedded, fillMenu, FIRST, isNewAddress, keepEarlier, listingChanged, openFromMenu, own, readAddress, save, saving, store, through } from './kept.js';
 
 /** No delay number: every delay is typical. */
 const TYPICAL = [[], [], []];
@@ -35,6 +37,8 @@ export function showChoices() {
     if (form.elements[name].value !== state.lists[index]) form.elements[name].value = state.lists[index];
   });
   $('lists').hidden = state.delays !== 'lists';
+  const printers = ['no printer', 'printer 4', 'printer 5', 'printers 4 and 5'][state.printers];
+  $('bus-facts').textContent = [printers, state.status ? 'status kept' : '', state.delays === 'lists' ? 'delays by lists' : ''].filter(Boolean).join(', ');
 }
 
 $('options').addEventListener('submit', event => event.preventDefault());
@@ -72,7 +76,7 @@ export function showTab(section, tab) {
   $(section).dataset.tab = tab;
   fillReader(tab);
   if (readers[tab]) readers[tab].draw();
-  if (tab === 'frames' && wave.chosen >= 0) readers.frames.mark(wave.frames[wave.chosen].line);
+  if (tab === 'frames' && wave.chosen >= 0) readers.frames.mark(wave.frames.get(wave.chosen).line);
   store.set('view', { ...(store.get('view') || {}), tabs: state.tabs });
 }
 
@@ -145,19 +149,47 @@ export const FILES = {
   trace: ['trace', 'text/plain'],
   vcd: ['vcd', 'text/plain'],
   readings: ['frames', 'text/plain'],
+  bytes: ['prn', 'application/octet-stream'],
+  json: ['json', 'application/json'],
+  story: ['story', 'text/plain'],
 };
+
+/** The words for the sheet that is seen, where a picture has one sheet; a raw file's printer is 4 whatever is asked. */
+function partOf(what) {
+  const seen = what === 'png' ? paper.seen() : null;
+  return seen ? ['--device', String(seen.printer), '--sheet', String(seen.number)] : [];
+}
+
+/** The name of what is shown, for files. */
+const shownName = () => (state.source?.name || 'listing').replace(/\.[^.]*$/, '');
 
 for (const made of all('[data-save]')) {
   made.onclick = async () => {
     const what = made.dataset.save, [ending, type] = FILES[what];
     try {
-      const bytes = await ask('text', { what, delays: state.taken || TYPICAL });
-      if (bytes) download(bytes, `${(state.source?.name || 'listing').replace(/\.[^.]*$/, '')}.${ending}`, type);
+      const bytes = await ask('text', { what, delays: state.taken || TYPICAL, part: partOf(what) });
+      if (bytes) download(bytes, `${shownName()}.${ending}`, type);
     } catch (error) {
       tellFailed(error);
     }
   };
 }
+
+$('save-wave').onclick = () => download(wave.svg(), `${shownName()}-wave.svg`, 'image/svg+xml');
+
+/** Puts the sheet that is seen on the clipboard as a picture. */
+$('copy-picture').onclick = async () => {
+  const picture = ask('text', { what: 'png', part: partOf('png') }).then(bytes => new Blob([bytes], { type: 'image/png' }));
+  try {
+    // (a browser wants the promise itself, so that the click still counts)
+    await navigator.clipboard.write([new ClipboardItem({ 'image/png': picture })]);
+    tellBriefly('The picture of the sheet is on the clipboard.');
+  } catch {
+    picture.catch(() => {});
+    tellBriefly('The browser does not let this page copy a picture. Save it as PNG.');
+  }
+};
+
 /** What a pane's Copy gives: the text of the tab that is seen, where it is a text, or else of its lines. */
 const COPIES = {
   listing: async () => editor.text,
@@ -177,13 +209,17 @@ for (const made of all('[data-copy]')) {
 
 /** Copies a text, and says so on its button for a moment. */
 async function copyText(text, made) {
-  made.dataset.words ??= made.textContent;
   try {
     await navigator.clipboard.writeText(text);
   } catch {
     tellBriefly('The browser does not let this page copy. Use Save.');
     return;
   }
+  sayCopied(made);
+}
+
+function sayCopied(made) {
+  made.dataset.words ??= made.textContent;
   made.textContent = 'Copied';
   setTimeout(() => { made.textContent = made.dataset.words; }, 1600);
 }
@@ -208,6 +244,14 @@ $('save').onclick = () => download(encode(editor.text), state.form === 'petcat' 
 $('smaller').onclick = () => paper.zoom(1 / 1.25);
 $('larger').onclick = () => paper.zoom(1.25);
 $('fit').onclick = () => paper.fit();
+
+/** Shows paper with green bars or without them, and keeps that. */
+function showBars(hasBars) {
+  $('bars').setAttribute('aria-pressed', String(hasBars));
+  paper.showBars(hasBars);
+  store.set('view', { ...(store.get('view') || {}), bars: hasBars });
+}
+$('bars').onclick = () => showBars(!paper.hasBars);
 $('sheets').addEventListener('keydown', event => {
   if (event.ctrlKey || event.metaKey || event.altKey) return;
   const keys = {
@@ -223,7 +267,15 @@ for (const id of ['sheets', 'frames']) $(id).addEventListener('keydown', event =
 $('wave-smaller').onclick = () => wave.zoom(1 / 1.6);
 $('wave-larger').onclick = () => wave.zoom(1.6);
 $('wave-fit').onclick = () => wave.all();
+$('wave-mark').onclick = () => wave.toggleMark();
+$('cards').onclick = () => showCards();
+$('examples-box').addEventListener('click', event => { if (event.target === $('examples-box')) $('examples-box').close(); });
 $('show-line').onclick = () => editor.chooseOwn();
+// (the address has the listing, so the link does not go there)
+document.querySelector('.skip').addEventListener('click', event => {
+  event.preventDefault();
+  editor.area.focus();
+});
 $('codes-box').querySelector('tbody').append(...CODES.map(([bytes, words]) => {
   const row = document.createElement('tr'), name = document.createElement('th');
   name.scope = 'row';
@@ -246,16 +298,23 @@ $('file').onchange = () => {
 };
 $('link').onclick = async () => {
   if (state.source) return tellBriefly(`A link carries a listing and its choices, but no file. Send ${state.source.name} itself.`);
-  const plain = await save(), link = location.href;
+  const plain = await save(), link = `${location.href.replace(/#.*/, '')}#${plain}`;
   if (!plain) return tellBriefly('This listing is too long for a link. Save it as a file.');
   try {
     await navigator.clipboard.writeText(link);
-    $('link').textContent = 'Copied';
-    setTimeout(() => { $('link').textContent = 'Copy link'; }, 1600);
+    sayCopied($('link'));
   } catch {
-    tellBriefly('The browser does not let this page copy. The address bar now has the link.');
+    showLink(link);
   }
 };
+
+/** Shows a link to be copied by hand, where the browser does not let the page copy. */
+function showLink(link) {
+  const field = Object.assign(document.createElement('input'), { type: 'text', readOnly: true, value: link });
+  field.setAttribute('aria-label', 'Link to this listing');
+  notice('link', 'The browser does not let this page copy. This is the link:', [field, button('Close', () => notice('link', ''))]);
+  field.select();
+}
 
 let dragged = 0;
 addEventListener('dragenter', event => { if (event.dataTransfer?.types.includes('Files')) { dragged++; $('drop').hidden = false; } });
@@ -268,10 +327,10 @@ addEventListener('dragover', event => { if (event.dataTransfer?.types.includes('
 addEventListener('drop', event => {
   dragged = 0;
   $('drop').hidden = true;
-  const file = event.dataTransfer?.files[0];
-  if (!file) return;
+  const files = [...(event.dataTransfer?.files ?? [])];
+  if (!files.length) return;
   event.preventDefault();
-  takeFile(file);
+  takeFiles(files);
 });
 addEventListener('pagehide', () => { if (saving) save(); });
 document.addEventListener('visibilitychange', () => { if (document.hidden && saving) save(); });
@@ -282,6 +341,7 @@ addEventListener('hashchange', async () => {
 });
 
 document.body.dataset.shows = 'script';
+if (embedded) document.body.dataset.embed = embedded;
 
 /** Puts a listing and its choices in. */
 function put({ text, form = 'text', printers, status, delays, lists }) {
@@ -305,9 +365,11 @@ async function begin() {
   const view = store.get('view');
   showTab('pages', view?.tabs?.pages || 'sheets');
   showTab('wire', view?.tabs?.wire || 'wave');
+  showBars(Boolean(view?.bars));
   if (linked && kept && kept.text !== linked.text) keepEarlier(kept.text, kept.form || 'text');
   put({ ...first, ...(linked || kept || { text: FIRST }) });
   fillMenu();
+  keptCharacters();
   if (source) showFile(source);
   if (!hasWebAssembly()) {
     notice('memory', 'This browser has no WebAssembly or cannot inflate it, and the proved code needs both. Chrome and Edge have them from ' +
@@ -317,7 +379,7 @@ async function begin() {
     return;
   }
   try {
-    useBounds(await ask('open', { bytes: await through(new DecompressionStream('deflate-raw'), fromBase64($('module').textContent.trim())) }));
+    useBounds(await openModule(await through(new DecompressionStream('deflate-raw'), fromBase64($('module').textContent.trim()))));
   } catch (error) {
     notice('memory', `The module cannot run in this browser: ${error.message}`);
     return;

@@ -6,9 +6,10 @@ const COLOURED = 2000;         // characters: a longer line has no colours
 export class Editor {
   /**
    * `reading` gives the parts of a line with their kinds, and what the part at a column says; `onLine` gets the line
-   * whose number is clicked, or on which the cursor is when Ctrl and Enter are pressed.
+   * whose number is clicked, or on which the cursor is when Ctrl and Enter are pressed; `onPoint` the line and the column that are
+   * pointed at, -1 for none.
    */
-  constructor(element, onInput, reading, onLine) {
+  constructor(element, onInput, reading, onLine, onPoint) {
     this.reading = reading;
     this.chosen = -1;
     this.colours = element.querySelector('.colours');
@@ -19,8 +20,11 @@ export class Editor {
     this.signs = [];       // of each line: '', 'fine', 'unanswered', 'stopped', 'unreached', 'refused'
     this.titles = [];
     this.note = null;      // { line, from, to, words, kind }
+    this.place = null;     // { line, from, to }: the character of what is chosen
+    this.pointed = null;   // the same of what is pointed at, and its line
     // (a browser lays a long listing out anew before it can be drawn: the worker prints it meanwhile)
-    this.area.addEventListener('input', () => { this.measure(); requestAnimationFrame(() => this.draw()); onInput(); });
+    this.typed = -Infinity;    // when a key was pressed last
+    this.area.addEventListener('input', () => { this.typed = performance.now(); this.measure(); requestAnimationFrame(() => this.draw()); onInput(); });
     this.area.addEventListener('scroll', () => this.draw(), { passive: true });
     this.numbers.addEventListener('click', event => {
       const number = event.target.closest('.number');
@@ -33,35 +37,39 @@ export class Editor {
     });
     this.onLine = onLine;
     this.area.addEventListener('pointermove', event => this.tellUnder(event));
+    this.numbers.addEventListener('pointermove', event => onPoint(Number(event.target.closest('.number')?.textContent ?? 0) - 1, -1));
+    for (const part of [this.area, this.numbers]) part.addEventListener('pointerleave', () => onPoint(-1, -1));
+    this.onPoint = onPoint;
     new ResizeObserver(() => this.draw()).observe(this.area);
     this.measure();
   }
 
-  get text() { return this.area.value; }
+  /** The text as it was measured last: a browser makes a long one anew each time it is asked. */
+  get text() { return this.measured; }
 
   /** Puts another text in, so that the browser's own undo brings the old one back (a long one would take a browser too long). */
   replace(text) {
     const plain = text.replace(/\r\n?/g, '\n');
     if (plain === this.text) return;
     // (a browser takes seconds to insert a long text so that it can be undone)
-    if (plain.length < 4000 && this.text.length < 4000) {
+    if (plain.length < 4000 && this.text && this.text.length < 4000) {
       const focused = /** @type {HTMLElement} */ (document.activeElement);
       this.area.focus({ preventScroll: true });
       this.area.select();
       document.execCommand(plain ? 'insertText' : 'delete', false, plain);
       if (focused && focused !== document.body) focused.focus({ preventScroll: true }); else this.area.blur();
     }
-    if (this.text !== plain) this.area.value = plain;
+    if (this.area.value !== plain) this.area.value = plain;
     this.area.setSelectionRange(0, 0);
     this.area.scrollTo(0, 0);
-    this.tell([], [], null);
     this.measure();
-    this.draw();
+    this.typed = -Infinity;
+    this.tell([], [], null);
   }
 
-  /** Finds where each line begins. */
+  /** Takes the text, and finds where each line begins. */
   measure() {
-    const text = this.text, starts = [0];
+    const text = this.measured = this.area.value, starts = [0];
     for (let at = text.indexOf('\n'); at >= 0; at = text.indexOf('\n', at + 1)) starts.push(at + 1);
     this.starts = starts;
   }
@@ -72,24 +80,47 @@ export class Editor {
 
   /** Shows signs beside the lines, with their words, and a note in a line. */
   tell(signs, titles, note) {
-    Object.assign(this, { signs, titles, note, chosen: -1 });
+    Object.assign(this, { signs, titles, note, chosen: -1, place: null, pointed: null });
     this.draw();
   }
 
   /** Marks a line's number, and brings the line into view. */
   choose(line) {
-    if (line === this.chosen) return;
+    this.place = null;
+    if (line === this.chosen) return this.draw();
     this.chosen = line;
     const height = parseFloat(getComputedStyle(this.area).lineHeight), top = line * height, { scrollTop, clientHeight } = this.area;
     if (line >= 0 && (top < scrollTop || top + 2 * height > scrollTop + clientHeight)) this.area.scrollTop = top - clientHeight / 3;
     this.draw();
   }
 
-  /** Chooses the line on which the cursor is. */
-  chooseOwn() {
-    const at = this.area.selectionStart, line = this.starts.findIndex(start => start > at);
-    this.onLine((line < 0 ? this.starts.length : line) - 1);
+  /** Shows the character of what is chosen, or none. */
+  showPlace(line, place) {
+    this.place = place ? { line, ...place } : null;
+    this.draw();
   }
+
+  /** Shows a line and a character that belong to what is pointed at, or none. */
+  point(line, place) {
+    this.pointed = line >= 0 ? { line, ...(place || { from: 0, to: 0 }) } : null;
+    this.draw();
+  }
+
+  /** The line of a place in the text. */
+  lineAt(place) {
+    let low = 0, high = this.starts.length;
+    while (low < high) {
+      const middle = (low + high) >> 1;
+      if (this.starts[middle] <= place) low = middle + 1; else high = middle;
+    }
+    return low - 1;
+  }
+
+  /** The line on which the cursor is. */
+  cursorLine() { return this.lineAt(this.area.selectionStart); }
+
+  /** Chooses the line on which the cursor is. */
+  chooseOwn() { this.onLine(this.cursorLine()); }
 
   /** Puts the cursor at a place and shows it. */
   goTo(line, column) {
@@ -107,7 +138,7 @@ export class Editor {
     const rows = [];
     for (let number = from; number < to; number++) {
       const row = document.createElement('div');
-      row.className = `number ${this.signs[number] || ''} ${number === this.chosen ? 'chosen' : ''}`;
+      row.className = `number ${this.signs[number] || ''} ${number === this.chosen ? 'chosen' : ''} ${number === this.pointed?.line ? 'pointed' : ''}`;
       row.textContent = String(number + 1);
       if (this.titles[number]) row.title = this.titles[number];
       rows.push(row);
@@ -142,26 +173,31 @@ export class Editor {
     const line = number >= 0 && number < this.starts.length ? this.line(number) : '', row = this.colours.children[number - Math.max(Math.floor(this.area.scrollTop / parseFloat(style.lineHeight)) - 2, 0)];
     const width = row && line.length ? row.getBoundingClientRect().width / line.length : 0;
     const column = width ? Math.floor((offsetX + this.area.scrollLeft - parseFloat(style.paddingLeft)) / width) : -1;
-    this.area.title = column >= 0 && !line.includes('\t') ? this.reading.words(line, column) : '';
+    const isOn = column >= 0 && column < line.length && !line.includes('\t');
+    this.area.title = isOn ? this.reading.words(line, column) : '';
+    this.onPoint(isOn ? number : -1, isOn ? column : -1);
   }
 
   drawNote(height, top) {
-    this.notes.replaceChildren();
-    const note = this.note;
-    if (!note || note.line >= this.starts.length) return;
-    const text = this.line(note.line), row = document.createElement('div');
+    const { note, place, pointed } = this, kinds = [place && { ...place, kind: 'found' }, pointed && { ...pointed, kind: 'pointed' }, note];
+    this.notes.replaceChildren(...kinds.filter(one => one && one.line < this.starts.length).map(one => this.rowOf(one, height, top)));
+  }
+
+  /** A line's letters, which are not seen, with a place among them, and words after them. */
+  rowOf({ line, from, to, words = '', kind }, height, top) {
+    const text = this.line(line), row = document.createElement('div');
     const part = (name, content) => {
       const span = document.createElement('span');
       span.className = name;
       span.textContent = content;
       row.append(span);
     };
-    row.className = `note ${note.kind}`;
-    part('', text.slice(0, note.from));
-    part('place', text.slice(note.from, note.to) || ' ');
-    part('', text.slice(note.to));
-    part('words', note.words);
-    row.style.transform = `translate(${-this.area.scrollLeft}px, ${note.line * height - top}px)`;
-    this.notes.append(row);
+    row.className = `note ${kind}`;
+    part('', text.slice(0, from));
+    if (from < to || words) part('place', text.slice(from, to) || ' ');
+    part('', text.slice(to));
+    if (words) part('words', words);
+    row.style.transform = `translate(${-this.area.scrollLeft}px, ${line * height - top}px)`;
+    return row;
   }
 }

@@ -3,8 +3,11 @@
 import { isTextual, looksPetcat, petcatOf, refusalOf } from './listing.js';
 import { $, button, decode, encode, fromBase64, toBase64 } from './basics.js';
 import { ask, clearPaper, editor, FILE_LIMIT, notice, print, showPaper, state, tellFailed, tellOnce, wave } from './page.js';
-import { cover, showWire } from './telling.js';
-import { file, keepEarlier, listingChanged } from './kept.js';
+import { cover, showWire, verdictWords } from './telling.js';
+import { file, keepEarlier, listingChanged, nameTab } from './kept.js';
+import { looksCharacters, takeCharacters } from './characters.js';
+import { signalFields } from './signals.js';
+import { inPageWords, pageHints } from './words.js';
 import { ready, showChoices, showTab } from './controls.js';
 
 const KINDS = { script: 'a listing', petcat: 'petcat\'s text', prg: 'a saved program', text: 'a trace', vcd: 'a Value Change Dump', csv: 'a table of samples', raw: 'a printer\'s bytes' };
@@ -12,6 +15,7 @@ const KINDS = { script: 'a listing', petcat: 'petcat\'s text', prg: 'a saved pro
 /** What a file seems to be, by its first bytes and its name. */
 function kindOf(bytes, name) {
   const head = new TextDecoder('latin1').decode(bytes.subarray(0, 4096)), lines = head.split('\n').map(line => line.trim()).filter(Boolean);
+  if (looksCharacters(head)) return 'characters';
   if (/\.vcd$/i.test(name) || /\$(timescale|var|enddefinitions)\b/.test(head)) return 'vcd';
   if (lines.length && /^\d+ [01]{3}$/.test(lines[0])) return 'text';
   if (/\.csv$/i.test(name) || /^[^\n]*,\s*"?(atn|clock|clk|data)"?\s*(,|$)/im.test(head)) return 'csv';
@@ -28,6 +32,24 @@ let taken = 0;                       // how many files were dropped
 /** What is read by now is no longer wanted: something else was chosen. */
 export const leaveReads = () => { taken++; };
 
+/** Takes the first of some files; of the others it says that they are left out. */
+export function takeFiles(files) {
+  const [first, ...others] = files;
+  if (!first) return;
+  tellOnce('others', others.length ? `One file is shown at a time: ${first.name}. Left out: ${others.map(({ name }) => name).join(', ')}.` : '');
+  takeFile(first);
+}
+
+const LARGE = 10e6;        // bytes: a file that seems to be a printer's bytes, and is longer, is asked about first
+
+/** Shows a file as what it seems to be; a large one that may be anything only when it is asked for. */
+function takeOrAsk(bytes, name) {
+  const kind = kindOf(bytes, name), isJunk = kind === 'raw' && bytes.length > LARGE;
+  if (!isJunk) return take(bytes, name, kind);
+  const size = `${(bytes.length / 1e6).toFixed(0)} MB`, shows = button('Print it', () => { notice('file', ''); take(bytes, name, kind); });
+  notice('file', `${name} has ${size} and is no text, recording or saved program. Is it what a printer gets?`, [shows, button('Leave it', () => notice('file', ''))]);
+}
+
 /** Shows a file as what it seems to be. */
 export async function takeFile(file) {
   const turn = ++taken, { source } = state, before = editor.area.value;
@@ -38,7 +60,7 @@ export async function takeFile(file) {
     if (turn !== taken || source !== state.source || before !== editor.area.value) return;
     const why = refusalOf(bytes, file.name);
     tellOnce('file', why);
-    if (!why) await take(bytes, file.name, kindOf(bytes, file.name));
+    if (!why) await takeOrAsk(bytes, file.name);
   } catch (error) {
     tellOnce('file', `${file.name} cannot be read: ${error.message}`);
   } finally {
@@ -53,7 +75,7 @@ async function takeProgram(bytes, name) {
   let answer;
   try { answer = await ask('isSame', { program: bytes, listing: encode(listing ?? ''), form: 'petcat' }); } catch (error) { return tellFailed(error); }
   if (turn !== taken || before !== editor.area.value) return;   // another file was dropped, or more was typed
-  if (answer.code) return tellOnce('file', `${name} cannot be read as a saved program: ${answer.words || 'out of memory'}.`);
+  if (answer.code) return tellOnce('file', `${name} cannot be read as a saved program: ${answer.words ? inPageWords(answer.words) : 'out of memory'}.`);
   leaveSource();
   keepEarlier();
   state.form = answer.isSame ? 'petcat' : 'text';
@@ -66,6 +88,7 @@ async function takeProgram(bytes, name) {
 
 /** Shows a file as what it is said to be. */
 export function take(bytes, name, kind) {
+  if (kind === 'characters') return takeCharacters(bytes, name);
   if (kind === 'prg') return takeProgram(bytes, name);
   if (kind === 'script' || kind === 'petcat') {
     leaveSource();
@@ -84,7 +107,7 @@ export function take(bytes, name, kind) {
     tellOnce('lines', words);
     return listingChanged();
   }
-  showFile({ bytes, name, kind, set: 0, names: ['ATN', 'CLOCK', 'DATA'], inverted: false, start: 0, rate: 0 });
+  showFile({ bytes, name, kind, set: 0, bounds: state.source?.bounds, names: ['ATN', 'CLOCK', 'DATA'], inverted: false, start: 0, rate: 0 });
 }
 
 /** Shows a file instead of the listing, which is kept. */
@@ -98,32 +121,7 @@ export function showFile(source) {
 }
 
 /** A recording, and how it is read. */
-export const recordingOf = ({ bytes, kind, names, inverted, start, rate }) => ({ bytes, input: kind, ...(kind === 'text' ? {} : { names, inverted, start, rate: kind === 'csv' ? rate : 0 }) });
-
-/** The signals of a dump or a table: their names, whether their levels are inverted, where the recording begins, and a table's rate. */
-function signalFields(source) {
-  const fields = document.createElement('div'), again = () => { keepSource(); print(); };
-  fields.className = 'signals';
-  const field = (words, value, act, type = 'text') => {
-    const label = document.createElement('label'), input = document.createElement('input');
-    Object.assign(input, { type, value, autocomplete: 'off', spellcheck: false });
-    if (type === 'checkbox') input.checked = value;
-    input.onchange = () => { act(input); again(); };
-    label.append(...(type === 'checkbox' ? [input, words] : [words, input]));
-    fields.append(label);
-  };
-  ['ATN', 'CLOCK', 'DATA'].forEach((name, line) => {
-    field(`${name} is`, source.names[line], input => { source.names[line] = input.value.trim() || name; });
-  });
-  field('inverted levels', source.inverted, input => { source.inverted = input.checked; }, 'checkbox');
-  field('starts at', source.start, input => { source.start = Math.max(Math.floor(Number(input.value)) || 0, 0); });
-  fields.append('µs');
-  // (a table with times of its own has no use for it)
-  if (source.kind === 'csv') {
-    field('samples a second, of a table without times', source.rate || '', input => { source.rate = Math.max(Math.floor(Number(input.value)) || 0, 0); });
-  }
-  return fields;
-}
+export const recordingOf = ({ bytes, kind, bounds, names, inverted, start, rate }) => ({ bytes, bounds, input: kind, ...(kind === 'text' ? {} : { names, inverted, start, rate: kind === 'csv' ? rate : 0 }) });
 
 /** A choice among some values, by a label. */
 function choiceOf(words, values, value, act) {
@@ -135,35 +133,48 @@ function choiceOf(words, values, value, act) {
 }
 
 /** Shows which file is on paper and on the wire, how it is read, and what came of it; the listing is one click away. */
-function tellSource(words = '', why = '') {
+function tellSource() {
   const { source } = state, box = $('recording'), kind = !source ? 'script' : source.kind === 'raw' ? 'raw' : 'recording';
   document.body.dataset.shows = kind;
   keepSource();
   $('listing-name').textContent = { script: 'Listing', raw: 'Printer\'s bytes', recording: 'Recording' }[kind];
   $('pages-facts').textContent = source ? source.name : '';
+  nameTab();
   box.replaceChildren();
   if (!source) return editor.draw();
   if (kind === 'recording' && state.tabs.pages === 'list') showTab('pages', 'sheets');
-  const name = document.createElement('h3'), text = document.createElement('p');
+  const name = document.createElement('h3'), text = document.createElement('p'), why = document.createElement('div');
   name.textContent = source.name;
-  text.textContent = words;
   text.setAttribute('role', 'status');
+  why.className = 'why';
+  box.append(name, text, why, ...fieldsOf(source), button('Back to the listing', () => { leaveSource(); print(); }));
+}
+
+/** What can be chosen of a file. */
+function fieldsOf(source) {
+  const again = () => { keepSource(); print(); };
   /** @type {HTMLElement[]} */
   const fields = [choiceOf('Read as ', KINDS, source.kind, as => take(source.bytes, source.name, as))];
-  if (kind === 'raw') {
+  if (source.kind === 'raw') {
     const sets = { 0: 'graphic/upper case', 1: 'lower/upper case' };
-    fields.push(choiceOf('Character set ', sets, source.set, set => { source.set = Number(set); keepSource(); print(); }));
+    return [...fields, choiceOf('Character set ', sets, source.set, set => { source.set = Number(set); again(); })];
   }
-  if (source.kind === 'vcd' || source.kind === 'csv') fields.push(signalFields(source));
-  box.append(name, text);
-  if (why) {
-    const [more, about, lines] = ['details', 'summary', 'pre'].map(kind => document.createElement(kind));
-    about.textContent = 'Why';
-    lines.textContent = why;
-    more.append(about, lines);
-    box.append(more);
-  }
-  box.append(...fields, button('Back to the listing', () => { leaveSource(); print(); }));
+  const bounds = { profile: 'this project\'s profile', guide: 'the Programmer\'s Reference Guide' };
+  fields.push(choiceOf('Bounds of ', bounds, source.bounds || 'profile', chosen => { source.bounds = chosen; again(); }));
+  return source.kind === 'text' ? fields : [...fields, signalFields(source, again)];
+}
+
+/** Says what came of a file, and why; its fields stay as they are. */
+function tellOfSource(words, why) {
+  const box = $('recording'), place = box.querySelector('.why');
+  box.querySelector('[role=status]').textContent = words;
+  if (!why) return place.replaceChildren();
+  const isOpen = place.querySelector('details')?.open, [more, about, lines] = ['details', 'summary', 'pre'].map(kind => document.createElement(kind));
+  about.textContent = 'Why';
+  lines.textContent = why;
+  more.append(about, lines);
+  /** @type {HTMLDetailsElement} */ (more).open = Boolean(isOpen);
+  place.replaceChildren(more);
 }
 
 /** Keeps the file that is shown for a reload of this tab. */
@@ -193,9 +204,8 @@ export function leaveSource() {
 export function showSource(answer) {
   const { source } = state;
   document.body.classList.remove('stale');
-  const why = answer.code === 2 ? `It cannot be read to its end: ${answer.words}.` : answer.code > 2 ? 'Memory ran out.' : '';
-  const verdict = !answer.verdict ? '' : answer.isLawful ? 'It is lawful.' : `${answer.verdict[0].toUpperCase()}${answer.verdict.slice(1)}.`;
-  tellSource(why || verdict, (answer.told || []).join('\n'));
+  const why = answer.code === 2 ? `It cannot be read to its end: ${inPageWords(answer.words)}.` : answer.code > 2 ? 'Memory ran out.' : '';
+  tellOfSource(why || verdictWords(answer), pageHints(answer.told || []).join('\n'));
   if (answer.svg) showPaper(decode(answer.svg)); else clearPaper();
   if (source.kind === 'raw') { showWire(null); cover('A printer\'s bytes have no trace.'); return; }
   cover('');

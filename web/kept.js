@@ -1,7 +1,7 @@
 // What is kept: the listing in this browser and in the address, and the listings before it; and the menu that brings them back.
 
 import { $, decode, encode, fromBase64, toBase64 } from './basics.js';
-import { EARLIER_LIMIT, editor, LINK_LIMIT, LISTING_LIMIT, notice, print, state, tellOnce, wave } from './page.js';
+import { EARLIER_LIMIT, editor, LINK_LIMIT, LISTING_LIMIT, LONG, notice, print, state, tellOnce, wave } from './page.js';
 import { leaveReads, leaveSource, take } from './files.js';
 import { showChoices } from './controls.js';
 
@@ -20,31 +20,40 @@ export const FIRST = `10 REM TYPE: THE PAPER FOLLOWS
 /** The listing changed: it is kept, and printed. */
 export function listingChanged() {
   clearTimeout(saving);
-  saving = setTimeout(save, 300);
+  saving = setTimeout(save, editor.text.length > LONG ? 2000 : 300);
   notice('passing', '');
   print();
 }
 
+/** What alone is shown in a frame of another page (?embed=paper, ?embed=wave), or nothing. Such a frame keeps nothing. */
+export const embedded = ['paper', 'wave'].find(part => part === new URLSearchParams(location.search).get('embed')) ?? '';
+
 export const store = {
-  get(name) { try { return JSON.parse(localStorage.getItem(`print1525.${name}`)); } catch { return null; } },
+  get(name) { if (embedded) return null; try { return JSON.parse(localStorage.getItem(`print1525.${name}`)); } catch { return null; } },
   set(name, value) {
+    if (embedded) return true;
     try { localStorage.setItem(`print1525.${name}`, JSON.stringify(value)); return true; } catch { return false; }
   },
 };
 
+/** Whether this browser lets the page keep anything: a private window or a frame without an origin may not. */
+const keeps = store.set('try', 1);
+
 /** The listing of this tab alone, with the address beside which it was kept: a reload takes it before that address and other tabs' listings. */
 export const own = {
-  get() { try { return JSON.parse(sessionStorage.getItem('print1525.listing')); } catch { return null; } },
+  get() { if (embedded) return null; try { return JSON.parse(sessionStorage.getItem('print1525.listing')); } catch { return null; } },
   set(listing) {
-    try { sessionStorage.setItem('print1525.listing', JSON.stringify({ ...listing, hash: location.hash })); } catch { sessionStorage.removeItem('print1525.listing'); }
+    if (embedded) return;
+    try { sessionStorage.setItem('print1525.listing', JSON.stringify({ ...listing, hash: location.hash })); } catch { this.remove(); }
   },
+  remove() { try { sessionStorage.removeItem('print1525.listing'); } catch { /* nothing is kept here */ } },
 };
 
 /** The file that this tab shows, in base64. */
 export const file = {
-  get() { try { return JSON.parse(sessionStorage.getItem('print1525.file')); } catch { return null; } },
-  set(source) { try { sessionStorage.setItem('print1525.file', JSON.stringify(source)); return true; } catch { this.remove(); return false; } },
-  remove() { try { sessionStorage.removeItem('print1525.file'); } catch { /* nothing is kept here */ } },
+  get() { if (embedded) return null; try { return JSON.parse(sessionStorage.getItem('print1525.file')); } catch { return null; } },
+  set(source) { if (embedded) return true; try { sessionStorage.setItem('print1525.file', JSON.stringify(source)); return true; } catch { this.remove(); return false; } },
+  remove() { if (embedded) return; try { sessionStorage.removeItem('print1525.file'); } catch { /* nothing is kept here */ } },
 };
 
 /** Keeps the listing and the choices in this browser, and puts them into the address. */
@@ -54,15 +63,31 @@ export function save() {
   const { form, printers, status, delays, lists } = state, listing = { text: editor.text, form, printers, status, delays, lists };
   const kept = store.set('listing', listing);
   own.set(listing);
-  notice('kept', kept ? '' : 'This listing is too long for the browser to keep. Save it as a file.');
+  notice('kept', kept || !keeps ? '' : 'This listing is too long for the browser to keep. Save it as a file.');
+  $('not-kept').hidden = keeps;
+  nameTab();
   const turn = ++saves;
   return address().then(hash => {
     const plain = hash.length <= LINK_LIMIT ? hash : '';
     if (turn !== saves) return plain;               // a later listing is kept by now
-    history.replaceState(null, '', `${location.pathname}${location.search}${plain ? `#${plain}` : ''}`);
+    try {
+      history.replaceState(null, '', `${location.pathname}${location.search}${plain ? `#${plain}` : ''}`);
+    } catch { /* (a frame without an address of its own) */ }
     if (isNewAddress()) own.set(listing);
     return plain;
   });
+}
+
+/** The first words of a listing: those of its first remark, or its first line. */
+function firstWords(text) {
+  const lines = text.slice(0, 4000).split('\n').map(line => line.trim()).filter(Boolean), remark = lines.find(line => /^\d*\s*rem\b/i.test(line));
+  return (remark ?? lines[0] ?? '').replace(/^\d*\s*(rem\b)?\s*/i, '').slice(0, 50);
+}
+
+/** Gives the browser's tab the name of the file, or the first words of the listing. */
+export function nameTab() {
+  const words = state.source?.name ?? firstWords(editor.text);
+  document.title = words ? `${words} – print1525` : 'print1525: what a Commodore 64 prints';
 }
 
 let lastHash = location.hash;

@@ -5,12 +5,14 @@
 //     const { status, output, messages } = module.answer({ words: ['pages', '--as', 'svg'], input: script });
 //
 // `answer` is the program `print1525` over memory: the words of its command line, an input and a file of characters in, its exit
-// status, its output and its lines for people out. Scripts, recordings and texts are Uint8Arrays. The other methods are for what a
-// text does not serve; they take and give numbers, with
+// status, its output and its lines for people out, and with status 1 (a BASIC error stopped the run) the number of the error and
+// 100, and its statement. Scripts, recordings and texts are Uint8Arrays; a string in their place is taken as UTF-8, and anything
+// else throws a TypeError that names the setting. The other methods are for what a text does not serve; they
+// take and give numbers, with
 //
-//     code        0 done, 1 stopped by a BASIC error, 2 refused, 3 out of memory
+//     code        0 done, 2 refused, 3 out of memory
 //     fault       the number of the fault, as include/print1525.h has them, or 0
-//     place       its line or its statement, from 1, the index of its edge or of its input, from 0, or 0
+//     place       its line, from 1, the index of its edge or of its input, from 0, or 0
 //
 // print1525.d.mts has the types.
 
@@ -159,13 +161,28 @@ export const loadPrint1525 = (() => {
     return [moments, bytes];
   }
 
-  const bytesOf = bytes => (bytes instanceof Uint8Array ? bytes : new Uint8Array(bytes));
   const encode = text => new TextEncoder().encode(text);
   /** @type {any} */
   const NOTHING = new Uint8Array(0);
 
+  // What callers give, or a TypeError with the name of the setting: bytes, or a string in their place as UTF-8; words; numbers of a range.
+  const wrong = (name, wanted) => { throw new TypeError(`print1525: ${name} must be ${wanted}`); };
+  const bytesOf = (name, bytes) => (typeof bytes === 'string' ? encode(bytes) : bytes instanceof Uint8Array ? bytes : wrong(name, 'a string or a Uint8Array'));
+  const flagOf = (name, flag) => (typeof flag === 'boolean' ? Number(flag) : wrong(name, 'true or false'));
+
+  function wordsOf(words) {
+    return Array.isArray(words) && words.every(word => typeof word === 'string') ? words : wrong('words', 'an array of strings');
+  }
+
+  function numberOf(name, number, least, greatest) {
+    const isNumber = typeof number === 'bigint' || Number.isSafeInteger(number);
+    return isNumber && number >= least && number <= greatest ? number : wrong(name, `a whole number from ${least} to ${greatest}`);
+  }
+
+  const LARGEST = 2n ** 64n - 1n;
+
   // The words of a command line as one text, with the program's name in front.
-  const lineOf = words => encode(['print1525', ...words].join('\0'));
+  const lineOf = words => encode(['print1525', ...wordsOf(words)].join('\0'));
 
   // How many numbers there may be: as many as the lines of a text have room for.
   function roomOf(bytes, perLine) {
@@ -176,7 +193,17 @@ export const loadPrint1525 = (() => {
 
   // The arguments that say what a recording is.
   function recording({ bytes, source = 0, names = ['ATN', 'CLOCK', 'DATA'], inverted = false, start = 0, rate = 0 }) {
-    return [bytesOf(bytes), source, ...names.map(name => (typeof name === 'string' ? encode(name) : bytesOf(name))), inverted ? 1 : 0, BigInt(start), BigInt(rate)];
+    if (!Array.isArray(names) || names.length !== 3) wrong('names', 'three names');
+    return [
+      bytesOf('bytes', bytes), numberOf('source', source, 0, 4), ...names.map((name, line) => bytesOf(`names[${line}]`, name)), flagOf('inverted', inverted),
+      BigInt(numberOf('start', start, 0, LARGEST)), BigInt(numberOf('rate', rate, 0, LARGEST)),
+    ];
+  }
+
+  // What a printer hears, as numbers of 16 bits.
+  function heard(inputs) {
+    if (!Array.isArray(inputs) && !ArrayBuffer.isView(inputs)) wrong('inputs', 'a list of numbers');
+    return Uint16Array.from(/** @type {any} */ (inputs), (input, index) => Number(numberOf(`inputs[${index}]`, input, 0, 257)));
   }
 
   return async function loadPrint1525(bytes) {
@@ -187,12 +214,13 @@ export const loadPrint1525 = (() => {
     let instance = makeInstance(compiled);
     const rooms = new Map();
 
-    // Calls an export; where a buffer was too small, again with as much room as it needs.
+    // Calls an export; where a buffer was too small, again with as much room as it needs. (A second buffer's is no fault.)
     function call(name, items, given, size, count) {
       if (instance === null || instance.size() > KEPT) instance = makeInstance(compiled);
       try {
-        const told = instance.attempt(name, items, given, size, count);
-        return told.numbers[0] === TOO_SMALL ? instance.attempt(name, items, told.numbers.slice(-given.length), size, count) : told;
+        const told = instance.attempt(name, items, given, size, count), lengths = told.numbers.slice(-given.length);
+        const wanted = lengths.map((length, index) => Math.max(length, given[index]));
+        return told.numbers[0] === TOO_SMALL || lengths[1] > given[1] ? instance.attempt(name, items, wanted, size, count) : told;
       } catch (error) {
         // What a call that was cut off leaves is not used again.
         instance = null;
@@ -220,8 +248,8 @@ export const loadPrint1525 = (() => {
       // input, and `characters` in that of the file of characters: its exit status, what it writes, and its lines for people, which
       // say more where it is `explained`. Of a refusal `fault`, `place` and `column` are numbers, each 0 where it has none.
       answer({ words, explained = false, input = NOTHING, characters = NOTHING }) {
-        const given = bytesOf(input), key = words.join(' '), room = Math.min(Math.max(WIDER * given.length, rooms.get(key) || 0), KEPT / 4);
-        const [[status, fault, place, column], output, messages] = texts('print1525_answer', [lineOf(words), explained ? 1 : 0, ANY_STATUS, given, bytesOf(characters)], Math.max(room, ROOM), 4);
+        const given = bytesOf('input', input), key = wordsOf(words).join(' '), room = Math.min(Math.max(WIDER * given.length, rooms.get(key) || 0), KEPT / 4);
+        const [[status, fault, place, column], output, messages] = texts('print1525_answer', [lineOf(words), flagOf('explained', explained), ANY_STATUS, given, bytesOf('characters', characters)], Math.max(room, ROOM), 4);
         if (rooms.size > 100) rooms.clear();
         rooms.set(key, Math.ceil(output.length * 1.25));
         return { status, fault, place, column, output, messages };
@@ -235,42 +263,39 @@ export const loadPrint1525 = (() => {
       },
       // The text of the script that a listing says: itself (form 0), that of a saved program (1) or of petcat's text (2).
       listing({ bytes, form = 0 }) {
-        const given = bytesOf(bytes);
+        const given = bytesOf('bytes', bytes);
         // Beside a fault the length is its column.
-        return numbered('print1525_listing', [given, form], Math.max(ROOM, WIDER * given.length), (memory, at, length, code) => (
+        return numbered('print1525_listing', [given, numberOf('form', form, 0, 2)], Math.max(ROOM, WIDER * given.length), (memory, at, length, code) => (
           code === REFUSED ? { column: length, text: NOTHING } : { column: 0, ...text(memory, at, length) }), 1);
       },
       // The pages of what a printer hears: 0 to 255 a byte, 256 and 257 the selection of the graphic/upper case or the lower/upper
       // case set. `format` is 0 the page text, 1 lines, 2 SVG, 3 PNG, 4 PDF; `device` and `sheet` show a part, where it can.
       print({ inputs, format = 0, device = 0, sheet = 0, characters = NOTHING }) {
-        const given = Uint16Array.from(inputs), room = Math.max(ROOM, Math.min(WIDER * given.length, KEPT / 4));
-        return numbered('print1525_print', [given, format, device, BigInt(sheet), bytesOf(characters)], room, text, 1);
-      },
-      // Whether a BASIC error stops a script's run: with code 1 the fault is 100 and the error's number, the place its statement.
-      stop: ({ script, four = true, five = true, kept = false }) => {
-        const { numbers: [code, fault, place] } = call('print1525_stop', [bytesOf(script), four ? 1 : 0, five ? 1 : 0, kept ? 1 : 0], [], 1, 4);
-        return { code, fault, place };
+        const given = heard(inputs), room = Math.max(ROOM, Math.min(WIDER * given.length, KEPT / 4));
+        if (device !== 0) numberOf('device', device, 4, 5);
+        const part = [numberOf('format', format, 0, 4), device, BigInt(numberOf('sheet', sheet, 0, LARGEST))];
+        return numbered('print1525_print', [given, ...part, bytesOf('characters', characters)], room, text, 1);
       },
       // The edges of a recording, up to its fault: the moment and the levels of each.
-      edges: asked => numbered('print1525_edges', recording(asked), roomOf(bytesOf(asked.bytes), 2), (memory, at, length) => {
+      edges: asked => numbered('print1525_edges', recording(asked), roomOf(bytesOf('bytes', asked.bytes), 2), (memory, at, length) => {
         const [times, levels] = pairsIn(memory, at, length, 0);
         return { times, levels };
       }),
       // The delay of the profile that each edge ends: its kind, by its place among those of `bounds`, and since when it counts.
-      edgeDelays: asked => numbered('print1525_edge_delays', recording(asked), roomOf(bytesOf(asked.bytes), 2), (memory, at, length) => {
+      edgeDelays: asked => numbered('print1525_edge_delays', recording(asked), roomOf(bytesOf('bytes', asked.bytes), 2), (memory, at, length) => {
         const [since, kinds] = pairsIn(memory, at, length, 1);
         return { kinds, since };
       }),
       // What a recording says: a row of 18 numbers for each reading whose lines the program writes in this detail.
-      readingRows: asked => numbered('print1525_reading_rows', [...recording(asked), asked.detail || 0], roomOf(bytesOf(asked.bytes), 1.5), numbers),
+      readingRows: asked => numbered('print1525_reading_rows', [...recording(asked), numberOf('detail', asked.detail ?? 0, 0, 3)], roomOf(bytesOf('bytes', asked.bytes), 1.5), numbers),
       // What the lengths of each interval of a recording come to: ten rows of seven numbers.
       intervals: asked => numbered('print1525_intervals', recording(asked), 70, numbers),
       // The least and the greatest delay of each kind, and of an answer to end-or-identify that two listeners make together.
       bounds: () => numbered('print1525_bounds', [], 30, numbers),
       // The line of each statement of a script, from 1.
-      statementLines: ({ script }) => numbered('print1525_statement_lines', [bytesOf(script)], roomOf(bytesOf(script), 2), numbers),
+      statementLines: ({ script }) => numbered('print1525_statement_lines', [bytesOf('script', script)], roomOf(bytesOf('script', script), 2), numbers),
       // Where the first fault of a script is: line, column, the BASIC line's number and 1, and the width of what is there; or no number.
-      scriptFault: ({ script }) => numbered('print1525_script_fault', [bytesOf(script)], 4, numbers),
+      scriptFault: ({ script }) => numbered('print1525_script_fault', [bytesOf('script', script)], 4, numbers),
     };
   };
 })();

@@ -3,10 +3,12 @@
 import { $, button, decode, encode } from './basics.js';
 import { Reader } from './reader.js';
 import { partsOf, wordsAt } from './reading.js';
+import { pageHints, withCharacter } from './words.js';
 import { Editor } from './editor.js';
 import { Paper } from './paper.js';
 import { spaced, Wave } from './wave.js';
-import { cover, frameChosen, lineChosen, markClicked, showWire, tellUnder, traceSoon } from './telling.js';
+import { frameChosen, lineChosen, linePointed, markClicked, markPointed } from './links.js';
+import { cover, endLongTrace, showWire, tellUnder, traceSoon } from './telling.js';
 import { leaveSource, recordingOf, showSource } from './files.js';
 import { listingChanged } from './kept.js';
 import { chooseForm, ready } from './controls.js';
@@ -15,42 +17,70 @@ export const AUTOMATIC = 64 * 1024;       // a longer listing's trace is made on
 export const LINK_LIMIT = 30000;          // characters of an address
 export const LINES_LIMIT = 16 * 1024;     // characters of a listing whose lines are found for frames and marks
 export const EARLIER_LIMIT = 20;
+export const LONG = 200000;               // characters: a longer listing is printed and kept when no key is pressed for a moment
+const TYPED_PAUSE = 250;                  // milliseconds of that moment
+const TYPED_AFTER = 800;                  // milliseconds after a key until a refusal of its line is shown
 export const FILE_LIMIT = 2 ** 21;        // bytes of a file that is here after a reload
 export const LISTING_LIMIT = 16777216;    // bytes of a script, as the program has it
 
 /** The choices beside the listing, and what the paper and the wire show: the listing, or a file (`source`). */
-export const state = { form: 'text', printers: 3, status: 0, delays: 'typical', lists: ['', '', ''], source: null, tabs: { pages: 'sheets', wire: 'wave' } };
+export const state = { form: 'text', printers: 3, status: 0, delays: 'typical', lists: ['', '', ''], source: null, characters: null, tabs: { pages: 'sheets', wire: 'wave' } };
 
 // the worker
 
-const worker = new Worker(URL.createObjectURL(new Blob([$('worker').textContent], { type: 'text/javascript' })));
+/** What a job's answer is where the worker was ended before it came. */
+class Cancelled extends Error {}
+
 const answers = new Map();
-let jobs = 0;
+let jobs = 0, worker = startWorker(), module = null;      // `module`: the bytes of the WebAssembly module, for the next worker
 export let onPaper = 0;            // the number of the print whose sheets are shown
+
+/** Gives the worker a message; what is handed over is the worker's from then on. */
+const tell = (message, handedOver = []) => worker.postMessage(message, handedOver);
 
 /**
  * Gives the worker a job, and returns its answer. `run` says which run the answer has to be of, by the number of its
- * print; the answer is null if the worker has another run by then.
+ * print; the answer is null if the worker has another run by then. `onProgress` gets how far a long job is.
  */
-export function ask(job, what, run = onPaper) {
+export function ask(job, what, run = onPaper, onProgress = null) {
   return new Promise((resolve, reject) => {
-    answers.set(++jobs, { resolve, reject });
-    worker.postMessage({ number: jobs, job, ask: what, run });
+    answers.set(++jobs, { resolve, reject, onProgress });
+    tell({ number: jobs, job, ask: what, run }, what?.script ? [what.script.buffer] : []);
   });
 }
 
-worker.onmessage = ({ data: { number, answer, error } }) => {
-  const { resolve, reject } = answers.get(number);
-  answers.delete(number);
-  if (error === undefined) resolve(answer); else reject(new Error(error));
-};
+/** Makes the module ready in the worker. */
+export function openModule(bytes = module) {
+  module = bytes;
+  return ask('open', { bytes, characters: state.characters?.bytes ?? null });
+}
 
-// A worker that cannot go on answers nothing more: what it was asked fails.
-worker.onerror = event => {
-  event.preventDefault();
-  for (const { reject } of answers.values()) reject(new Error(event.message || 'its worker stopped'));
+/** Ends the worker with all that it was asked, and starts another one; what is shown has to be printed again. */
+export function restartWorker() {
+  worker.terminate();
+  for (const { reject } of answers.values()) reject(new Cancelled('ended'));
   answers.clear();
-};
+  worker = startWorker();
+  openModule().catch(tellFailed);
+}
+
+function startWorker() {
+  const made = new Worker(URL.createObjectURL(new Blob([$('worker').textContent], { type: 'text/javascript' })));
+  made.onmessage = ({ data: { number, answer, error, progress } }) => {
+    const asked = answers.get(number);
+    if (!asked) return;
+    if (progress) { asked.onProgress?.(progress); return; }
+    answers.delete(number);
+    if (error === undefined) asked.resolve(answer); else asked.reject(new Error(error));
+  };
+  // A worker that cannot go on answers nothing more: what it was asked fails.
+  made.onerror = event => {
+    event.preventDefault();
+    for (const { reject } of answers.values()) reject(new Error(event.message || 'its worker stopped'));
+    answers.clear();
+  };
+  return made;
+}
 
 /** Whether the browser can run the module. */
 export const hasWebAssembly = () => typeof WebAssembly === 'object' && typeof DecompressionStream === 'function';
@@ -60,14 +90,14 @@ export const hasWebAssembly = () => typeof WebAssembly === 'object' && typeof De
 export const editor = new Editor(document.querySelector('.editor'), () => { leaveSource(); listingChanged(); }, {
   parts: line => partsOf(line, state.form),
   words: (line, column) => wordsAt(line, column, state.form),
-}, line => lineChosen(line));
-export const paper = new Paper($('sheets'), mark => markClicked(mark), (printers, chosen) => showPrinters(printers, chosen));
+}, line => lineChosen(line), (line, column) => linePointed(line, column));
+export const paper = new Paper($('sheets'), mark => markClicked(mark), mark => markPointed(mark), printers => showPrinters(printers));
 export const wave = new Wave($('wave').querySelector('canvas'), under => tellUnder(under), frame => frameChosen(frame));
 export const readers = {
   lines: new Reader($('lines')),
   list: new Reader($('list')),
   frames: new Reader($('frames'), line => {
-    const frame = wave.frames.findIndex(frame => frame.line === line);
+    const frame = wave.frames.indexOfLine(line);
     if (frame >= 0) wave.choose(frame);
   }),
   edges: new Reader($('edges')),
@@ -98,7 +128,9 @@ export function tellBriefly(words) {
 }
 
 /** Says that a call of the module failed. */
-export const tellFailed = error => tellOnce('failed', `The module failed: ${error.message}`);
+export function tellFailed(error) {
+  if (!(error instanceof Cancelled)) tellOnce('failed', `The module failed: ${error.message}`);
+}
 
 // printing
 
@@ -109,13 +141,15 @@ export let printed = 0, printing = false;     // (the tests wait for them)
 export async function print() {
   wanted++;
   hurry();
+  endLongTrace();
   if (printing || !ready) return;
   printing = true;
   const slow = setTimeout(() => document.body.classList.add('printing'), 250);
   try {
     while (printed !== wanted) {
       const version = wanted;
-      await printNow(version);
+      // (the answer of an ended worker does not come: it was ended for what is wanted next)
+      await printNow(version).catch(error => { if (!(error instanceof Cancelled)) throw error; });
       printed = version;
     }
   } catch (error) {
@@ -130,7 +164,8 @@ export async function print() {
   printing = false;
 }
 
-let hurry = () => {};
+let hurry = () => {}, cursorMoved = () => {};
+document.addEventListener('selectionchange', () => cursorMoved());
 
 /** Waits for some milliseconds, or until there is more to print. */
 const whileQuiet = milliseconds => new Promise(done => {
@@ -138,12 +173,26 @@ const whileQuiet = milliseconds => new Promise(done => {
   setTimeout(done, milliseconds);
 });
 
+/** Waits while a line is typed: until its last key is some time ago, the cursor is on another line, or there is more to print. */
+async function untilTyped(line, version) {
+  const rest = () => TYPED_AFTER - (performance.now() - editor.typed);
+  cursorMoved = () => { if (editor.cursorLine() !== line) hurry(); };
+  while (version === wanted && rest() > 0 && editor.cursorLine() === line) await whileQuiet(rest());
+  cursorMoved = () => {};
+}
+
 async function printNow(version) {
   const { source } = state;
+  clearTimeout(screenSoon);
   if (!source) {
-    const script = encode(editor.text);
+    // (what a long listing comes to takes the page some time to show: keys come first)
+    if (editor.text.length > LONG) await whileQuiet(Math.min(TYPED_PAUSE - (performance.now() - editor.typed), TYPED_PAUSE));
+    if (version !== wanted) return;
+    const script = encode(editor.text), { length } = script;
     const answer = await ask('print', { script, form: state.form, printers: state.printers, status: state.status }, version);
     if (version !== wanted && performance.now() - lastShown < 400) return;
+    if (answer.code === 2) await untilTyped((answer.place?.line ?? answer.line) - 1, version);
+    if (answer.code === 2 && version !== wanted) return;
     lastShown = performance.now();
     showRun(answer, version);
     // (the end takes the worker as long again: it waits while a long listing is typed)
@@ -153,7 +202,7 @@ async function printNow(version) {
     if (version !== wanted || !end) return;
     Object.assign(answer, end);
     showScript(answer);
-    if (answer.code <= 1) traceSoon(version, script.length);
+    if (answer.code <= 1) traceSoon(version, length);
     return;
   }
   const { bytes, set } = source, isRaw = source.kind === 'raw';
@@ -165,6 +214,7 @@ async function printNow(version) {
 
 export let firstPaper = 0;               // when there was paper first, in milliseconds from the page's start (the tests show it)
 let lastShown = 0, ofSource = false;     // `ofSource`: a file is on paper
+let screenSoon = 0;                      // what shows the screen a little later
 
 /** Takes the sheets away. */
 export function clearPaper() {
@@ -196,17 +246,13 @@ function showRun(answer, version) {
   firstPaper ||= performance.now();
 }
 
-/** Offers the printers of which one is shown. */
-function showPrinters(printers, chosen) {
-  const box = $('printers'), key = [...printers, chosen].join();
+/** Offers the printers whose sheets lie one below the other. */
+function showPrinters(printers) {
+  const box = $('printers'), key = printers.join();
   if (box.dataset.key === key) return;
   box.dataset.key = key;
   box.hidden = !printers.length;
-  box.replaceChildren(...printers.map(printer => {
-    const made = button(`Printer ${printer}`, () => paper.turnTo(printer));
-    made.setAttribute('aria-pressed', String(printer === chosen));
-    return made;
-  }));
+  box.replaceChildren(...printers.map(printer => button(`Printer ${printer}`, () => paper.turnTo(printer))));
 }
 
 /** What is written where there is no sheet. */
@@ -240,7 +286,7 @@ export async function fillReader(tab) {
   if (reader.stale !== version || !bytes) return;
   reader.stale = 0;
   reader.show(decode(bytes));
-  if (tab === 'frames' && wave.frames[wave.chosen]) reader.mark(wave.frames[wave.chosen].line);
+  if (tab === 'frames' && wave.frames.get(wave.chosen)) reader.mark(wave.frames.get(wave.chosen).line);
 }
 
 export const counted = (number, one, many = `${one}s`) => `${spaced(number)} ${number === 1 ? one : many}`;
@@ -269,7 +315,7 @@ function showScript(answer) {
   if (answer.code === 2) tellRefusal(answer, words);
   else if (answer.code > 2) words('first', 'Memory ran out.');
   else tellStatuses(answer, words);
-  showScreen(answer.code <= 1 ? answer.screen : new Uint8Array(0));
+  if (answer.code <= 1) showScreenSoon(answer.screen);
   speakSoon();
 }
 
@@ -293,8 +339,8 @@ function tellRefusal({ name, line, column, explanation, place, inPetcat }, words
   const width = isQuoted ? 1 : Math.max(place.width, /^[a-z]*/i.exec(text.slice(from))[0].length, 1);
   const first = words('first', `${upper} in line ${place.line}, column ${inPetcat ? from + 1 : place.column}`);
   first.append(' ', button('go there', () => editor.goTo(number, from)));
-  words('', capital(sentence));
-  hints.forEach(hint => words('', hint));
+  words('', capital(withCharacter(sentence, text.slice(from))));
+  pageHints(hints).forEach(hint => words('', hint));
   if (paper.picture) words('', 'The paper and the wire still show the run before.');
   signs[number] = 'refused';
   titles[number] = sentence;
@@ -321,7 +367,7 @@ function tellStatuses(answer, words) {
     // (the second line of an explanation is that of the listing)
     const [first, , ...hints] = told;
     words('first', first);
-    hints.forEach(hint => words('', hint.trim()));
+    pageHints(hints).forEach(hint => words('', hint.trim()));
     if (isKnown) {
       const line = lines[statement - 1], text = editor.line(line);
       sign(line, 'stopped', `statement ${statement}: ${name}`);
@@ -341,6 +387,14 @@ function tellStatuses(answer, words) {
 function tellTyped(words) {
   const hint = 'Small letters print as graphics (as capitals in the lower/upper case set), and a name in braces as its letters.';
   words('', hint).append(' ', button('Read it as petcat\'s text', () => chooseForm('petcat')));
+}
+
+/** Shows the screen; where that moves the listing, once no key is pressed for a while. */
+function showScreenSoon(bytes) {
+  clearTimeout(screenSoon);
+  const rest = $('screen').hidden === (bytes.length === 0) ? 0 : TYPED_AFTER - (performance.now() - editor.typed);
+  if (rest <= 0) return showScreen(bytes);
+  screenSoon = setTimeout(() => showScreen(bytes), rest);
 }
 
 /** The bytes on the screen: letters as they are, a return as a line's end, any other byte as its number. */

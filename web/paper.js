@@ -1,45 +1,51 @@
 // The sheets: the picture that the module gives, as it is. Of a long one only the rows are in the page that can
 // be seen; they are cut from its text, and nothing is drawn anew.
 
-import { DOT, LETTER_HEIGHT, markAt, MARKS_LEFT, MARKS_TOP, sheetsOf, STEP } from './sheets.js';
+import { DOT, LETTER_HEIGHT, markAt, MARKS_LEFT, MARKS_TOP, SHEET_TOP, sheetsOf, STEP } from './sheets.js';
+import { arrange, drawn, fanfold, SHEET_HEIGHT, sheetAt } from './fanfold.js';
 import { HIGHEST } from './reader.js';
 
 const PICA = 210;              // units of the picture
-const SHEET_AND_MARGINS = 13860;
+const DOTS_ACROSS = 480;       // the dots of a line
+const WHOLE_DOTS = 420;        // units, of which whole dots are made across and down
+const DOT_DOWN = 20;           // units from a dot to the one below it
 const WHOLE = 60000;           // characters: a shorter picture is in the page as a whole
-const LEAST = 6 / 126;         // pixels of a unit: a character is never less than six pixels wide
+const LEAST_BESIDE = 1 / DOT;  // pixels of a unit: sheets whose dots were smaller beside each other lie one below the other
+const LOSS = .75;              // dots of less than a pixel become a whole number of the screen's dots, unless they become smaller than this
+const ROUND_FROM = 3;          // dots of so many of the screen's, or fewer, are squares
+const SMALLER = .985;          // what leaves some air beside dots that are no whole number of the screen's
 const AROUND = 0.5;            // of a long picture, the rows of so much of the window's height are in the page above and below it
-const SHADED = 30000;          // units: shorter sheets have a shadow, which takes a browser too long on longer ones
 
 export class Paper {
   /**
-   * `onMark` gets the mark that is clicked, or null; `onTabs` gets the printers among which one is shown
-   * where there is no room for both, and that one.
+   * `onMark` gets the mark that is clicked, or null; `onUnder` gets the mark under the pointer, or null; `onTabs` gets the printers
+   * whose sheets lie one below the other.
    */
-  constructor(element, onMark, onTabs) {
+  constructor(element, onMark, onUnder, onTabs) {
     this.element = element;
     this.onTabs = onTabs;
-    this.printer = 0;          // the printer that is shown where there is room for one
     this.room = document.createElement('div');
     this.room.className = 'room';
     element.append(this.room);
     this.text = '';
     this.picture = null;
-    this.size = 0;             // pixels of a pica; 0: as wide as there is room
+    this.places = null;        // where the sheets lie
+    this.hasBars = false;      // whether the paper has green bars
+    this.size = 0;             // pixels of a pica; 0: the printed width is as wide as there is room
     this.found = [];
+    this.pointed = [];         // the marks that belong to what is pointed at
     this.focused = '';
     element.addEventListener('scroll', () => this.drawPart(), { passive: true });
-    new ResizeObserver(() => this.lay()).observe(element);
+    new ResizeObserver(() => { this.lay(); if (this.picture && !this.size) this.showDots(); }).observe(element);
     element.addEventListener('wheel', event => {
       if (!event.ctrlKey && !event.metaKey) return;
       event.preventDefault();
       this.zoom(Math.exp(-event.deltaY / 300), event.clientX, event.clientY);
     }, { passive: false });
-    this.room.addEventListener('click', event => {
-      if (!this.picture || String(getSelection())) return;
-      const place = this.placeAt(event.clientX, event.clientY);
-      onMark(markAt(this.text, this.picture, place.x, place.y));
-    });
+    const markOf = event => this.markAt(event.clientX, event.clientY);
+    this.room.addEventListener('click', event => { if (this.picture && !String(getSelection())) onMark(markOf(event)); });
+    this.room.addEventListener('pointermove', event => { if (event.pointerType === 'mouse' && !event.buttons) onUnder(markOf(event)); });
+    this.room.addEventListener('pointerleave', () => onUnder(null));
   }
 
   /** Shows a picture, or nothing. */
@@ -48,18 +54,17 @@ export class Paper {
     clearTimeout(this.wider);
     this.text = text;
     this.found = [];
+    this.pointed = [];
     this.part = null;
     this.picture = text ? sheetsOf(text) : null;
+    this.places = null;
     if (!text) {
       this.svg = null;
       this.room.replaceChildren();
       this.room.removeAttribute('style');
-      return this.onTabs([], 0);
+      return this.onTabs([]);
     }
-    if (text.length <= WHOLE) {
-      this.put(0, this.picture.height);
-      this.svg.classList.toggle('shaded', this.picture.height <= SHADED);
-    } else this.part = { from: 0, to: 0, isNarrow: !wasLong };
+    if (text.length > WHOLE) this.part = { from: 0, to: 0, isNarrow: !wasLong };
     this.lay();
     this.focus();
   }
@@ -76,8 +81,10 @@ export class Paper {
       this.svg.setAttribute('aria-label', this.picture.sheets.map(sheet => `Printer ${sheet.printer}`).join(' and ') || 'No printer');
       this.shapes = { elements: new Map(), places: [this.svg.querySelector('defs')] };
       this.rows = { elements: new Map(), places: [...this.svg.querySelectorAll(':scope > g > g > g')].slice(0, this.picture.sheets.length) };
-      this.room.replaceChildren(this.svg);
+      this.svg.setAttribute('preserveAspectRatio', 'none');
+      this.back = null;
     }
+    this.placeSheets();
     this.putParts(this.shapes, shapes.map(text => ({ place: 0, name: text, text })));
     this.putParts(this.rows, rows);
     this.drawFound();
@@ -102,110 +109,149 @@ export class Paper {
     }
   }
 
-  /** The sheets to show where there is room for one: those that are not empty, or all. */
-  inFocus() {
-    const printed = this.picture.sheets.filter(sheet => sheet.rows.length);
-    return printed.length === 1 ? printed : this.picture.sheets;
+  /** Puts the sheets and the notes where they lie, and the paper below them. */
+  placeSheets() {
+    const { sheets, notes } = this.places, groups = [...this.svg.querySelectorAll(':scope > g[transform]')];
+    sheets.forEach(({ sheet, right, down }, index) => groups[index].setAttribute('transform', `translate(${sheet.x + right} ${SHEET_TOP + down})`));
+    const words = this.picture.notes && this.svg.querySelector(':scope > text');
+    if (words) words.setAttribute('transform', `translate(630 ${this.picture.notes.y + notes})`);
+    const name = JSON.stringify([sheets.map(({ sheet, right, down, height }) => [sheet.x, right, down, height]), this.hasBars]);
+    if (this.back && name === this.backName) return;
+    this.backName = name;
+    this.back = fanfold(this.places, this.hasBars);
+    this.room.replaceChildren(this.back, this.svg);
   }
 
-  /** The sheet that is shown alone, since there is no room for those in focus; or null. */
-  alone() {
-    const sheets = this.inFocus();
-    if (sheets.length < 2 || this.element.clientWidth >= this.picture.width * LEAST) return null;
-    return sheets.find(sheet => sheet.printer === this.printer) || sheets[0];
+  /** The screen's dots that a dot of the printer has across where the printed width fits the window. */
+  fitting() { return this.element.clientWidth * (devicePixelRatio || 1) / DOTS_ACROSS; }
+
+  /** The pixels of a unit, across and down. A dot has a whole number of the screen's dots, so that each is as sharp as the others, unless it would be too small. */
+  scales() {
+    const ratio = devicePixelRatio || 1, wanted = this.size ? this.size / PICA * DOT * ratio : this.fitting();
+    const whole = this.size ? Math.round(wanted) : Math.floor(wanted), isWhole = whole >= 1 && (whole >= ratio || whole / wanted >= LOSS);
+    const across = isWhole ? whole / ratio / DOT : wanted * (this.size ? 1 : SMALLER) / ratio / DOT, down = isWhole ? whole / ratio / DOT_DOWN : across;
+    return { across: Math.min(across, HIGHEST / this.places.height), down: Math.min(down, HIGHEST / this.places.height) };
   }
 
-  /** The part of the picture that is shown, from left to right. */
-  across() {
-    const sheet = this.alone();
-    return sheet ? { left: sheet.x - 570, width: SHEET_AND_MARGINS - 120 } : { left: 0, width: this.picture.width };
+  /** The pixels of a unit across. */
+  scale() { return this.scales().across; }
+
+  /** The sheet in the middle of the window: its printer and its number, from 1; null where there is none. */
+  seen() {
+    if (!this.places?.sheets.length) return null;
+    const { across, down } = this.scales(), { clientWidth, clientHeight, scrollLeft, scrollTop } = this.element;
+    const x = this.places.left + (scrollLeft + clientWidth / 2) / across, y = (scrollTop + Math.min(clientHeight, 300) / 2) / down;
+    const placed = sheetAt(this.places, x, y) ?? this.places.sheets[0], row = (y - placed.down - MARKS_TOP) / SHEET_HEIGHT;
+    const last = Math.max(...placed.sheet.rows.map(row => row.y * STEP), 0);
+    return { printer: placed.sheet.printer, number: 1 + Math.min(Math.max(Math.floor(row), 0), Math.floor(last / SHEET_HEIGHT)) };
   }
 
-  scale() {
-    const width = this.inFocus().length > 1 ? this.across().width : SHEET_AND_MARGINS;
-    const wanted = this.size ? this.size / PICA : Math.min(Math.max(this.element.clientWidth / width, LEAST), 20 / PICA);
-    return Math.min(wanted, HIGHEST / this.picture.height);
-  }
-
-  /** Shows a printer's sheet where there is no room for both. */
+  /** Scrolls to a printer's sheet. */
   turnTo(printer) {
-    this.printer = printer;
-    this.lay();
+    const placed = this.places?.sheets.find(({ sheet }) => sheet.printer === printer);
+    if (placed) this.element.scrollTop = (placed.down + SHEET_TOP / 2) * this.scales().down;
   }
 
-  /** Scrolls to the sheet that has something on it, when that is another one than before. */
+  /** Scrolls to the dots, where the whole sheet is wider than the window, when the sheets are others than before. */
   focus() {
-    const sheets = this.inFocus(), name = this.picture.sheets.length + sheets.map(sheet => sheet.printer).join();
+    const name = this.picture.sheets.map(sheet => sheet.printer).join();
     if (name === this.focused) return;
     this.focused = name;
-    if (sheets.length === 1) this.element.scrollLeft = (sheets[0].x - 630) * this.scale();
+    this.showDots();
   }
 
-  /** Gives the picture its size. */
+  showDots() {
+    const first = this.places?.sheets[0];
+    if (first) this.element.scrollLeft = (first.sheet.x + MARKS_LEFT - this.places.left) * this.scale() - Math.max(this.element.clientWidth - DOTS_ACROSS * DOT * this.scale(), 0) / 2;
+  }
+
+  /** Gives the picture its size, and its sheets their places. */
   lay() {
     if (!this.picture || !this.element.clientWidth) return;
-    const scale = this.scale(), { height } = this.picture, { left, width } = this.across(), sheet = this.alone();
-    this.room.style.width = `${width * scale}px`;
-    this.room.style.height = `${height * scale}px`;
-    this.onTabs(sheet ? this.inFocus().map(({ printer }) => printer) : [], sheet?.printer);
+    const isStacked = this.picture.sheets.length > 1 && this.element.clientWidth < this.picture.width * LEAST_BESIDE;
+    this.places = arrange(this.picture, isStacked);
+    const { across, down } = this.scales(), { left, width, height } = this.places;
+    this.room.style.width = `${width * across}px`;
+    this.room.style.height = `${height * down}px`;
+    this.onTabs(isStacked ? this.picture.sheets.map(({ printer }) => printer) : []);
     if (this.part) { this.part.to = 0; return this.drawPart(this.part.isNarrow ? 0 : AROUND); }
-    this.svg.setAttribute('viewBox', `${left} 0 ${width} ${height}`);
-    Object.assign(this.svg.style, { width: `${width * scale}px`, height: `${height * scale}px` });
+    this.put(0, height);
+    this.showSpan(left, 0, width, height);
+  }
+
+  /** Shows a part of the picture at its place. */
+  showSpan(left, top, width, height) {
+    const { across, down } = this.scales(), dots = Math.round(across * DOT * (devicePixelRatio || 1) * 10) / 10;
+    // (round dots of a few of the screen's dots are grey where they meet)
+    this.svg.classList.toggle('square', dots >= 1 && dots <= ROUND_FROM);
+    for (const layer of [this.back, this.svg]) {
+      layer.setAttribute('viewBox', `${left} ${top} ${width} ${height}`);
+      Object.assign(layer.style, { top: `${top * down}px`, width: `${width * across}px`, height: `${height * down}px` });
+    }
   }
 
   zoom(factor, x = null, y = null) {
     if (!this.picture) return;
-    const box = this.element.getBoundingClientRect(), before = this.scale();
+    const box = this.element.getBoundingClientRect(), before = this.scales(), ratio = devicePixelRatio || 1;
     const left = (x ?? box.left + box.width / 2) - box.left, top = (y ?? box.top + box.height / 2) - box.top;
-    const across = (this.element.scrollLeft + left) / before, down = (this.element.scrollTop + top) / before;
-    this.size = Math.min(Math.max(before * PICA * factor, 2), 120);
+    const right = (this.element.scrollLeft + left) / before.across, down = (this.element.scrollTop + top) / before.down;
+    this.size = Math.min(Math.max((x !== null && this.size || before.across * PICA) * factor, 2), 120);
+    // (a button makes a dot larger or smaller by one dot of the screen at least)
+    const dots = before.across * DOT * ratio, step = PICA / DOT / ratio;
+    if (x === null && dots >= 1) this.size = factor > 1 ? Math.max(this.size, (Math.round(dots) + 1) * step) : Math.min(this.size, Math.max(Math.round(dots) - 1, .7) * step);
     this.lay();
-    this.element.scrollTo(across * this.scale() - left, down * this.scale() - top);
+    const after = this.scales();
+    this.element.scrollTo(right * after.across - left, down * after.down - top);
   }
 
   fit() {
     this.size = 0;
-    this.focused = '';
     this.lay();
-    if (this.picture) this.focus();
+    if (this.picture) this.showDots();
   }
 
-  /** Where a place of the window lies in the picture. */
-  placeAt(x, y) {
-    const box = this.room.getBoundingClientRect(), scale = this.scale();
-    return { x: this.across().left + (x - box.left) / scale, y: (y - box.top) / scale };
+  /** Gives the paper green bars, or takes them away. */
+  showBars(hasBars) {
+    this.hasBars = hasBars;
+    this.lay();
+  }
+
+  /** The mark at a place of the window, or null. */
+  markAt(x, y) {
+    if (!this.picture) return null;
+    const box = this.room.getBoundingClientRect(), { across, down } = this.scales(), right = this.places.left + (x - box.left) / across, under = (y - box.top) / down;
+    const placed = sheetAt(this.places, right, under);
+    return placed ? markAt(this.text, this.picture, right - placed.right, under - placed.down) : null;
   }
 
   /** Draws the part of a long picture around what can be seen: `around` times as much above and below, which comes a little later in a new one. */
   drawPart(around = AROUND) {
-    if (!this.part || !this.picture) return;
-    const scale = this.scale(), seen = this.element.clientHeight / scale;
+    if (!this.part || !this.picture || !this.places) return;
+    const scale = this.scales().down, seen = this.element.clientHeight / scale, { left, width, height } = this.places;
     // (in a window that becomes narrower the sheets are smaller before the scrolled place is)
-    const top = Math.min(this.element.scrollTop / scale, Math.max(this.picture.height - seen, 0));
+    const top = Math.min(this.element.scrollTop / scale, Math.max(height - seen, 0));
     if (top >= this.part.from && top + seen <= this.part.to) return;
-    const from = Math.max(top - around * seen, 0), to = Math.min(top + (1 + around) * seen, this.picture.height), { left, width } = this.across();
+    const from = Math.floor(Math.max(top - around * seen, 0) / WHOLE_DOTS) * WHOLE_DOTS, to = Math.min(top + (1 + around) * seen, height);
     clearTimeout(this.wider);
     if (!around) this.wider = setTimeout(() => { this.part.to = 0; this.drawPart(); }, 100);
     this.part = { from, to, isNarrow: !around };
     this.put(from, to);
-    this.svg.setAttribute('viewBox', `${left} ${from} ${width} ${to - from}`);
-    Object.assign(this.svg.style, {
-      position: 'absolute', top: `${from * scale}px`, width: `${width * scale}px`, height: `${(to - from) * scale}px`,
-    });
+    this.showSpan(left, from, width, to - from);
   }
 
   /** The picture without its rows, and those of its rows that lie between two heights: `{ place, name, text }`, a place for each sheet. */
   cut(from, to) {
-    const { sheets, notes } = this.picture, parts = [], rows = [];
+    const { notes } = this.picture, parts = [], rows = [];
     let at = 0;
-    sheets.forEach((sheet, number) => {
+    this.places.sheets.forEach(({ sheet, down }, number) => {
+      const [first, end] = [from - down, to - down];
       parts.push(this.text.slice(at, sheet.from));
       let low = 0, high = sheet.rows.length;
       while (low < high) {
         const middle = (low + high) >> 1;
-        if (MARKS_TOP + sheet.rows[middle].y * STEP + 2 * LETTER_HEIGHT < from) low = middle + 1; else high = middle;
+        if (MARKS_TOP + sheet.rows[middle].y * STEP + 2 * LETTER_HEIGHT < first) low = middle + 1; else high = middle;
       }
-      for (; low < sheet.rows.length && MARKS_TOP + sheet.rows[low].y * STEP < to + LETTER_HEIGHT; low++) {
+      for (; low < sheet.rows.length && MARKS_TOP + sheet.rows[low].y * STEP < end + LETTER_HEIGHT; low++) {
         const row = sheet.rows[low];
         if (row.held) break;
         const text = `<g transform="translate(0 ${row.y * STEP})">\n${this.text.slice(row.from, row.to)}</g>`;
@@ -219,40 +265,42 @@ export class Paper {
     parts.push(this.text.slice(at, notes.from));
     this.noteLines ??= null;
     if (this.noteLines?.text !== this.text) this.noteLines = { text: this.text, lines: this.text.slice(notes.from, notes.to).split('\n') };
-    const lines = this.noteLines.lines, first = Math.max(Math.floor((from - notes.y) / PICA) - 2, 0);
-    const some = lines.slice(first, Math.max(Math.ceil((to - notes.y) / PICA) + 2, first));
+    const lines = this.noteLines.lines, y = notes.y + this.places.notes, first = Math.max(Math.floor((from - y) / PICA) - 2, 0);
+    const some = lines.slice(first, Math.max(Math.ceil((to - y) / PICA) + 2, first));
     if (some.length && first) some[0] = some[0].replace('dy="210"', `dy="${210 * (first + 1)}"`);
     return { frame: parts.join('') + some.join('\n') + this.text.slice(notes.to), rows };
   }
 
+  /** Where marks lie on the desk. */
+  boxesOf(marks) {
+    return marks.flatMap(({ printer, row, x, width }) => {
+      const placed = this.places?.sheets.find(({ sheet }) => sheet.printer === printer), line = placed?.sheet.rows[row];
+      return line ? [{ x: placed.sheet.x + placed.right + MARKS_LEFT + x * DOT, y: MARKS_TOP + placed.down + line.y * STEP, width: width * DOT }] : [];
+    });
+  }
+
   /** Shows where marks are, and brings the first of them into view. */
   find(marks) {
-    const sheet = this.picture && this.alone(), isSeen = !sheet || marks.some(mark => mark.printer === sheet.printer);
-    if (!isSeen && marks.length) this.turnTo(marks[0].printer);
-    this.found = marks.flatMap(({ printer, row, x, width }) => {
-      const sheet = this.picture?.sheets.find(sheet => sheet.printer === printer), line = sheet?.rows[row];
-      return line ? [{ printer, x: sheet.x + MARKS_LEFT + x * DOT, y: MARKS_TOP + line.y * STEP, width: width * DOT }] : [];
-    });
+    this.found = this.boxesOf(marks);
     this.drawFound();
-    if (!this.found.length) return;
-    const only = this.alone(), first = this.found.find(mark => !only || mark.printer === only.printer);
+    const [first] = this.found;
     if (!first) return;
-    const scale = this.scale(), { x, y, width } = first, view = this.element, left = (x - this.across().left) * scale, top = y * scale;
-    if (left < view.scrollLeft || left + width * scale > view.scrollLeft + view.clientWidth) view.scrollLeft = left - view.clientWidth / 2;
-    if (top < view.scrollTop || top + LETTER_HEIGHT * scale > view.scrollTop + view.clientHeight) view.scrollTop = top - view.clientHeight / 3;
+    const { across, down } = this.scales(), { x, y, width } = first, view = this.element, left = (x - this.places.left) * across, top = y * down;
+    if (left < view.scrollLeft || left + width * across > view.scrollLeft + view.clientWidth) view.scrollLeft = left - view.clientWidth / 2;
+    if (top < view.scrollTop || top + LETTER_HEIGHT * down > view.scrollTop + view.clientHeight) view.scrollTop = top - view.clientHeight / 3;
+  }
+
+  /** Shows marks that belong to what is pointed at, or none. */
+  point(marks) {
+    this.pointed = this.boxesOf(marks);
+    this.drawFound();
   }
 
   drawFound() {
     if (!this.svg) return;
-    this.svg.querySelector('.found')?.remove();
-    const group = document.createElementNS('http://www.w3.org/2000/svg', 'g');
-    group.setAttribute('class', 'found');
-    for (const { x, y, width } of this.found) {
-      const box = document.createElementNS('http://www.w3.org/2000/svg', 'rect');
-      const places = { x: x - 12, y: y - 22, width: width + 24, height: LETTER_HEIGHT + 44, rx: 20 };
-      for (const [name, value] of Object.entries(places)) box.setAttribute(name, value);
-      group.append(box);
+    for (const [name, boxes] of Object.entries({ found: this.found, pointed: this.pointed })) {
+      this.svg.querySelector(`.${name}`)?.remove();
+      this.svg.append(drawn('g', { class: name }, ...boxes.map(({ x, y, width }) => drawn('rect', { x, y, width, height: LETTER_HEIGHT }))));
     }
-    this.svg.append(group);
   }
 }

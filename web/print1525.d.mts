@@ -1,4 +1,5 @@
-export type Bytes = Uint8Array | ArrayBuffer | ArrayLike<number>;
+/** Bytes: a string is taken for them as UTF-8. Anything that a setting does not take throws a TypeError with its name. */
+export type Bytes = string | Uint8Array;
 
 /** What the program does: `input` is in the place of the file that the words name or of standard input, `characters` in that of the file of characters. */
 export interface Asked {
@@ -14,9 +15,9 @@ export interface Asked {
 export interface Answered {
   /** its exit status: 0 done, 1 stopped by a BASIC error, 2 refused, 3 out of memory */
   status: 0 | 1 | 2 | 3;
-  /** the number of the fault, as include/print1525.h has them; 0 for none, and of a run that a BASIC error stopped */
+  /** the number of the fault, as include/print1525.h has them; 0 for none; with status 1 100 and the number of the BASIC error */
   fault: number;
-  /** the line of the fault, from 1, the index of its edge, from 0, or how many sheets there are; or 0 */
+  /** the line of the fault, from 1, the index of its edge, from 0, or how many sheets there are; with status 1 the statement, from 1; or 0 */
   place: number;
   /** the column in that line, from 1, of what petcat does not write; or 0 */
   column: number;
@@ -28,11 +29,11 @@ export interface Answered {
 
 /** How a call with numbers ended. */
 export interface Answer {
-  /** 0 done, 1 stopped by a BASIC error, 2 refused, 3 out of memory */
-  code: 0 | 1 | 2 | 3;
-  /** with code 1 the number of the BASIC error and 100, with code 2 that of the fault (include/print1525.h), else 0 */
+  /** 0 done, 2 refused, 3 out of memory */
+  code: 0 | 2 | 3;
+  /** with code 2 the number of the fault (include/print1525.h), else 0 */
   fault: number;
-  /** with code 1 the statement, from 1; with code 2 the line, from 1, or the index of the edge or of the input, from 0; or 0 */
+  /** with code 2 the line, from 1, or the index of the edge or of the input, from 0; or 0 */
   place: number;
 }
 
@@ -48,7 +49,7 @@ export interface Recording {
   /** 0 a trace as `print1525 bus` writes it (the default), 1 a Value Change Dump, 2 a table; 3 what its first bytes show, or a trace; 4 the same, or a table */
   source?: 0 | 1 | 2 | 3 | 4;
   /** the names of the signals ATN, CLOCK and DATA */
-  names?: (string | Bytes)[];
+  names?: Bytes[];
   /** whether 0 is released and 1 is pulled */
   inverted?: boolean;
   /** the microsecond at which the recording starts */
@@ -69,9 +70,7 @@ export interface Print1525 {
    * `format` is 0 the page text (the default), 1 lines, 2 SVG, 3 PNG, 4 PDF; `device` (4 or 5) and `sheet` (from 1) show a part,
    * where the format can
    */
-  print(asked: { inputs: ArrayLike<number>; format?: 0 | 1 | 2 | 3 | 4; device?: 0 | 4 | 5; sheet?: number | bigint; characters?: Bytes }): Answer & { text: Uint8Array };
-  /** whether a BASIC error stops a script's run, with code 1; `four` and `five` say which printers are present (both), `kept` whether the status is kept */
-  stop(asked: Script & { four?: boolean; five?: boolean; kept?: boolean }): Answer;
+  print(asked: { inputs: number[] | Uint8Array | Uint16Array; format?: 0 | 1 | 2 | 3 | 4; device?: 0 | 4 | 5; sheet?: number | bigint; characters?: Bytes }): Answer & { text: Uint8Array };
   /** the edges of a recording, up to its fault: moments in microseconds, and levels (4 for ATN, 2 for CLOCK, 1 for DATA, where released) */
   edges(asked: Recording): Answer & { times: Float64Array; levels: Uint8Array };
   /**
@@ -102,3 +101,6 @@ export function loadPrint1525(bytes: Uint8Array | ArrayBuffer): Promise<Print152
 
 /** Loads the module that is beside this file, in Node. */
 export function openPrint1525(): Promise<Print1525>;
+
+/** The WebAssembly module that a page holds, of the text of print1525.html. */
+export function moduleOfPage(page: string): Promise<Uint8Array>;

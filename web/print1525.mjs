@@ -11,15 +11,21 @@ import { loadPrint1525 } from './module.mjs';
 
 export { loadPrint1525 };
 
+/** The WebAssembly module that a page holds, of the page's text. */
+export async function moduleOfPage(page) {
+  const { inflateRawSync } = await import('node:zlib');
+  const [, packed] = /<script type="text\/plain" id="module">([^<]*)</.exec(page) || [];
+  if (!packed) throw new Error('the print1525.html beside print1525.mjs holds no module');
+  return inflateRawSync(Buffer.from(packed, 'base64'));
+}
+
 /** The module beside this file, ready for calls; throws where it is not there. In a browser, pass its bytes to loadPrint1525. */
 export async function openPrint1525() {
-  const { readFileSync, existsSync } = await import('node:fs'), { inflateRawSync } = await import('node:zlib');
+  const { readFileSync, existsSync } = await import('node:fs');
   const [module, page] = ['print1525.wasm', 'print1525.html'].map(name => new URL(name, import.meta.url));
   if (existsSync(module)) return loadPrint1525(readFileSync(module));
   if (!existsSync(page)) throw new Error('print1525.mjs needs print1525.wasm or print1525.html beside it');
-  const [, packed] = /<script type="text\/plain" id="module">([^<]*)</.exec(readFileSync(page, 'latin1')) || [];
-  if (!packed) throw new Error('the print1525.html beside print1525.mjs holds no module');
-  return loadPrint1525(inflateRawSync(Buffer.from(packed, 'base64')));
+  return loadPrint1525(await moduleOfPage(readFileSync(page, 'latin1')));
 }
 
 /** A failed read or write: its line on standard error. The exit status is 3. */

@@ -58,8 +58,8 @@ const PARTS = /("[^"]*"?)|(chr\$\s*\(\s*(\d+)\s*\))|(rem[^]*)|(open|cmd|print\s*
 
 /** A line as its parts, one after another: `{ text, kind, words }`. */
 export function partsOf(line, form) {
-  const parts = [];
-  for (const [whole, string, code, number, remark, keyword] of line.matchAll(PARTS)) {
+  const label = /^\s*\d+/.exec(line)?.[0] ?? '', parts = label ? [{ text: label, kind: 'label' }] : [];
+  for (const [whole, string, code, number, remark, keyword] of line.slice(label.length).matchAll(PARTS)) {
     if (string) parts.push(...partsOfString(whole, form));
     else if (code) parts.push({ text: whole, kind: 'code', words: wordsOfByte(Number(number)) });
     else parts.push({ text: whole, kind: remark ? 'remark' : keyword ? 'keyword' : 'plain' });
@@ -75,4 +75,39 @@ export function wordsAt(line, column, form) {
     if (column < at) return words;
   }
   return '';
+}
+
+/** The bytes of a string's text and where each comes from, as `{ byte, from, to }`; `at` is where the text begins. */
+function bytesOfString(text, form, at) {
+  const bytes = [];
+  for (const found of text.matchAll(form === 'petcat' ? /\{(\d+ )?([^}]*)\}|[^]/g : /[^]/g)) {
+    const [whole, count, name] = found, place = { from: at + found.index, to: at + found.index + whole.length }, code = whole.charCodeAt(0);
+    const letter = form !== 'petcat' ? code : code >= 97 && code <= 122 ? code - 32 : code >= 65 && code <= 90 ? code + 128 : code;
+    for (let n = 0; n < (Number(count) || 1); n++) bytes.push({ byte: name === undefined ? letter : byteOfName(name), ...place });
+  }
+  return bytes;
+}
+
+/** What a line prints, by its strings and codes. */
+function printedBy(line, form) {
+  const printed = [];
+  for (const found of line.matchAll(PARTS)) {
+    const [whole, string, code, number, remark] = found;
+    if (remark) break;
+    if (string) printed.push(...bytesOfString(whole.replace(/^"|"$/g, ''), form, found.index + 1));
+    if (code) printed.push({ byte: Number(number), from: found.index, to: found.index + whole.length });
+  }
+  return printed;
+}
+
+/**
+ * Where in a line each of the data bytes that it sends comes from: `{ from, to }`, or null for the end of a line, which has no
+ * character. A last byte of CMD is sent by the line after it, so there a first byte may come from elsewhere, and here a last one may
+ * be missing. Null where the line has something else to print.
+ */
+export function bytesOfLine(line, form, sent) {
+  const printed = printedBy(line, form);
+  let next = 0;
+  const places = sent.map((byte, index) => (printed[next]?.byte === byte ? printed[next++] : byte === 13 || byte === 10 || index === 0 ? null : undefined));
+  return printed.length - next <= (/\bcmd/i.test(line) ? 1 : 0) && !places.includes(undefined) ? places : null;
 }

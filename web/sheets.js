@@ -9,18 +9,18 @@ export const MARKS_TOP = 1680;    // from the picture's top to the marks
 export const LETTER_HEIGHT = 140; // seven dots
 
 /**
- * The sheets of a picture: `{ width, height, sheets, notes }`. A sheet is `{ printer, x, from, to, rows }`: its
- * number, its left edge, where the text of its rows begins and ends, and its rows as `{ y, from, to, held }`: the
+ * The sheets of a picture: `{ width, height, sheets, notes }`. A sheet is `{ printer, x, height, from, to, rows }`: its
+ * number, its left edge, how high it is drawn, where the text of its rows begins and ends, and its rows as `{ y, from, to, held }`: the
  * distance from the top in 1/126 inch, and where the text of its marks begins and ends. `notes` is `{ y, from, to }`
  * for the lines below the sheets, or null.
  */
 export function sheetsOf(svg) {
   const size = /viewBox="0 0 (\d+) (\d+)"/.exec(svg.slice(0, 400));
   const picture = { width: Number(size[1]), height: Number(size[2]), sheets: [], notes: null };
-  const sheetStart = /<g transform="translate\((\d+) 1050\)">\n<text [^>]*>Printer (\d)<\/text>\n<rect [^>]*>\n<rect [^>]*>\n<g [^>]*>\n<g [^>]*>\n/g;
+  const sheetStart = /<g transform="translate\((\d+) 1050\)">\n<text [^>]*>Printer (\d)<\/text>\n<rect width="\d+" height="(\d+)" [^>]*>\n<rect [^>]*>\n<g [^>]*>\n<g [^>]*>\n/g;
   let start;
   while ((start = sheetStart.exec(svg))) {
-    const sheet = { printer: Number(start[2]), x: Number(start[1]), from: sheetStart.lastIndex, to: 0, rows: [] };
+    const sheet = { printer: Number(start[2]), x: Number(start[1]), height: Number(start[3]), from: sheetStart.lastIndex, to: 0, rows: [] };
     sheetStart.lastIndex = readRows(svg, sheet);
     picture.sheets.push(sheet);
   }

@@ -1,9 +1,10 @@
 // What a recording or a run's trace says, beside the wave: the facts, the intervals, and what is chosen.
 
-import { intervalsOf } from './wire.js';
+import { Frames, intervalsOf, measureBy, turnsOf } from './wire.js';
 import { hexadecimal, spaced } from './wave.js';
 import { $, all, button, encode } from './basics.js';
-import { ask, AUTOMATIC, counted, editor, fillReader, LINES_LIMIT, nextText, paper, readers, state, tellFailed, tellOnce, wanted, wave } from './page.js';
+import { ask, AUTOMATIC, counted, editor, fillReader, nextText, print, readers, restartWorker, state, tellFailed, wanted, wave } from './page.js';
+import { framePointed, leavePointed } from './links.js';
 import { readLists } from './controls.js';
 
 export function cover(words, actions = []) {
@@ -15,28 +16,55 @@ export function cover(words, actions = []) {
 
 let waitingTrace = 0;
 export let traced = 0;     // the number of the print whose trace is shown (the tests wait for it)
+let tracing = 0;           // since when a trace is made, or 0
 
-/** Makes the trace once nothing more is typed; a long one only when it is asked for. */
+const PATIENCE = 600;      // milliseconds: a trace that takes longer is ended by the next print
+// What a byte of a listing comes to, about: edges, seconds and bytes of memory (web/test measures them).
+const COST = { edges: 17, seconds: 20e-6, memory: 2400 };
+const MOST_EDGES = 33e6;   // a longer trace has more than the four gigabytes that the module can have
+
+/** Makes the trace once nothing more is typed; a long one only when it is asked for, since it has its cost. */
 export function traceSoon(version, length) {
   clearTimeout(waitingTrace);
   offerWire(false);
   if (length > AUTOMATIC) {
     showWire(null);
-    const make = button('Make the trace', () => { cover('Making the trace …'); trace(version); });
-    return cover(`The trace of this listing is long (about ${counted(Math.round(length * 3e-4), 'megabyte')}).`, [make]);
+    const millions = (length * COST.edges / 1e6).toFixed(length < 6e5 ? 1 : 0), seconds = Math.max(Math.round(length * COST.seconds), 1), gigabytes = (length * COST.memory / 1e9).toFixed(1);
+    const words = `The trace of this listing is long: about ${millions} million edges, which take ${counted(seconds, 'second')} or more and ${gigabytes} GB of memory.`;
+    const isTooLong = length * COST.edges > MOST_EDGES, more = isTooLong ? ' The module has not so much memory: save the listing, and make its trace with the program.' : '';
+    return cover(words + more, [button('Make the trace', () => trace(version))]);
   }
   waitingTrace = setTimeout(() => trace(version), 90);
 }
 
+/** Ends the making of a trace that takes long, since there is something else to print. */
+export function endLongTrace() {
+  if (!tracing || performance.now() - tracing < PATIENCE) return;
+  tracing = 0;
+  cover('');
+  restartWorker();
+}
+
+/** Shows how far a trace is, with a way out. */
+function coverProgress() {
+  const bar = document.createElement('progress'), words = document.createElement('p');
+  bar.setAttribute('aria-label', 'Making the trace');
+  const cancel = button('Cancel', () => { tracing = 0; restartWorker(); print(); });
+  cover('Making the trace …', [bar, words, cancel]);
+  return ({ done, words: next }) => { bar.value = done; words.textContent = next; };
+}
+
 async function trace(version) {
   if (version !== wanted || state.source) return;
-  const { printers, status } = state, delays = readLists();
+  const { printers, status } = state, delays = readLists(), script = encode(editor.text);
   if (!delays) {
     showWire(null);
     return cover('A list of delays cannot be read, so there is no trace.');
   }
+  const onProgress = script.length > AUTOMATIC ? coverProgress() : null;
+  tracing = performance.now();
   try {
-    const answer = await ask('trace', { script: encode(editor.text), form: state.form, printers, status, delays }, version);
+    const answer = await ask('trace', { script, form: state.form, printers, status, delays }, version, onProgress);
     if (version !== wanted || state.source || !answer) return;
     traced = version;
     state.taken = answer.delays;
@@ -45,6 +73,8 @@ async function trace(version) {
     else { showWire(null); cover(answer.code === 3 ? 'Memory ran out, so there is no trace.' : 'There is no trace.'); }
   } catch (error) {
     tellFailed(error);
+  } finally {
+    if (version === wanted) tracing = 0;
   }
 }
 
@@ -55,19 +85,22 @@ function offerWire(isThere) {
 
 export let onWire = null;  // what the wire shows and what is said of it, or null (the tests look at it)
 
-const NOTHING = { times: new Float64Array(0), levels: new Uint8Array(0), kinds: new Uint8Array(0), since: new Float64Array(0), frames: [], verdict: '', isLawful: null };
+const NO_EDGES = { times: new Float64Array(0), levels: new Uint8Array(0) };
+const NOTHING = { ...NO_EDGES, kinds: new Uint8Array(0), since: new Float64Array(0), turns: turnsOf(NO_EDGES), counts: [], verdict: '', isLawful: null };
 
 /** Shows a trace with what is said of it, or none. */
 export function showWire(answer) {
   onWire = answer;
+  leavePointed();
   offerWire(Boolean(answer));
-  const { times, levels, kinds, since, frames, verdict, isLawful } = answer || NOTHING;
-  wave.show({ times, levels }, { kinds, since }, frames);
+  const { times, levels, kinds, since, turns, rows, lines, verdict, isLawful, counts } = answer || NOTHING;
+  measureBy(answer?.intervals, answer?.bounds === 'guide');
+  wave.show({ times, levels }, { kinds, since }, new Frames(rows, lines), turns);
   $('wire-facts').textContent = !answer ? '' : [
-    state.source?.name, counted(frames.filter(frame => frame.kind !== 'glitch').length, 'byte'), counted(times.length, 'edge'),
+    state.source?.name, counted(counts[0].count, 'byte'), counted(times.length, 'edge'),
     times.length ? `${spaced(Math.round(times[times.length - 1] / 100) / 10)} ms` : '',
   ].filter(Boolean).join(' · ');
-  $('verdict').textContent = isLawful === null ? '' : isLawful ? 'lawful' : 'not lawful';
+  $('verdict').textContent = isLawful === null ? '' : answer?.bounds === 'guide' ? verdict.replace(/:.*/, '') : isLawful ? 'lawful' : 'differs from this project\'s timing';
   $('verdict').title = verdict;
   $('verdict').classList.toggle('unlawful', isLawful === false);
   tellUnder(null);
@@ -78,6 +111,13 @@ export function showWire(answer) {
     if (!answer) readers[tab].show('');
   }
   fillReader(state.tabs.wire);
+}
+
+/** What is said of a recording's timing. A real bus hardly ever has this project's, so that is no failure. */
+export function verdictWords({ verdict, isLawful, bounds }) {
+  if (!verdict) return '';
+  if (bounds === 'guide') return `${verdict[0].toUpperCase()}${verdict.slice(1)}.`;
+  return isLawful ? 'It is lawful.' : `It differs from this project's timing: ${verdict.replace(/^not lawful: /, '')}. A real bus does so; its bytes and pages are here all the same.`;
 }
 
 /** The intervals of a recording's bytes beside the profile's bounds. */
@@ -101,18 +141,18 @@ function showIntervals(answer) {
   row('th', ['Interval, in µs', 'bytes', 'least', 'middle', 'greatest', 'allowed', 'outside']);
   for (const { name, count, least, middle, greatest, from, to, outside } of answer.intervals) {
     if (!count) { row('td', [name, '–', '', '', '', '', '']); continue; }
-    const bounds = `${from} to ${to}`, beyond = outside ? spaced(outside) : '–';
+    const bounds = Number.isFinite(to) ? `${from} to ${to}` : `${from} or more`, beyond = outside ? spaced(outside) : '–';
     row('td', [name, spaced(count), spaced(least), middle, spaced(greatest), bounds, beyond], outside ? 'bad' : '');
   }
   const counts = document.createElement('p');
   counts.textContent = answer.counts.filter(({ count }) => count).map(({ name, count }) => `${name}: ${spaced(count)}`).join(' · ');
   const verdict = document.createElement('p');
-  verdict.textContent = answer.verdict;
+  verdict.textContent = verdictWords(answer);
   verdict.className = answer.isLawful ? 'lawful' : 'unlawful';
   panel.append(table, counts, verdict);
 }
 
-const boundsWords = bounds => bounds ? ` (${bounds.join('–')})` : '';
+const boundsWords = bounds => !bounds ? '' : Number.isFinite(bounds[1]) ? ` (${bounds.join('–')})` : ` (${bounds[0]} or more)`;
 const named = ({ name }, bit) => bit === null ? name : `${name} of bit ${bit}`;
 
 const HINTS = ['Point at the wave for its intervals; click a frame for its marks.', 'Tap a frame for its marks.'];
@@ -121,8 +161,9 @@ const HINTS = ['Point at the wave for its intervals; click a frame for its marks
 export function tellUnder(under) {
   const line = $('under');
   line.className = '';
+  framePointed(under ? under.frame : -1);
   if (!under) { line.textContent = wave.frames.length ? HINTS[Number(matchMedia('(pointer: coarse)').matches)] : ''; return; }
-  const moment = `${spaced(Math.round(under.moment))} µs`, { part, bit, level, wire } = under;
+  const since = wave.mark === null ? '' : ` (${spaced(Math.round(under.moment - wave.mark))} µs from the cursor)`, moment = `${spaced(Math.round(under.moment))} µs${since}`, { part, bit, level, wire } = under;
   if (part) {
     const long = part.to - part.from, bad = part.bounds && (long < part.bounds[0] || long > part.bounds[1]);
     line.textContent = `${moment}: ${named(part, bit)}, ${spaced(long)} µs${boundsWords(part.bounds)}${bad ? ', outside' : ''}`;
@@ -133,12 +174,15 @@ export function tellUnder(under) {
   } else line.textContent = moment;
 }
 
+/** A byte as it is named everywhere: its number, and its name if it has one. */
+export const byteWords = (byte, name = byte > 32 && byte < 127 ? `'${String.fromCharCode(byte)}'` : `byte ${byte}`) => `$${hexadecimal(byte)} ${name}`;
+
 /** Shows a frame's byte, its moments and its intervals. */
-function tellChosen(index, more = '') {
-  const frame = wave.frames[index], line = $('chosen');
+export function tellChosen(index, more = '') {
+  const frame = wave.frames.get(index), line = $('chosen');
   line.textContent = '';
   if (!frame) return;
-  const says = frame.byte === null ? frame.name : `$${hexadecimal(frame.byte)} ${frame.name}${frame.eoi ? ', end-or-identify' : ''}`;
+  const says = frame.byte === null ? frame.name : `${byteWords(frame.byte, frame.name)}${frame.eoi ? ', end-or-identify' : ''}`;
   const strong = document.createElement('strong');
   strong.textContent = says;
   const end = Number.isFinite(frame.end) ? ` to ${spaced(frame.end)}` : '', fault = frame.fault ? `, ${frame.fault}` : '';
@@ -147,79 +191,9 @@ function tellChosen(index, more = '') {
   list.className = 'items';
   for (const { name, least, greatest, bounds } of intervalsOf(frame)) {
     const item = document.createElement('span');
-    item.className = least < bounds[0] || greatest > bounds[1] ? 'item bad' : 'item';
+    item.className = bounds && (least < bounds[0] || greatest > bounds[1]) ? 'item bad' : 'item';
     item.textContent = `${name} ${[...new Set([least, greatest])].map(spaced).join('–')}${boundsWords(bounds)}`;
     list.append(item);
   }
   line.append(list);
 }
-
-let asked = 0;
-
-/** Whether the lines of the listing that is shown can be found: each answer runs parts of it. */
-const knowsLines = () => !state.source && wave.frames.length > 0 && editor.text.length <= LINES_LIMIT;
-
-/** A line of the listing is chosen: its frames and its marks are shown. */
-export async function lineChosen(line) {
-  const turn = ++asked;
-  if (!knowsLines()) return;
-  let answer;
-  try { answer = await ask('line', { line }); } catch (error) { return tellFailed(error); }
-  if (turn !== asked || !answer) return;
-  const { from, to, marks } = answer, first = wave.frames[from], last = wave.frames[to - 1];
-  wave.choose(-1, false);
-  readers.frames.mark(to > from ? first.line : -1);
-  wave.showSpan(to > from ? [first.look, last.end] : null);
-  paper.find(marks);
-  editor.choose(line);
-  const words = document.createElement('strong');
-  words.textContent = `Line ${line + 1}`;
-  $('chosen').replaceChildren(words, `  ${to > from ? `${counted(to - from, 'byte')} on the wire, ${counted(marks.length, 'mark')}` : 'sends nothing'}`);
-}
-
-/** Shows the line of a frame beside the listing. */
-async function showLineOf(index, turn) {
-  if (!knowsLines()) return;
-  let answer;
-  try { answer = await ask('lineOf', { frame: index }); } catch (error) { return tellFailed(error); }
-  if (turn === asked && answer) editor.choose(answer.line);
-}
-
-/** A frame is chosen: its marks are shown on the sheets, and its line. */
-export async function frameChosen(index) {
-  const turn = ++asked, frame = wave.frames[index];
-  readers.frames.mark(frame ? frame.line : -1);
-  tellChosen(index);
-  paper.find([]);
-  editor.choose(-1);
-  if (frame && Number.isFinite(frame.end)) showLineOf(index, turn);
-  if (!frame || frame.fault || (frame.kind === 'command')) return;
-  tellChosen(index, ', looking on the paper …');
-  let marks;
-  try { marks = await ask('marks', { frame: index }); } catch (error) { return tellFailed(error); }
-  if (turn !== asked) return;
-  if (!marks) return tellChosen(index);
-  paper.find(marks);
-  tellChosen(index, marks.length ? `, ${counted(marks.length, 'mark')}` : ', no mark that shows');
-}
-
-/** A mark is clicked: the frame of its byte is shown on the wave. */
-export async function markClicked(mark) {
-  const turn = ++asked;
-  if (!mark) { wave.choose(-1); return; }
-  const { source } = state, isRaw = source?.kind === 'raw';
-  if (!isRaw && !wave.frames.length) return;
-  document.body.classList.add('searching');
-  try {
-    const found = await ask('byte', { mark });
-    if (turn !== asked || !found) return;
-    const { byte, frame } = found;
-    if (isRaw) tellOnce('byte', `This mark comes with byte ${byte + 1} of the file, ${source.bytes[byte]}.`);
-    else if (frame >= 0) wave.choose(frame);
-  } catch (error) {
-    tellFailed(error);
-  } finally {
-    document.body.classList.remove('searching');
-  }
-}
-

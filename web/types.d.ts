@@ -15,6 +15,7 @@ declare const Buffer: {
 declare const process: { argv: string[]; env: Record<string, string | undefined>; exitCode?: number; platform: string; stdin: { isTTY?: boolean } };
 declare module 'node:fs' {
   export const constants: { O_WRONLY: number };
+  export function copyFileSync(name: URL, next: URL): void;
   export function closeSync(file: number): void;
   export function existsSync(name: string | URL): boolean;
   export function fchmodSync(file: number, mode: number): void;
@@ -27,7 +28,8 @@ declare module 'node:fs' {
   export function readSync(file: number, room: Uint8Array): number;
   export function realpathSync(name: string): string;
   export function renameSync(name: string, next: string): void;
-  export function rmSync(name: string, options: { force: boolean }): void;
+  export function rmSync(name: string | URL, options: { force: boolean }): void;
+  export function writeFileSync(name: URL, bytes: Uint8Array): void;
   export function writeSync(file: number, bytes: Uint8Array, at: number, length: number): number;
 }
 declare module 'node:path' {

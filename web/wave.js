@@ -2,11 +2,13 @@
 // strip below. What is drawn takes as long for a million edges as for a hundred: a column of pixels in which a line
 // turns more than once is one stroke.
 
-import { ATN, CLOCK, DATA, delaysAt, edgeAt, frameAt, halfOf, momentsOf } from './wire.js';
+import { SvgPen } from './pen.js';
+import { ATN, CLOCK, DATA, delaysAt, edgeAt, Frames, halfOf, momentsOf } from './wire.js';
 
 const WIRES = [{ name: 'ATN', bit: ATN }, { name: 'CLOCK', bit: CLOCK }, { name: 'DATA', bit: DATA }];
 const NAMES_WIDTH = 58, RIGHT = 10;
 const LEAST_WIDTH = 28;        // pixels: what a letter between its marks needs
+const BIT_WIDTH = 26;          // pixels: what the number and the value of a bit need
 const NAME_WIDTH = 64;         // pixels: what the name of a frame needs
 
 /** A number with thin spaces between its thousands. */
@@ -22,8 +24,8 @@ export class Wave {
 
   /** `onUnder` gets what is under the pointer, `onChoose` the index of the frame that is chosen, or -1. */
   constructor(canvas, onUnder, onChoose) {
-    Object.assign(this, { canvas, onUnder, onChoose, frames: [], edges: null, delays: null, turns: [] });
-    Object.assign(this, { begin: 0, end: 0, from: 0, to: 1, moved: false, chosen: -1, pointer: null });
+    Object.assign(this, { canvas, onUnder, onChoose, frames: new Frames(), edges: null, delays: null, turns: [] });
+    Object.assign(this, { begin: 0, end: 0, from: 0, to: 1, moved: false, chosen: -1, pointer: null, mark: null, pointed: null });
     // What is seen at first fits the width, so that frames have room for their names.
     new ResizeObserver(() => { if (this.edges && !this.moved) this.front(); else this.draw(); }).observe(canvas);
     for (const query of ['(prefers-color-scheme: dark)', '(forced-colors: active)']) matchMedia(query).addEventListener('change', () => this.draw());
@@ -33,20 +35,15 @@ export class Wave {
   }
 
   /** Shows edges, the delays that they end, and frames. What was chosen is no longer; the place stays where somebody has moved it. */
-  show(edges, delays, frames) {
+  show(edges, delays, frames, turns) {
     this.edges = edges;
     this.delays = delays;
     this.frames = frames;
     this.chosen = -1;
     this.span = null;
-    this.turns = WIRES.map(({ bit }) => {
-      const times = [];
-      let level = edges.levels.length ? edges.levels[0] & bit : bit;
-      for (let i = 1; i < edges.times.length; i++) {
-        if ((edges.levels[i] & bit) !== level) { level ^= bit; times.push(edges.times[i]); }
-      }
-      return { first: edges.levels.length ? (edges.levels[0] & bit) > 0 : true, times: Float64Array.from(times) };
-    });
+    this.pointed = null;
+    this.mark = null;
+    this.turns = turns;
     const last = edges.times.length ? edges.times[edges.times.length - 1] : 0;
     const begin = edges.times.length ? edges.times[0] : 0;
     this.begin = Math.min(begin, 0);
@@ -58,7 +55,8 @@ export class Wave {
   /** The beginning of a long wave, or all of a short one. */
   front() {
     // The shortest of the first frames has room for its name.
-    const lengths = this.frames.slice(0, 10).filter(({ end, byte }) => byte !== null && Number.isFinite(end)).map(({ look, end }) => end - look);
+    const firsts = Array.from({ length: Math.min(this.frames.length, 10) }, (_, index) => this.frames.get(index));
+    const lengths = firsts.filter(({ end, byte }) => byte !== null && Number.isFinite(end)).map(({ look, end }) => end - look);
     this.moved = false;
     this.see(this.begin, Math.min(this.begin + Math.min(...lengths) * Math.max(this.width / NAME_WIDTH, 1), this.end), false);
   }
@@ -74,7 +72,13 @@ export class Wave {
     this.draw();
   }
 
-  zoom(factor, at = (this.from + this.to) / 2) {
+  /** The moment about which keys and buttons zoom: the middle of the frame that is chosen, if it is seen, or that of the window. */
+  middle() {
+    const frame = this.frames.get(this.chosen), middle = frame && (frame.look + Math.min(frame.end, this.end)) / 2;
+    return frame && middle >= this.from && middle <= this.to ? middle : (this.from + this.to) / 2;
+  }
+
+  zoom(factor, at = this.middle()) {
     this.see(at - (at - this.from) / factor, at + (this.to - at) / factor);
   }
 
@@ -84,7 +88,7 @@ export class Wave {
   choose(index, tell = true) {
     this.chosen = index;
     this.span = null;
-    const frame = this.frames[index];
+    const frame = this.frames.get(index);
     if (frame) {
       const end = Number.isFinite(frame.end) ? frame.end : frame.look + 1000, long = end - frame.look;
       // (where the frame is too narrow for its name, or wider than what is seen)
@@ -103,6 +107,25 @@ export class Wave {
     this.draw();
   }
 
+  /** Shows frames that belong to what is pointed at, as the first and the one after the last, or null. */
+  point(frames) {
+    const isOwn = this.pointer && frames && frames[1] - frames[0] === 1;
+    this.pointed = isOwn ? null : frames;
+    this.draw();
+  }
+
+  /** Puts the second cursor at a moment, from which times are measured; or takes it away (null). */
+  measureFrom(moment) {
+    this.mark = moment;
+    this.draw();
+  }
+
+  /** Puts the second cursor where the pointer is, or at the frame that is chosen, or in the middle; or takes it away. */
+  toggleMark() {
+    const frame = this.frames.get(this.chosen);
+    this.measureFrom(this.mark !== null ? null : this.pointer ? this.momentAt(this.pointer.x) : frame ? frame.look : this.middle());
+  }
+
   // places
 
   get width() { return this.canvas.clientWidth - NAMES_WIDTH - RIGHT; }
@@ -115,7 +138,7 @@ export class Wave {
 
   /** The index of the frame at a moment, or -1. */
   frameUnder(moment) {
-    const index = frameAt(this.frames, moment), frame = this.frames[index];
+    const index = this.frames.indexAt(moment), frame = this.frames.get(index);
     return frame && (moment <= frame.end) ? index : -1;
   }
 
@@ -136,7 +159,7 @@ export class Wave {
 
   /** The named intervals around a moment: the delays that the module knows there, or else the moments of the reading. */
   intervalsAt(moment) {
-    const parts = delaysAt(this.edges, this.delays, moment), frame = this.frames[this.frameUnder(moment)];
+    const parts = delaysAt(this.edges, this.delays, moment), frame = this.frames.get(this.frameUnder(moment));
     if (parts.length || !frame) return parts;
     return [...momentsOf(frame), ...this.halvesAt(frame, moment)].filter(part => part.from <= moment && moment <= part.to);
   }
@@ -150,7 +173,7 @@ export class Wave {
     const around = this.intervalsAt(moment);
     around.sort((a, b) => (a.to - a.from) - (b.to - b.from));
     const part = around.find(part => wire && part.line === wire.bit) || around[0] || null, frame = this.frameUnder(moment);
-    const bit = part && frame >= 0 && 'SV'.includes(part.kind) ? this.bitAt(this.frames[frame], part.from) : null;
+    const bit = part && frame >= 0 && 'SV'.includes(part.kind) ? this.bitAt(this.frames.get(frame), part.from) : null;
     return { moment, frame, part, bit, wire, level: !part && wire ? this.levelAt(wire, moment) : null };
   }
 
@@ -158,7 +181,7 @@ export class Wave {
 
   key(event) {
     const step = event.shiftKey ? .9 : .15, last = this.frames.length - 1;
-    const next = () => this.chosen >= 0 ? this.chosen + 1 : Math.max(frameAt(this.frames, this.from) + (this.from > this.begin ? 1 : 0), 0);
+    const next = () => this.chosen >= 0 ? this.chosen + 1 : Math.max(this.frames.indexAt(this.from) + (this.from > this.begin ? 1 : 0), 0);
     const before = () => this.chosen >= 0 ? this.chosen - 1 : next() - 1;
     const keys = {
       ArrowLeft: () => this.pan(-step),
@@ -169,7 +192,8 @@ export class Wave {
       0: () => this.all(),
       Home: () => this.all(),
       End: () => this.see(this.end - (this.to - this.from), this.end),
-      Escape: () => this.choose(-1),
+      Escape: () => { this.measureFrom(null); this.choose(-1); },
+      m: () => this.toggleMark(),
       n: () => last >= 0 && this.choose(Math.min(next(), last)),
       p: () => last >= 0 && this.choose(Math.max(before(), 0)),
     };
@@ -221,16 +245,22 @@ export class Wave {
         }
       }
       this.draw();
-      this.onUnder(this.under());
     });
     const up = event => {
       held.delete(event.pointerId);
-      if (event.type === 'pointerup' && drag && !drag.far && !drag.strip) this.choose(this.frameUnder(this.momentAt(event.offsetX)));
+      const isClick = event.type === 'pointerup' && drag && !drag.far && !drag.strip, moment = this.momentAt(event.offsetX);
+      if (isClick && event.shiftKey) this.measureFrom(moment);
+      else if (isClick) this.choose(this.frameUnder(moment));
       drag = null;
     };
     canvas.addEventListener('pointerup', up);
     canvas.addEventListener('pointercancel', up);
-    canvas.addEventListener('pointerleave', () => { this.pointer = null; this.draw(); this.onUnder(null); });
+    canvas.addEventListener('pointerleave', event => {
+      if (event.pointerType === 'touch' && this.mark !== null) return;     // (a finger that is lifted has shown a place)
+      this.pointer = null;
+      this.draw();
+      this.onUnder(null);
+    });
   }
 
   // drawing
@@ -261,10 +291,18 @@ export class Wave {
       canvas.width = Math.round(width * ratio);
       canvas.height = Math.round(height * ratio);
     }
-    const pen = this.pen = canvas.getContext('2d');
+    const pen = canvas.getContext('2d');
     pen.setTransform(ratio, 0, 0, ratio, 0, 0);
     pen.clearRect(0, 0, width, height);
-    const style = getComputedStyle(canvas);
+    this.drawWith(pen, height);
+    // (what is under the pointer is another thing once the wave has moved)
+    if (this.pointer) this.onUnder(this.under());
+  }
+
+  /** Draws what is seen with a pen: that of the canvas, or one that writes a picture. */
+  drawWith(pen, height) {
+    const style = getComputedStyle(this.canvas);
+    this.pen = pen;
     this.ink = this.inks(style);
     this.font = style.fontFamily;
     if (!this.edges) return;
@@ -281,7 +319,9 @@ export class Wave {
       this.drawWire(this.turns[number], top + 8, top + places.each - 6);
     });
     this.drawFrames(places);
+    this.drawBits(places);
     this.drawUnder(places);
+    this.drawMark(places);
     this.drawStrip(places);
     pen.restore();
     pen.fillStyle = this.ink('muted');
@@ -289,6 +329,15 @@ export class Wave {
     pen.textAlign = 'right';
     pen.textBaseline = 'middle';
     WIRES.forEach(({ name }, number) => pen.fillText(name, NAMES_WIDTH - 10, places.top + (number + .5) * places.each + 1));
+  }
+
+  /** What is seen of the wave, as an SVG document. */
+  svg() {
+    const { clientWidth, clientHeight } = this.canvas, pen = new SvgPen(clientWidth, clientHeight, this.canvas.getContext('2d'));
+    pen.fillStyle = this.inks(getComputedStyle(this.canvas))('ground');
+    pen.fillRect(0, 0, clientWidth, clientHeight);
+    this.drawWith(pen, clientHeight);
+    return pen.document();
   }
 
   /** The turns of a line in what can be seen, the first that is and the first that is no longer. */
@@ -363,15 +412,18 @@ export class Wave {
     pen.globalAlpha = 1;
   }
 
+  /** The colour of the frame with an index, where there are too many to make each. */
+  colourAt(index) { return this.ink(!this.frames.isHeard(index) ? 'bad' : this.frames.number(index, 'isCommand') ? 'command' : 'data'); }
+
   colourOf(frame) { return frame.fault ? this.ink('bad') : frame.kind === 'command' ? this.ink('command') : this.ink('data'); }
 
   drawFrames({ band }) {
-    const pen = this.pen, first = Math.max(frameAt(this.frames, this.from), 0), last = frameAt(this.frames, this.to);
+    const pen = this.pen, first = Math.max(this.frames.indexAt(this.from), 0), last = this.frames.indexAt(this.to);
     if (last - first > this.width / 4) {
       for (let x = NAMES_WIDTH; x < NAMES_WIDTH + this.width; x++) {
-        const frame = this.frames[frameAt(this.frames, this.momentAt(x + 1))];
-        if (!frame || Math.min(frame.end, this.end) < this.momentAt(x)) continue;
-        pen.fillStyle = this.colourOf(frame);
+        const index = this.frames.indexAt(this.momentAt(x + 1));
+        if (index < 0 || Math.min(this.frames.end(index), this.end) < this.momentAt(x)) continue;
+        pen.fillStyle = this.colourAt(index);
         pen.fillRect(x, band + 4, 1, 18);
       }
       return;
@@ -379,7 +431,7 @@ export class Wave {
     pen.textBaseline = 'middle';
     pen.textAlign = 'center';
     for (let index = first; index <= last; index++) {
-      const frame = this.frames[index], x = Math.max(this.xOf(frame.look), NAMES_WIDTH - 6);
+      const frame = this.frames.get(index), x = Math.max(this.xOf(frame.look), NAMES_WIDTH - 6);
       const end = Math.min(this.xOf(Math.min(frame.end, this.end)), NAMES_WIDTH + this.width + 6);
       if (end > x) this.drawFrame(frame, x, Math.max(end - x, 1.5), band, index === this.chosen);
     }
@@ -398,8 +450,8 @@ export class Wave {
     pen.stroke();
     if (eoi) { pen.fillStyle = this.ink('eoi'); pen.fillRect(x + width - eoi - .5, top + 1, eoi, 23); }
     pen.font = `600 12px ${this.font}`;
-    const whole = frame.eoi ? `${frame.name} EOI` : frame.fault ? `${frame.name}, ${frame.fault}` : frame.name;
-    const words = [whole, frame.name, frame.name.replace(/^(['"])(.)\1$/, '$2')];
+    const named = frame.byte === null ? frame.name : `$${hexadecimal(frame.byte)} ${frame.name}`, whole = frame.eoi ? `${named} EOI` : frame.fault ? `${named}, ${frame.fault}` : named;
+    const words = [whole, named, frame.name, frame.name.replace(/^(['"])(.)\1$/, '$2')];
     const fits = word => pen.measureText(word).width < width - eoi - 5;
     let fitting = words.find(fits);
     if (!fitting) {
@@ -411,15 +463,48 @@ export class Wave {
     pen.fillText(fitting, x + (width - eoi) / 2, top + 13);
   }
 
+  /** Where CLOCK is released in a frame DATA has a bit: its number and its value, where there is room for them. */
+  drawBits({ top, each }) {
+    const pen = this.pen, { times } = this.turns[1], begin = Math.max(this.frames.indexAt(this.from), 0), end = this.frames.indexAt(this.to);
+    if (end - begin > this.width / 8 / BIT_WIDTH + 2) return;
+    pen.font = `600 11px ${this.font}`;
+    pen.textAlign = 'center';
+    pen.textBaseline = 'middle';
+    for (let index = begin; index <= end; index++) {
+      const frame = this.frames.get(index), first = edgeAt(times, frame.pull) + 1;
+      if (!frame.bits || (this.xOf(frame.last) - this.xOf(frame.pull)) / frame.bits < BIT_WIDTH) continue;
+      for (let bit = 0; bit < frame.bits; bit++) {
+        const rise = times[first + 2 * bit], fall = times[first + 2 * bit + 1] ?? this.end, x = (this.xOf(rise) + this.xOf(fall)) / 2;
+        if (!(rise < this.to && fall > this.from)) continue;
+        pen.fillStyle = this.ink('muted');
+        pen.fillText(String(bit), x, top + 1.5 * each + 1);
+        pen.fillStyle = this.ink('data');
+        pen.fillText(this.levelAt(WIRES[2], fall - 1e-3).released ? '1' : '0', x, top + 2.5 * each + 1);
+      }
+    }
+  }
+
+  /** The second cursor. */
+  drawMark({ bottom }) {
+    if (this.mark === null) return;
+    const x = Math.round(this.xOf(this.mark)) + .5;
+    this.pen.fillStyle = this.ink('accent');
+    this.pen.fillRect(x - 1, 0, 2, bottom + 3);
+    if (!this.pointer) return;
+    const other = this.pointer.x, y = bottom - 1;
+    this.pen.fillRect(Math.min(x, other), y, Math.abs(other - x), 2);
+  }
+
   drawChosen({ band, bottom }) {
-    if (this.span) {
-      const [x, end] = this.span.map(moment => this.xOf(Math.min(moment, this.end)));
+    const { frames } = this, pointed = this.pointed && this.pointed[1] > this.pointed[0] ? [frames.look(this.pointed[0]), frames.end(this.pointed[1] - 1)] : null;
+    for (const span of [this.span, pointed].filter(Boolean)) {
+      const [x, end] = span.map(moment => this.xOf(Math.min(moment, this.end)));
       this.pen.fillStyle = this.ink('found');
       this.pen.globalAlpha = .22;
       this.pen.fillRect(x, 2, Math.max(end - x, 2), bottom);
       this.pen.globalAlpha = 1;
     }
-    const frame = this.frames[this.chosen];
+    const frame = this.frames.get(this.chosen);
     if (!frame) return;
     const x = this.xOf(frame.look), end = this.xOf(Math.min(frame.end, this.end));
     this.pen.fillStyle = this.colourOf(frame);
@@ -471,9 +556,9 @@ export class Wave {
     pen.fillStyle = this.ink('line');
     pen.fillRect(NAMES_WIDTH, strip, this.width, 8);
     for (let x = 0; x < this.width; x++) {
-      const moment = this.begin + (x + 1) / this.width * whole, frame = this.frames[frameAt(this.frames, moment)];
-      if (!frame || Math.min(frame.end, this.end) < moment - whole / this.width) continue;
-      pen.fillStyle = this.colourOf(frame);
+      const moment = this.begin + (x + 1) / this.width * whole, index = this.frames.indexAt(moment);
+      if (index < 0 || Math.min(this.frames.end(index), this.end) < moment - whole / this.width) continue;
+      pen.fillStyle = this.colourAt(index);
       pen.globalAlpha = .5;
       pen.fillRect(NAMES_WIDTH + x, strip, 1, 8);
     }

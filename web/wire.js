@@ -17,13 +17,22 @@ const DELAYS = {
   At: ['a printer answers ATN', DATA], H: ['ready', DATA], Ye: ['answer', DATA], Ei: ['answer length', DATA], F: ['acknowledgement', DATA],
   Dr: ['printers that do not listen let DATA go', DATA], rest: ['rest', ATN],
 };
-const boundsOf = kind => bounds[kind === 'Ei' ? 'answers' : kind] || null;
+const boundsOf = kind => (measured ? measured[kind] : bounds[kind === 'Ei' ? 'answers' : kind]) || null;
 const nameOf = kind => DELAYS[kind][0];
 
 /** Takes the bounds that the module gives: the least and the greatest delay of each kind, and then of the answers. */
 export function useBounds(numbers) {
   kinds = Object.keys(DELAYS);
   bounds = Object.fromEntries([...kinds.slice(0, -1), 'answers'].map((kind, index) => [kind, Array.from(numbers.subarray(2 * index, 2 * index + 2))]));
+}
+
+/** The bounds of another table in the place of the profile's, by the kinds of delay that it has; or null. */
+let measured = null;
+
+/** Takes the bounds by which a recording's intervals are measured: those of its figures where they are the guide's, or the profile's. */
+export function measureBy(figures, isGuide) {
+  const kindsOfRows = ['H', 'Ne', 'Ye', 'Ei', 'Ry', 'S', 'S', 'V', 'V', 'F'];
+  measured = isGuide ? Object.fromEntries(figures.flatMap(({ count, from, to }, row) => (count ? [[kindsOfRows[row], [from, to]]] : []))) : null;
 }
 
 /** The numbers of a reading's row, and how a byte ends. */
@@ -48,6 +57,15 @@ function rowsOf(numbers, names) {
 
 /** What the lengths of each interval come to, by the module's numbers. */
 export const figuresOf = numbers => rowsOf(numbers, FIGURES).map((row, index) => ({ name: INTERVALS[index], ...row }));
+
+/** The same by the summary of a recording's text, which has the guide's bounds under --bounds guide. */
+export function figuresOfText(text) {
+  const rows = new Map(Array.from(text.matchAll(/^([a-z ]+): (\d+), least (\d+), middle (?:over )?(\d+), greatest (\d+), outside (\d+) (?:to (\d+)|or more): (\d+)$/gm), row => [row[1], row]));
+  return INTERVALS.map(name => {
+    const [, , ...numbers] = rows.get(name) ?? [], [count = 0, least = 0, middle = 0, greatest = 0, from = 0, to = Infinity, outside = 0] = numbers.map(number => number && Number(number));
+    return { name, count, least, middle, greatest, from, to, outside };
+  });
+}
 
 /** Where each line of a text begins, and where the last one ends. */
 export function lineStarts(bytes) {
@@ -92,35 +110,112 @@ function frameName({ end, bits, byte, isCommand, printerListens }) {
   return bits === 8 ? `${isCommand ? 'command' : 'byte'} ${byte}` : bits === 1 ? '1 bit' : `${bits} bits`;
 }
 
-/**
- * The readings of a recording, as the module's rows, as frames: `{ look, end, kind, byte, name, eoi, fault, line }`, and the moments and lengths of
- * their intervals. `end` is Infinity where the recording ends before, `kind` is `command`, `data` or `glitch`, and `line` is the
- * index of a frame's own line in `text`, the bytes of all readings' lines, which is the last of its lines.
- */
-export function framesOf(rows, text) {
-  let from = 0, line = -1;
-  return rowsOf(rows, ROW).map(reading => {
-    const end = ENDS[reading.end], isHeard = end === 'acknowledged', isWhole = reading.bits === 8, to = from + reading.textLength;
+/** Where the numbers of a row are. */
+const AT = Object.fromEntries(ROW.map((name, index) => [name, index]));
+
+/** For each reading the index of its frame's own line in `text`, the bytes of all readings' lines: it is the last of its lines. */
+export function frameLines(rows, text) {
+  const lines = new Uint32Array(rows.length / ROW.length);
+  for (let index = 0, from = 0, line = -1; index < lines.length; index++) {
+    const to = from + rows[index * ROW.length + AT.textLength];
     for (let at = text.indexOf(10, from); at >= 0 && at < to; at = text.indexOf(10, at + 1)) line++;
+    lines[index] = line;
     from = to;
+  }
+  return lines;
+}
+
+/**
+ * The readings of a recording as frames: the module's rows, of which a frame is made when it is asked for, since a long trace has
+ * millions. A frame is `{ look, end, kind, byte, name, eoi, fault, line }`, and the moments and lengths of its intervals. `end` is
+ * Infinity where the recording ends before, and `kind` is `command`, `data` or `glitch`.
+ */
+export class Frames {
+  constructor(rows = new Float64Array(0), lines = new Uint32Array(0)) {
+    this.rows = rows;
+    this.lines = lines;
+  }
+
+  get length() { return this.lines.length; }
+  number(index, name) { return this.rows[index * ROW.length + AT[name]]; }
+  look(index) { return this.number(index, 'readyToSend'); }
+  end(index) { return ENDS[this.number(index, 'end')] === 'cut' ? Infinity : this.number(index, 'endMoment'); }
+  isHeard(index) { return ENDS[this.number(index, 'end')] === 'acknowledged'; }
+
+  /** The frame of an index, or undefined. */
+  get(index) {
+    if (!(index >= 0 && index < this.length)) return undefined;
+    const [reading] = rowsOf(this.rows.subarray(index * ROW.length, (index + 1) * ROW.length), ROW), isHeard = this.isHeard(index), isWhole = reading.bits === 8;
+    const fault = isHeard ? '' : this.end(index) === Infinity ? 'cut by the end' : ENDS[reading.end];
     return {
-      look: reading.readyToSend, end: end === 'cut' ? Infinity : reading.endMoment, kind: !isWhole ? 'glitch' : reading.isCommand ? 'command' : 'data',
-      byte: isWhole ? reading.byte : null, name: frameName(reading), eoi: isHeard && reading.hasEoi > 0,
-      fault: isHeard ? '' : end === 'cut' ? 'cut by the end' : end, line,
+      look: reading.readyToSend, end: this.end(index), kind: !isWhole ? 'glitch' : reading.isCommand ? 'command' : 'data',
+      byte: isWhole ? reading.byte : null, name: frameName(reading), eoi: isHeard && reading.hasEoi > 0, fault, line: this.lines[index],
       ready: reading.readyForData, pulled: reading.hasEoi ? reading.pulled : null, released: reading.released, pull: reading.firstPull, last: reading.lastPull,
       bits: reading.bits, low: [reading.shortestLow, reading.longestLow], high: [reading.shortestHigh, reading.longestHigh],
     };
-  });
+  }
+
+  * [Symbol.iterator]() { for (let index = 0; index < this.length; index++) yield this.get(index); }
+  map(make) { return Array.from(this, make); }
+  filter(test) { return [...this].filter(test); }
+
+  /** The index of the first frame that passes a test, or -1. */
+  findIndex(test) {
+    for (let index = 0; index < this.length; index++) if (test(this.get(index))) return index;
+    return -1;
+  }
+
+  /** The index of the last frame that passes a test, or -1. */
+  findLastIndex(test) {
+    for (let index = this.length - 1; index >= 0; index--) if (test(this.get(index))) return index;
+    return -1;
+  }
+
+  /** The index of the first frame that ends after a moment, or how many frames there are. */
+  endingAfter(moment) {
+    let index = 0;
+    while (index < this.length && !(this.end(index) > moment)) index++;
+    return index;
+  }
+
+  /** The index of the last frame that begins at or before a moment, or -1. */
+  indexAt(moment) {
+    let low = 0, high = this.length;
+    while (low < high) {
+      const middle = (low + high) >> 1;
+      if (this.look(middle) <= moment) low = middle + 1; else high = middle;
+    }
+    return low - 1;
+  }
+
+  /** The index of the frame whose own line has an index in the readings' text, or -1. */
+  indexOfLine(line) { return this.lines.indexOf(line); }
+
+  /** How many frames there are of each kind, as `{ name, count }`. */
+  counts() {
+    const found = { frames: 0, commands: 0, 'data bytes': 0, 'not acknowledged': 0, glitches: 0, 'cut by the recording\'s end': 0 };
+    for (let index = 0; index < this.length; index++) {
+      const isWhole = this.number(index, 'bits') === 8, end = ENDS[this.number(index, 'end')];
+      if (isWhole) found.frames++; else found.glitches++;
+      if (isWhole) found[this.number(index, 'isCommand') ? 'commands' : 'data bytes']++;
+      if (isWhole && end === 'not acknowledged') found['not acknowledged']++;
+      if (end === 'cut') found['cut by the recording\'s end']++;
+    }
+    return Object.entries(found).map(([name, count]) => ({ name, count }));
+  }
 }
 
-/** How many frames there are of each kind, as `{ name, count }`. */
-export function countsOf(frames) {
-  const whole = frames.filter(frame => frame.kind !== 'glitch'), count = (name, list) => ({ name, count: list.length });
-  return [
-    count('frames', whole), count('commands', whole.filter(frame => frame.kind === 'command')), count('data bytes', whole.filter(frame => frame.kind === 'data')),
-    count('not acknowledged', whole.filter(frame => frame.fault === 'not acknowledged')), count('glitches', frames.filter(frame => frame.kind === 'glitch')),
-    count('cut by the recording\'s end', frames.filter(frame => frame.end === Infinity)),
-  ];
+/** For each line its first level, and the moments at which it turns. */
+export function turnsOf({ times, levels }) {
+  return [ATN, CLOCK, DATA].map(bit => {
+    let count = 0, level = levels.length ? levels[0] & bit : bit;
+    const first = level > 0;
+    for (let i = 1; i < times.length; i++) if ((levels[i] & bit) !== level) { level ^= bit; count++; }
+    const turns = new Float64Array(count);
+    level = first ? bit : 0;
+    for (let i = 1, at = 0; at < count; i++) if ((levels[i] & bit) !== level) { level ^= bit; turns[at++] = times[i]; }
+    return { first, times: turns };
+  });
 }
 
 /** The index of the last edge at or before a moment, or -1. */
@@ -129,16 +224,6 @@ export function edgeAt(times, moment) {
   while (low < high) {
     const middle = (low + high) >> 1;
     if (times[middle] <= moment) low = middle + 1; else high = middle;
-  }
-  return low - 1;
-}
-
-/** The index of the last frame that begins at or before a moment, or -1. */
-export function frameAt(frames, moment) {
-  let low = 0, high = frames.length;
-  while (low < high) {
-    const middle = (low + high) >> 1;
-    if (frames[middle].look <= moment) low = middle + 1; else high = middle;
   }
   return low - 1;
 }

@@ -2,20 +2,26 @@
 // asked; the answer goes back under the job's number. What was printed last is kept for the texts and the clicks.
 
 import { loadPrint1525 } from './module.mjs';
-import { busWords, formNumber, pagesWords, rawWords, recordingNumbers, recordingWords, runNumbers } from './asked.js';
+import { busWords, formNumber, pagesWords, rawWords, recordingNumbers, recordingWords } from './asked.js';
 import { marksMore, marksOf } from './sheets.js';
-import { countsOf, edgeAt, figuresOf, framesOf, lineStarts, textOfEdges, useBounds } from './wire.js';
+import { edgeAt, figuresOf, figuresOfText, frameLines, Frames, lineStarts, textOfEdges, turnsOf, useBounds } from './wire.js';
 
 let print1525 = null;
 const shown = { run: 0, kind: '', words: null, input: null, settings: null, list: null };     // what is on paper; `run` is the number of its print
-const wire = { run: 0, ask: null, bytes: null, input: 'text', starts: null, edges: null, frames: [], readings: null };
-let running = 0;                                                       // the run of the job under way
+const wire = { run: 0, ask: null, asked: null, moments: new Map(), bytes: null, input: 'text', starts: null, edges: null, frames: new Frames(), readings: null };
+let running = 0, number = 0;                                           // the run of the job under way, and its number
 
 const text = bytes => new TextDecoder().decode(bytes);
 const latin = bytes => new TextDecoder('latin1').decode(bytes);        // a character for each byte
 
-/** What the program does with these words over an input. */
-const answer = (words, input, explained = false) => print1525.answer({ words, input, explained });
+let characters = null;                                                 // the bytes of a file of characters, or null
+const DRAWN = ['svg', 'png', 'pdf'];
+
+/** What the program does with these words over an input. Pictures have the characters of one's own. */
+function answer(words, input, explained = false) {
+  const isOwn = characters && DRAWN.includes(words[words.indexOf('--as') + 1]);
+  return print1525.answer({ words: isOwn ? [...words, '--characters', 'own'] : words, input, explained, ...(isOwn ? { characters } : {}) });
+}
 
 /** How the program ended, and its lines for people: the first of them without its own name, the name of a fault or a stop alone, and the others. */
 function answerOf({ status, place, column, messages }) {
@@ -79,7 +85,7 @@ function picture(kind, words, input, pages, settings = null) {
 }
 
 /** What is on paper, in a format of pages: made again, since the picture itself is the page's by then. */
-const madeAgain = format => answer(shown.words(format), shown.input).output;
+const madeAgain = (format, part = []) => answer([...shown.words(format), ...part], shown.input).output;
 
 /** The pages of what is on the wire before an edge, as a picture. */
 function pagesBefore(edge) {
@@ -101,6 +107,8 @@ const LAWFUL = { isLawful: true, verdict: 'lawful' }, UNKNOWN = { isLawful: null
 
 /** Whether a recording with these readings is lawful, and that in words, neither where it cannot be read to its end; and why, where it is not. */
 function verdictOf(ask, readings) {
+  const guide = ask.bounds === 'guide' ? latin(readings.subarray(-4000)).match(/^(within|outside) the guide's bounds.*$/m) : null;
+  if (guide) return { isLawful: guide[1] === 'within', verdict: guide[0], told: [] };
   const words = recordingWords('check', ask, 'frames'), checked = answer(words, ask.bytes);
   if (checked.status === 0) return LAWFUL;
   const { words: fault, more } = answerOf(answer(words, ask.bytes, true));
@@ -115,14 +123,26 @@ function inOrder(times) {
   return back < 0 ? times.length : back;
 }
 
+/** Says how far a long job is: a part of all of it, from 0 to 1, and what is done next. */
+const tellProgress = (done, words) => postMessage({ number, progress: { done, words } });
+
 /** Keeps a recording with its readings, and gives its edges and what is said of it; `ask` has its bytes and their format. */
 function keepWire(ask, said, verdict) {
-  const given = recordingNumbers(ask), all = print1525.edges(given), delays = print1525.edgeDelays(given), count = inOrder(all.times);
-  const [times, levels, kinds, since] = [all.times, all.levels, delays.kinds, delays.since].map(it => (count < it.length ? it.slice(0, count) : it));
-  const intervals = figuresOf(print1525.intervals(given).numbers), { bytes, input } = ask, { status, output: readings } = said;
-  const frames = status === 3 ? [] : framesOf(print1525.readingRows(given).numbers, readings), edges = { times, levels };
-  Object.assign(wire, { run: running, bytes, input, starts: input === 'text' ? lineStarts(bytes) : null, edges, frames, readings });
-  return { times: times.slice(), levels: levels.slice(), kinds, since, frames, counts: countsOf(frames), intervals, ...verdict };
+  const { detail, ...given } = recordingNumbers(ask);
+  tellProgress(.2, 'reading its edges');
+  const all = print1525.edges(given), count = inOrder(all.times);
+  tellProgress(.33, 'finding its delays');
+  const delays = print1525.edgeDelays(given), [times, levels, kinds, since] = [all.times, all.levels, delays.kinds, delays.since].map(it => (count < it.length ? it.slice(0, count) : it));
+  tellProgress(.5, 'measuring its intervals');
+  const { bytes, input, bounds } = ask, { status, output: readings } = said;
+  const intervals = bounds === 'guide' ? figuresOfText(latin(readings.subarray(-4000))) : figuresOf(print1525.intervals(given).numbers);
+  tellProgress(.61, 'finding its frames');
+  const { numbers: rows } = status === 3 ? { numbers: new Float64Array(0) } : print1525.readingRows({ ...given, detail }), lines = frameLines(rows, readings);
+  const frames = new Frames(rows, lines), edges = { times, levels };
+  Object.assign(wire, { run: running, asked: ask, bytes, input, starts: input === 'text' ? lineStarts(bytes) : null, edges, frames, readings, moments: new Map() });
+  tellProgress(.9, 'drawing it');
+  // (the page gets numbers, millions of which go over at once, and makes what it shows of them)
+  return { times: times.slice(), levels: levels.slice(), kinds, since, turns: turnsOf(edges), rows: rows.slice(), lines: lines.slice(), counts: frames.counts(), intervals, bounds, ...verdict };
 }
 
 /** The first lines of the script that the wire shows, or how many lines it has. */
@@ -137,20 +157,27 @@ function firstLines(count, isCounted = false) {
   return isCounted ? lines : script.subarray(0, at);
 }
 
-/** The moment of the last edge that the first lines of the script make. */
+/** The moment of the last edge that the first lines of the script make: of the last line of their trace. */
 function momentAfter(lines) {
-  const { times } = print1525.edges({ bytes: answer(busWords(wire.ask, 'text'), firstLines(lines)).output });
-  return times[times.length - 1] ?? 0;
+  if (!wire.moments.has(lines)) {
+    const { output } = answer(busWords(wire.ask, 'text'), firstLines(lines)), last = latin(output.subarray(output.lastIndexOf(10, output.length - 2) + 1));
+    wire.moments.set(lines, Number(last.split(' ')[0]) || 0);
+  }
+  return wire.moments.get(lines);
 }
 
 const jobs = {
   /** Makes the module ready, and gives the bounds of the delays. */
-  async open({ bytes }) {
+  async open({ bytes, characters: own }) {
     print1525 = await loadPrint1525(bytes);
+    characters = own;
     const { numbers } = print1525.bounds();
     useBounds(numbers);
     return numbers;
   },
+
+  /** Draws with the characters of a file from now on, or with the usual ones. */
+  characters({ characters: own }) { characters = own; },
 
   /** One call of the module as it is. */
   call: ({ method, ask }) => print1525[method](ask),
@@ -165,7 +192,7 @@ const jobs = {
     const told = answerOf(pages);
     if (pages.status <= 1) Object.assign(told, { svg: picture('script', words, script, pages, run), isTyped: [told.words, ...told.more].some(line => line.includes('--from petcat')) });
     told.milliseconds = performance.now() - began;
-    if (pages.status === 1) Object.assign(told, { statement: print1525.stop(runNumbers(run)).place, told: withoutForm([told.words, ...told.more]) });
+    if (pages.status === 1) Object.assign(told, { statement: pages.place, told: withoutForm([told.words, ...told.more]) });
     if (pages.status === 2) {
       told.place = placeOf(script);
       if (told.place) told.explanation = explanationOf(told.more, told.place);
@@ -193,8 +220,10 @@ const jobs = {
   trace({ printers, status, delays, script: listing, form }) {
     const { script, refused } = scriptOf({ script: listing, form });
     if (refused) return refused;
+    tellProgress(0, 'running the listing');
     const run = { script, printers, status, delays }, bus = answer(busWords(run, 'text'), script);
     if (bus.status > 1) return answerOf(bus);
+    tellProgress(.13, 'reading its trace');
     const ask = { bytes: bus.output, input: 'text' }, said = answer(recordingWords('decode', ask, 'list'), ask.bytes);
     // (that the trace of a run is lawful is proved)
     const kept = keepWire(ask, said, LAWFUL);
@@ -205,16 +234,16 @@ const jobs = {
   /** What a line of the listing sends and prints: the first of its frames and the one after the last, and its marks. */
   line({ line }) {
     const [before, after] = [momentAfter(line), momentAfter(line + 1)];
-    const frameAfter = moment => wire.frames.findIndex(frame => frame.end > moment), count = wire.frames.length;
-    const [from, to] = [before, after].map(moment => (frameAfter(moment) < 0 ? count : frameAfter(moment)));
+    const [from, to] = [before, after].map(moment => wire.frames.endingAfter(moment));
     const pages = lines => text(answer(pagesWords(wire.ask, 'svg'), firstLines(lines)).output);
     return { from, to, marks: marksMore(pages(line), pages(line + 1)) };
   },
 
-  /** The line of the listing that sends a frame: the first with which the trace goes as far. */
+  /** The line of the listing that sends a frame: the first with which the trace goes as far; and the first of its frames and the one after the last. */
   lineOf({ frame }) {
-    const { end } = wire.frames[frame], lines = firstLines(Infinity, true);
-    return { line: least(lines, number => momentAfter(number) >= end) - 1 };
+    const end = wire.frames.end(frame), lines = firstLines(Infinity, true);
+    const line = least(lines, number => momentAfter(number) >= end) - 1, [from, to] = [line, line + 1].map(number => wire.frames.endingAfter(momentAfter(number)));
+    return { line, from, to };
   },
 
   /**
@@ -236,17 +265,22 @@ const jobs = {
     return { ...answerOf(pages), svg: pages.status === 0 ? picture('raw', words, bytes, pages) : null };
   },
 
-  /** A text of what is shown: `svg`, `list`, `text`; `trace`, `vcd`, `readings`. */
-  text({ what, delays }) {
+  /**
+   * A text of what is shown: `svg`, `png`, `pdf`, `list`, `text`, `bytes`; `trace`, `vcd`, `readings`, `json`, `story`. `part` is a
+   * printer and its sheet, as words.
+   */
+  text({ what, delays, part }) {
     if (what === 'readings') return wire.readings.slice();
     if (what === 'trace') return wire.input === 'text' ? wire.bytes.slice() : textOfEdges(wire.edges, wire.edges.times.length);
     if (what === 'vcd') return answer(busWords({ ...shown.settings, delays }, 'vcd'), shown.input).output;
-    return what === 'list' && shown.list ? shown.list.slice() : madeAgain(what);
+    if (what === 'json') return answer(recordingWords('decode', wire.asked, 'json'), wire.asked.bytes).output;
+    if (what === 'story') return answer(recordingWords('check', wire.asked, 'story'), wire.asked.bytes).output;
+    return what === 'list' && shown.list ? shown.list.slice() : madeAgain(what, part);
   },
 
   /** The marks that a frame's byte makes: those that the pages have with its last edge and not without it. */
   marks({ frame }) {
-    const edge = edgeAt(wire.edges.times, wire.frames[frame].end);
+    const edge = edgeAt(wire.edges.times, wire.frames.end(frame));
     return marksMore(pagesBefore(edge), pagesBefore(edge + 1));
   },
 
@@ -258,8 +292,8 @@ const jobs = {
       const raw = end => text(answer(shown.words('svg'), shown.input.subarray(0, end)).output);
       return { byte: least(shown.input.length, end => count(raw(end)) >= often) - 1 };
     }
-    const heard = wire.frames.flatMap((frame, index) => frame.fault ? [] : [index]);
-    const found = least(heard.length, n => count(pagesBefore(edgeAt(wire.edges.times, wire.frames[heard[n]].end) + 1)) >= often);
+    const heard = Array.from({ length: wire.frames.length }, (_, index) => index).filter(index => wire.frames.isHeard(index));
+    const found = least(heard.length, n => count(pagesBefore(edgeAt(wire.edges.times, wire.frames.end(heard[n])) + 1)) >= often);
     return { frame: heard[found] ?? -1 };
   },
 };
@@ -267,19 +301,27 @@ const jobs = {
 /** Whether a job asks for what another run shows by now. A run's trace belongs to its sheets; frames and marks belong to its trace. */
 function isLate(job, ask, run) {
   if (['end', 'trace', 'byte'].includes(job)) return run !== shown.run;
-  if (['marks', 'line', 'lineOf'].includes(job) || (job === 'text' && ['trace', 'readings'].includes(ask.what))) return run !== wire.run;
+  if (['marks', 'line', 'lineOf'].includes(job) || (job === 'text' && ['trace', 'readings', 'json', 'story'].includes(ask.what))) return run !== wire.run;
   return job === 'text' && run !== shown.run;
 }
 
-onmessage = async ({ data: { number, job, ask, run } }) => {
+/** What is handed over to the page itself, and is no copy: these can have millions of bytes. */
+const handedOver = answer => [answer?.svg, answer?.times, answer?.levels, answer?.kinds, answer?.since, answer?.rows, answer?.lines, ...(answer?.turns || []).map(({ times }) => times)]
+  .filter(Boolean).map(({ buffer }) => buffer);
+
+let opened = () => {};
+const open = new Promise(done => { opened = () => done(0); });
+
+onmessage = async ({ data: { number: asked, job, ask, run } }) => {
   try {
-    if (isLate(job, ask, run)) { postMessage({ number, answer: null }); return; }
-    running = run;
+    // (what is asked before the module is ready waits for it)
+    if (job !== 'open') await open;
+    if (isLate(job, ask, run)) { postMessage({ number: asked, answer: null }); return; }
+    [running, number] = [run, asked];
     const answer = await jobs[job](ask);
-    // (these can have millions of bytes: the page gets them themselves, not copies)
-    const large = [answer?.svg, answer?.kinds, answer?.since];
-    postMessage({ number, answer }, { transfer: large.filter(Boolean).map(({ buffer }) => buffer) });
+    if (job === 'open') opened();
+    postMessage({ number: asked, answer }, { transfer: handedOver(answer) });
   } catch (error) {
-    postMessage({ number, error: error instanceof Error ? error.message : String(error) });
+    postMessage({ number: asked, error: error instanceof Error ? error.message : String(error) });
   }
 };

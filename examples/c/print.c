@@ -67,7 +67,10 @@ int main(int words, char **word) {
     const char *size, *rest, *paper;
     unsigned long height, number;
     int byte, is_lower = words == 3 && strcmp(word[2], "lower") == 0;
-    if (words != 2 && !is_lower && !(words == 3 && strcmp(word[2], "upper") == 0)) return 2;
+    if (words != 2 && !is_lower && !(words == 3 && strcmp(word[2], "upper") == 0)) {
+        fprintf(stderr, "usage: print PREFIX [upper|lower] < BYTES\n");
+        return PRINT1525_REFUSED;
+    }
     if (!(received = (uint16_t *)malloc((room = 65536) * sizeof *received))) return PRINT1525_FAILED;
     printer_takes(is_lower ? PRINT1525_SELECT_LOWER : PRINT1525_SELECT_UPPER);
     while ((byte = getchar()) != EOF)

@@ -28,7 +28,11 @@ int main(int count, char **words) {
     size_t length, capacity = 0;
     char message[80];
     int status;
-    while (count > 1 && settings.page < PRINT1525_PAGE_PDF && strcmp(words[1], formats[settings.page]) != 0) settings.page++;
+    while (count == 2 && settings.page <= PRINT1525_PAGE_PDF && strcmp(words[1], formats[settings.page]) != 0) settings.page++;
+    if (count > 2 || settings.page > PRINT1525_PAGE_PDF) {
+        fprintf(stderr, "usage: show [list|text|svg|png|pdf] < SCRIPT\n");
+        return PRINT1525_REFUSED;
+    }
     script = read_all(&length);
     if (script == NULL) return PRINT1525_FAILED;
     /* The first call asks for the size, the second one for the text. */

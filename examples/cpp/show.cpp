@@ -12,7 +12,11 @@ int main(int count, char **words) {
     const std::string_view word = count > 1 + is_bytes ? words[1 + is_bytes] : "list";
     const std::string input(std::istreambuf_iterator<char>(std::cin), {});
     print1525::settings settings;
-    while (settings.page + 1U < formats.size() && formats[settings.page] != word) settings.page++;
+    while (settings.page < formats.size() && formats[settings.page] != word) settings.page++;
+    if (count > 2 + is_bytes || settings.page == formats.size()) {
+        std::cerr << "usage: show [--bytes] [list|text|svg|png|pdf] < INPUT\n";
+        return PRINT1525_REFUSED;
+    }
     try {
         if (is_bytes) {
             print1525::printer printer;

@@ -114,7 +114,8 @@ class Refused(Exception):
         self.details, self.text = details, text
 
 
-_LIBRARY = ctypes.CDLL(os.environ.get("PRINT1525_LIBRARY", "libprint1525.so.1"))
+_FILES = {"win32": "print1525.dll", "darwin": "libprint1525.1.dylib"}
+_LIBRARY = ctypes.CDLL(os.environ.get("PRINT1525_LIBRARY", _FILES.get(sys.platform, "libprint1525.so.1")))
 _LIBRARY.print1525_version.restype = c_char_p
 _LIBRARY.print1525_message.restype = c_size_t
 _LIBRARY.print1525_message.argtypes = [POINTER(Details), c_char_p, c_size_t]
@@ -153,6 +154,8 @@ def _settings(words):
     made = Settings(size=ctypes.sizeof(Settings), present=NAMES["present"].index("both"))
     for word, value in words.items():
         name = word.rstrip("_")
+        if name in NAMES and isinstance(value, str) and value not in NAMES[name] and not value.isdigit():
+            raise ValueError(f"{word} is none of {', '.join(NAMES[name])}: {value}")
         if name in NAMES:
             setattr(made, name, NAMES[name].index(value) if value in NAMES[name] else _number(value, 255, word))
         elif name in NUMBERS:
@@ -315,6 +318,9 @@ def main(words):
     except Refused as why:
         sys.stdout.buffer.write(why.text)
         print(why, file=sys.stderr)
+        return REFUSED
+    except (TypeError, ValueError) as why:
+        print(f"print1525.py: {why}", file=sys.stderr)
         return REFUSED
     sys.stdout.buffer.write(result.text)
     if result.stop:

@@ -1,6 +1,6 @@
 -- Trusted: what the program writes for the words of a command line, an input and a file of characters, and how it
 -- ends.
-use Rattle.std.specs.Prelude.{◌≡◌, ◌≢◌, ◌⊎◌, ℕ, List, [], Some, Ok, Err, option_map}
+use Rattle.std.specs.Prelude.{◌≡◌, ◌≢◌, ◌⊎◌, ℕ, true, List, [], Some, Ok, Err, option_map}
 use Rattle.std.specs.Str.{IsUtf8}
 use Rattle.clap.specs.Words.{Text}
 use Rattle.pr_dots.specs.declared.character_sets.Shapes.{Shapes}
@@ -16,11 +16,12 @@ use Rattle.pr_cli.specs.declared.statuses.End.{End}
 use Rattle.pr_cli.specs.declared.statuses.End.TheVariants.{Characters, Done, Words}
 use Rattle.pr_cli.specs.Words.{meant, names_part, words_in}
 
--- how it ends a task: by its job, with the shapes of its file of characters; or that has none, and nothing is written
+-- how it ends a task: by its job, with the shapes of its file of characters, and a stopped run with its error and its place; or that
+-- file has no shapes, and nothing is written
 abbrev pub EndsTask : Task → (input characters : List ℕ) → (output : List ℕ) → End → Type 0
 EndsTask task input characters output end =
     ((shapes : Shapes) × GivenShapes (option_map (λ name. name.now) task.characters) characters (Ok shapes)
-    × EndsWork shapes task.before task.job input (Some []) (Some output) end)
+    × EndsWork true shapes task.before task.job input (Some []) (Some output) end)
     ⊎ ((fault : ShapesFault) × GivenShapes (option_map (λ name. name.now) task.characters) characters (Err fault)
     × (end ≡ Characters fault) × (output ≡ []))
 

@@ -4,11 +4,13 @@
 use Rattle.std.specs.Prelude.{◌≡◌, ◌⊎◌, ◌≤◌, ◌-◌, ℕ, Bool, true, false, List, length, Option, Some, None, take, Result, Ok, Err}
 use Rattle.pr_capture.specs.declared.format.Source.{Source}
 use Rattle.pr_capture.specs.declared.format.Source.TheVariants as source
+use Rattle.pr_capture.specs.declared.format.TraceFormat.{TraceFormat}
 use Rattle.pr_capture.specs.declared.format.TraceInput.{TraceInput}
 use Rattle.pr_report.specs.declared.oddities.Oddities.{Oddities}
 use Rattle.pr_report.specs.declared.report.Report.{Report}
 use Rattle.pr_report.specs.declared.report.Report.TheVariants as report
 use Rattle.pr_dots.specs.declared.character_sets.Shapes.{Shapes}
+use Rattle.pr_render.specs.declared.format.Format.{Format}
 use Rattle.pr_listing.specs.declared.form.ListingForm.{ListingForm}
 use Rattle.pr_listing.specs.declared.form.ListingForm.TheVariants.{Text}
 use Rattle.pr_listing.specs.declared.input.TextFault.{TextFault}
@@ -24,10 +26,13 @@ use Rattle.pr_options.specs.declared.outputs.PagesOutput.{PagesOutput}
 use Rattle.pr_options.specs.declared.outputs.PagesOutput.TheVariants as output
 use Rattle.pr_options.specs.Found.{found_source}
 use Rattle.pr_jobs.specs.declared.fault.CliFault.{CliFault}
-use Rattle.pr_jobs.specs.declared.pages.Ending.{Ending}
-use Rattle.pr_jobs.specs.declared.pages.Ending.TheVariants.{Done}
-use Rattle.pr_jobs.specs.Pages.{AnswersPages, IsPagesFault, IsRunFault, ReadsToEnd, Start, WritesNothing, script_limit, start_of}
-use Rattle.pr_jobs.specs.Bus.{AnswersBus, WritesNoEdge}
+use Rattle.pr_jobs.specs.declared.run.Ending.{Ending}
+use Rattle.pr_jobs.specs.declared.run.Ending.TheVariants.{Done}
+use Rattle.pr_jobs.specs.declared.run.RunEnd.{RunEnd}
+use Rattle.pr_jobs.specs.declared.run.Start.{Start}
+use Rattle.pr_jobs.specs.Pages.{AnswersPages, AnswersPagesAs, IsPagesFault, IsRunFault, ReadsToEnd, WritesNothing, script_limit}
+use Rattle.pr_jobs.specs.Runs.{start_of}
+use Rattle.pr_jobs.specs.Bus.{AnswersBus, AnswersBusAs, WritesNoEdge}
 use Rattle.pr_jobs.specs.Check.{AnswersCheck, trace_limit}
 use Rattle.pr_jobs.specs.Report.{AnswersReport, IsReportFault, WritesNoReport}
 use Rattle.pr_jobs.specs.Report as check
@@ -71,15 +76,22 @@ abbrev pub AnswersTrace :
 AnswersTrace input (checked.Report r) text old new result = AnswersFrames input input.source r text old new result
 AnswersTrace input checked.Json text old new result = AnswersJson input text old new result
 
--- an answer without a printer's bytes
-abbrev pub IsPlain : (Result Ending CliFault → Type 0) → Result Answer CliFault → Type 0
-IsPlain answers (Ok (answer.Ended ending)) = answers (Ok ending)
-IsPlain answers (Ok _) = ⊥
-IsPlain answers (Err fault) = answers (Err fault)
+-- it holds, and a stop's place is not asked for
+abbrev pub Unasked : (located : Bool) → Type 0 → Type 0
+Unasked true holds = ⊥
+Unasked false holds = holds
+
+-- an answer of a run that says which error stopped it, and where; or only whether one did, where the place is not asked for
+abbrev pub IsRan : (located : Bool) → (Result Ending CliFault → Type 0) → (Result RunEnd CliFault → Type 0)
+    → Result Answer CliFault → Type 0
+IsRan located answers ends (Ok (answer.Ended ending)) = Unasked located (answers (Ok ending))
+IsRan located answers ends (Ok (answer.Ran end)) = ends (Ok end)
+IsRan located answers ends (Ok _) = ⊥
+IsRan located answers ends (Err fault) = ends (Err fault)
 
 -- an answer with a printer's bytes
-abbrev pub IsHeard : (Result (Ending × Heard) CliFault → Type 0) → Result Answer CliFault → Type 0
-IsHeard answers (Ok (answer.Heard ending heard)) = answers (Ok (ending, heard))
+abbrev pub IsHeard : (Result (RunEnd × Heard) CliFault → Type 0) → Result Answer CliFault → Type 0
+IsHeard answers (Ok (answer.Heard end heard)) = answers (Ok (end, heard))
 IsHeard answers (Ok _) = ⊥
 IsHeard answers (Err fault) = answers (Err fault)
 
@@ -101,11 +113,24 @@ IsRemarked answers (Ok (answer.Remarked odd)) = answers (Ok odd)
 IsRemarked answers (Ok _) = ⊥
 IsRemarked answers (Err fault) = answers (Err fault)
 
--- what `pages` answers: the pages of a script, or the bytes that a printer hears in its run
+-- what `pages` answers: the pages of a script
+abbrev pub AnswersPrinted :
+    (located : Bool) → Shapes → Start → Format → List ℕ → Option (List ℕ) → Option (List ℕ) → Result Answer CliFault → Type 0
+AnswersPrinted located shapes start f text old new result =
+    IsRan located (AnswersPages shapes start f text old new) (AnswersPagesAs shapes start f text old new) result
+
+-- or the bytes that a printer hears in its run
 abbrev pub AnswersRun :
-    Shapes → Start → PagesOutput → List ℕ → Option (List ℕ) → Option (List ℕ) → Result Answer CliFault → Type 0
-AnswersRun shapes start (output.Pages f) text old new result = IsPlain (AnswersPages shapes start f text old new) result
-AnswersRun shapes start (output.Bytes device) text old new result = IsHeard (AnswersRunBytes start device text old new) result
+    (located : Bool) → Shapes → Start → PagesOutput → List ℕ → Option (List ℕ) → Option (List ℕ) → Result Answer CliFault
+    → Type 0
+AnswersRun located shapes start (output.Pages f) text old new result = AnswersPrinted located shapes start f text old new result
+AnswersRun located shapes start (output.Bytes device) text old new result = IsHeard (AnswersRunBytes start device text old new) result
+
+-- what `bus` answers: the trace of a script's run
+abbrev pub AnswersTraced :
+    (located : Bool) → Start → TraceFormat → List ℕ → Option (List ℕ) → Option (List ℕ) → Result Answer CliFault → Type 0
+AnswersTraced located start f text old new result =
+    IsRan located (AnswersBus start f text old new) (AnswersBusAs start f text old new) result
 
 -- what `decode` answers: the readings of a recording, the bytes that a printer hears in it, or the pages that printers print of it
 abbrev pub AnswersRecording :
@@ -123,23 +148,23 @@ AnswersRecording shapes input (reading.Pages f) text old new result =
 -- they are the bytes of a script text, also where the listing has another form; the format of a
 -- recording is the input's, also where it was found in the first bytes
 abbrev pub AnswersJob :
-    Shapes → Job → List ℕ → Option (List ℕ) → Option (List ℕ) → Result Answer CliFault → Type 0
-AnswersJob shapes (Pages form present delays mode output) text old new result =
-    AnswersRun shapes (start_of present delays mode) output text old new result
-AnswersJob shapes (Bus form present delays mode f) text old new result =
-    IsPlain (AnswersBus (start_of present delays mode) f text old new) result
-AnswersJob shapes (Check input output) text old new result =
+    (located : Bool) → Shapes → Job → List ℕ → Option (List ℕ) → Option (List ℕ) → Result Answer CliFault → Type 0
+AnswersJob located shapes (Pages form present delays mode output) text old new result =
+    AnswersRun located shapes (start_of present delays mode) output text old new result
+AnswersJob located shapes (Bus form present delays mode f) text old new result =
+    AnswersTraced located (start_of present delays mode) f text old new result
+AnswersJob located shapes (Check input output) text old new result =
     IsDone (AnswersTrace input output text old new) result
-AnswersJob shapes (Decode is_found input output) text old new result =
+AnswersJob located shapes (Decode is_found input output) text old new result =
     AnswersRecording shapes input output text old new result
-AnswersJob shapes (Raw lower f) text old new result =
+AnswersJob located shapes (Raw lower f) text old new result =
     IsDone (AnswersRaw shapes lower f text old new) result
 
--- how the program ends a job: the writer holds what an answer of the job leaves in it, and it ends as that answer says; an
--- answer that is always allowed is `NoMemory`, where at most a beginning was written
-abbrev pub EndsJob : Shapes → Job → List ℕ → Option (List ℕ) → Option (List ℕ) → End → Type 0
-EndsJob shapes job text old new end =
-    (answer : Result Answer CliFault) × AnswersJob shapes job text old new answer × (end ≡ job_end answer)
+-- how the program ends a job: the writer holds what an answer of the job leaves in it, and it ends as that answer says;
+-- always allowed are `NoMemory`, `ReadFailed` and `WriteFailed`, whose exit status is 3, where at most a beginning was written
+abbrev pub EndsJob : (located : Bool) → Shapes → Job → List ℕ → Option (List ℕ) → Option (List ℕ) → End → Type 0
+EndsJob located shapes job text old new end =
+    (answer : Result Answer CliFault) × AnswersJob located shapes job text old new answer × (end ≡ job_end answer)
 
 -- the form of the listing that a job reads; an input that is no listing is read as it is
 abbrev pub form_of : Job → ListingForm
@@ -153,15 +178,15 @@ finds_format (Decode is_found input output) = is_found
 finds_format _ = false
 
 -- how it ends a job that reads a listing in this form: by the text that the listing has, or it gets no text of it, and writes nothing
-abbrev pub EndsListing : Shapes → Job → ListingForm → List ℕ → Option (List ℕ) → Option (List ℕ) → End → Type 0
-EndsListing shapes job form bytes old new end =
-    ((text : List ℕ) × (length bytes ≤ script_limit) × HasText form bytes text × EndsJob shapes job text old new end)
+abbrev pub EndsListing : (located : Bool) → Shapes → Job → ListingForm → List ℕ → Option (List ℕ) → Option (List ℕ) → End → Type 0
+EndsListing located shapes job form bytes old new end =
+    ((text : List ℕ) × (length bytes ≤ script_limit) × HasText form bytes text × EndsJob located shapes job text old new end)
     ⊎ ((fault : TextFault) × IsTextFault form script_limit bytes fault × (new ≡ old) × (end ≡ Listing fault))
 
 -- how it ends a job on an input's bytes: by the bytes themselves where the form is a script's text, else as a listing
-abbrev pub EndsInput : Shapes → Job → ListingForm → List ℕ → Option (List ℕ) → Option (List ℕ) → End → Type 0
-EndsInput shapes job Text bytes old new end = EndsJob shapes job bytes old new end
-EndsInput shapes job form bytes old new end = EndsListing shapes job form bytes old new end
+abbrev pub EndsInput : (located : Bool) → Shapes → Job → ListingForm → List ℕ → Option (List ℕ) → Option (List ℕ) → End → Type 0
+EndsInput located shapes job Text bytes old new end = EndsJob located shapes job bytes old new end
+EndsInput located shapes job form bytes old new end = EndsListing located shapes job form bytes old new end
 
 -- how many bytes of a recording show its format, at most
 abbrev pub first_bytes : ℕ
@@ -180,20 +205,20 @@ started_job (Some before) recording job = restarted_job (zero_of_job job recordi
 
 -- how it ends a job on a recording's bytes in the format that the first of them show, where the job has to find it, and from its
 -- start; or it does not get so far, and writes nothing
-abbrev pub EndsRecording : Shapes → (before : Option ℕ) → Job → List ℕ → Option (List ℕ) → Option (List ℕ) → End → Type 0
-EndsRecording shapes before job bytes old new end =
-    EndsJob shapes (started_job before bytes (found_job (take first_bytes bytes) job)) bytes old new end
+abbrev pub EndsRecording : (located : Bool) → Shapes → (before : Option ℕ) → Job → List ℕ → Option (List ℕ) → Option (List ℕ) → End → Type 0
+EndsRecording located shapes before job bytes old new end =
+    EndsJob located shapes (started_job before bytes (found_job (take first_bytes bytes) job)) bytes old new end
     ⊎ ((status_of end ≡ 3) × (new ≡ old))
 
 -- the same where only its format may have to be found; every other job is ended as its input asks for
-abbrev pub EndsFound : Shapes → (is_to_find : Bool) → Job → List ℕ → Option (List ℕ) → Option (List ℕ) → End → Type 0
-EndsFound shapes true job bytes old new end = EndsRecording shapes None job bytes old new end
-EndsFound shapes false job bytes old new end = EndsInput shapes job (form_of job) bytes old new end
+abbrev pub EndsFound : (located : Bool) → Shapes → (is_to_find : Bool) → Job → List ℕ → Option (List ℕ) → Option (List ℕ) → End → Type 0
+EndsFound located shapes true job bytes old new end = EndsRecording located shapes None job bytes old new end
+EndsFound located shapes false job bytes old new end = EndsInput located shapes job (form_of job) bytes old new end
 
 -- how it ends a job on an input's bytes
-abbrev pub EndsWork : Shapes → (before : Option ℕ) → Job → List ℕ → Option (List ℕ) → Option (List ℕ) → End → Type 0
-EndsWork shapes (Some before) job bytes old new end = EndsRecording shapes (Some before) job bytes old new end
-EndsWork shapes None job bytes old new end = EndsFound shapes (finds_format job) job bytes old new end
+abbrev pub EndsWork : (located : Bool) → Shapes → (before : Option ℕ) → Job → List ℕ → Option (List ℕ) → Option (List ℕ) → End → Type 0
+EndsWork located shapes (Some before) job bytes old new end = EndsRecording located shapes (Some before) job bytes old new end
+EndsWork located shapes None job bytes old new end = EndsFound located shapes (finds_format job) job bytes old new end
 
 -- Whatever the reader gives.
 
@@ -243,7 +268,7 @@ KeepsTrace checked.Json old new result = Unit {0}
 -- a refusal leaves the writer's bytes as they were, unless the job's subcommand writes while it reads
 abbrev pub KeepsOutput : Job → Option (List ℕ) → Option (List ℕ) → Result Answer CliFault → Type 0
 KeepsOutput (Pages form present delays mode output) old new result = WritesNothing old new result
-KeepsOutput (Bus form present delays mode f) old new result = IsPlain (WritesNoEdge old new) result
+KeepsOutput (Bus form present delays mode f) old new result = WritesNoEdge old new result
 KeepsOutput (Check input output) old new result = IsDone (KeepsTrace output old new) result
 KeepsOutput (Decode is_found input output) old new result = Unit {0}
 KeepsOutput (Raw lower f) old new result = WritesNothing old new result

@@ -11,10 +11,12 @@ use Rattle.pr_jobs.specs.declared.fault.CliFault.{CliFault}
 use Rattle.pr_jobs.specs.declared.fault.CliFault.TheVariants.{Script, Trace, Wave, Capture, Picture, TooLarge, NoMemory, ReadFailed, WriteFailed}
 use Rattle.pr_jobs.specs.declared.characters.ShapesFault.{ShapesFault}
 use Rattle.pr_jobs.specs.declared.characters.ShapesFault.TheVariants as shapes
-use Rattle.pr_jobs.specs.declared.pages.Ending.{Ending}
-use Rattle.pr_jobs.specs.declared.pages.Ending.TheVariants.{Done, Stopped}
+use Rattle.pr_jobs.specs.declared.run.Ending.{Ending}
+use Rattle.pr_jobs.specs.declared.run.Ending.TheVariants.{Done, Stopped}
+use Rattle.pr_jobs.specs.declared.run.RunEnd.{RunEnd}
+use Rattle.pr_jobs.specs.declared.run.RunEnd.TheVariants as run
 use Rattle.pr_cli.specs.declared.jobs.Answer.{Answer}
-use Rattle.pr_cli.specs.declared.jobs.Answer.TheVariants.{Ended, Heard, Overheard, Remarked}
+use Rattle.pr_cli.specs.declared.jobs.Answer.TheVariants.{Ended, Ran, Heard, Overheard, Remarked}
 use Rattle.pr_cli.specs.declared.statuses.End.{End}
 use Rattle.pr_cli.specs.declared.statuses.End.TheVariants as end
 
@@ -23,10 +25,16 @@ abbrev pub ending_end : Ending → End
 ending_end Done = end.Done
 ending_end Stopped = end.Stopped
 
+-- the same with the error, and the statement that it stopped
+abbrev pub run_ended : RunEnd → End
+run_ended run.Done = end.Done
+run_ended (run.Stopped statement stop) = end.StoppedAt statement stop
+
 -- the same of a job with its answer
 abbrev pub answer_end : Answer → End
 answer_end (Ended ending) = ending_end ending
-answer_end (Heard ending heard) = ending_end ending
+answer_end (Ran ran) = run_ended ran
+answer_end (Heard ran heard) = run_ended ran
 answer_end (Overheard heard odd) = end.Done
 answer_end (Remarked odd) = end.Done
 
@@ -77,6 +85,7 @@ characters_status shapes.NoMemory = 3
 abbrev pub status_of : End → ℕ
 status_of end.Done = 0
 status_of end.Stopped = 1
+status_of (end.StoppedAt statement stop) = 1
 status_of (end.Job fault) = fault_status fault
 status_of (end.Listing fault) = text_status fault
 status_of (end.Characters fault) = characters_status fault

@@ -17,7 +17,7 @@ use crate::statuses::{End, FAILED, is_answered};
 use crate::told::{Subject, show_oddities, subject_of, tell_heard, tell_listing, tell_more};
 use pr_dots::Shapes;
 use pr_files::{Noting, save};
-use pr_jobs::{CliFault, Ending, SCRIPT_LIMIT, TeeReader, Watched};
+use pr_jobs::{CliFault, RunEnd, SCRIPT_LIMIT, TeeReader, Watched};
 use pr_listing::{ListingForm, TextFault, read_text};
 use pr_options::{Job, Task};
 use std::alloc::Global;
@@ -44,6 +44,8 @@ struct Work<'a> {
     /// How long before its recording's own moment 0 the trace starts, if it does, in microseconds.
     before: Option<u64>,
     shapes: &'a Shapes,
+    /// The answer of a run says which error stopped it, and where.
+    is_located: bool,
 }
 
 /// How a task is done, beside its job.
@@ -94,6 +96,7 @@ pub fn answer_task(
         job,
         before,
         shapes: &shapes,
+        is_located: manner.is_explained,
     };
     let names = Names {
         input,
@@ -150,6 +153,7 @@ pub fn answer_given(
         job: task.job,
         before: task.before,
         shapes: &shapes,
+        is_located: true,
     };
     let is_shown = Cell::new(false);
     let count = Cell::new(0);
@@ -228,7 +232,7 @@ fn answer_job<R: Read + Drop, W: Write + Drop>(
     work: Work<'_>,
     aside: Aside<'_>,
 ) -> (End, W)
-    ensures { IfSome (R.remaining reader) (λ bytes. EndsWork work.entry.shapes.now work.entry.before work.entry.job bytes
+    ensures { IfSome (R.remaining reader) (λ bytes. EndsWork work.entry.is_located work.entry.shapes.now work.entry.before work.entry.job bytes
         (W.contents writer) (W.contents result.1) result.0) }
 {
     if let Some(_) = work.before {
@@ -264,7 +268,7 @@ fn answer_recording<R: Read + Drop, W: Write + Drop>(
     work: Work<'_>,
     aside: Aside<'_>,
 ) -> (End, W)
-    ensures { IfSome (R.remaining reader) (λ bytes. EndsRecording work.entry.shapes.now work.entry.before work.entry.job bytes
+    ensures { IfSome (R.remaining reader) (λ bytes. EndsRecording work.entry.is_located work.entry.shapes.now work.entry.before work.entry.job bytes
         (W.contents writer) (W.contents result.1) result.0) }
 {
     let mut input = Watched::new(Noting::new(reader));
@@ -298,12 +302,14 @@ fn found_work<'a, R: Read>(
     ensures work { IfOk result (λ found. IfSome (R.remaining (wrapped input.old)) (λ bytes.
         found.0.job ≡ started_job work.entry.before bytes (found_job (take first_bytes bytes) work.entry.job))) }
     ensures shapes { IfOk result (λ found. found.0.shapes ≡ work.entry.shapes) }
+    ensures located { IfOk result (λ found. found.0.is_located ≡ work.entry.is_located) }
     ensures refused { IfErr result (λ fault. fault_status fault ≡ 3) }
 {
     let Work {
         job,
         before,
         shapes,
+        is_located,
     } = work;
     let mut first = read_first(alloc, input)?;
     let job = found_job(job, first.as_slice());
@@ -312,6 +318,7 @@ fn found_work<'a, R: Read>(
         job,
         before: None,
         shapes,
+        is_located,
     };
     Ok((work, first))
 }
@@ -349,7 +356,7 @@ fn answer_listing<R: Read + Drop, W: Write + Drop>(
     work: Work<'_>,
     aside: Aside<'_>,
 ) -> (End, W)
-    ensures { IfSome (R.remaining reader) (λ bytes. EndsListing work.entry.shapes.now work.entry.job form bytes
+    ensures { IfSome (R.remaining reader) (λ bytes. EndsListing work.entry.is_located work.entry.shapes.now work.entry.job form bytes
         (W.contents writer) (W.contents result.1) result.0) }
 {
     let kept = TeeReader::new(rt.alloc(), reader, aside.is_explained);
@@ -395,16 +402,21 @@ fn answer_over<R: Read + Drop, W: Write + Drop>(
     work: Work<'_>,
     aside: Aside<'_>,
 ) -> (End, W)
-    ensures { IfSome (R.remaining reader) (λ text. EndsJob work.entry.shapes.now work.entry.job text
+    ensures { IfSome (R.remaining reader) (λ text. EndsJob work.entry.is_located work.entry.shapes.now work.entry.job text
         (W.contents writer) (W.contents result.1) result.0) }
 {
-    let Work { job, shapes, .. } = work;
+    let Work {
+        job,
+        shapes,
+        is_located,
+        ..
+    } = work;
     let subject = subject_of(&job);
     let is_kept = aside.is_explained && !aside.is_file;
     let kept = TeeReader::new(rt.alloc(), reader, is_kept);
     let mut input = Watched::new(Noting::new(kept));
     let mut output = Watched::new(Noting::new(writer));
-    let answer = do_job(rt.alloc(), &mut input, &mut output, job, shapes);
+    let answer = do_job(rt.alloc(), &mut input, &mut output, job, shapes, is_located);
     clear(rt, aside.is_shown);
     let input = input.into_inner();
     let output = output.into_inner();
@@ -427,15 +439,15 @@ fn tell_read<R: Read + Drop>(
         _ => kept.into_bytes(),
     };
     if let Some(bytes) = bytes {
-        tell_more(rt, bytes.as_slice(), subject, ending_of(answer));
+        tell_more(rt, bytes.as_slice(), subject, run_end_of(answer));
     }
 }
 
-/// How a job ended, or its fault.
-fn ending_of(answer: Result<Answer, CliFault>) -> Result<Ending, CliFault> {
+/// How the run of a job ended that says where, or the job's fault. All other jobs are done.
+fn run_end_of(answer: Result<Answer, CliFault>) -> Result<RunEnd, CliFault> {
     match answer {
-        Ok(Answer::Ended(ending) | Answer::Heard(ending, _)) => Ok(ending),
-        Ok(Answer::Overheard(_, _) | Answer::Remarked(_)) => Ok(Ending::Done),
+        Ok(Answer::Ran(end) | Answer::Heard(end, _)) => Ok(end),
+        Ok(Answer::Ended(_) | Answer::Overheard(_, _) | Answer::Remarked(_)) => Ok(RunEnd::Done),
         Err(fault) => Err(fault),
     }
 }
@@ -471,9 +483,10 @@ fn tell_answer(rt: &(impl Eprint + AllocGlobal), subject: Subject<'_>, answer: A
 {
     match answer {
         Answer::Ended(ending) => End::of_ending(ending),
-        Answer::Heard(ending, heard) => {
+        Answer::Ran(end) => End::of_run(end),
+        Answer::Heard(end, heard) => {
             tell_heard(rt, heard);
-            End::of_ending(ending)
+            End::of_run(end)
         }
         Answer::Overheard(heard, odd) => {
             tell_heard(rt, heard);

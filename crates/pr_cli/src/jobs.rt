@@ -1,18 +1,17 @@
 //! A job done over any reader and writer, and the exit statuses.
 
 ghost use Rattle.std.specs.Prelude.{◌≡◌, ◌↔◌, false, true, IfErr, IfSome, IsErrOf, OnOk};
-ghost use Rattle.pr_jobs.specs.Pages.{AnswersPages, IsPagesFault, ReadsToEnd, WritesNothing, start_of};
+ghost use Rattle.pr_jobs.specs.Bus.{AnswersBus, WritesNoEdge};
+ghost use Rattle.pr_jobs.specs.Pages.{AnswersPages, IsPagesFault, IsRunFault, ReadsToEnd, WritesNothing};
 ghost use Rattle.pr_jobs.specs.Report.{IsReportFault, ReadsAll, WritesNoReport};
 ghost use Rattle.pr_input.specs.Watched.{has_failed, is_flushed, wrapped};
-ghost use Rattle.pr_cli.specs.Jobs.{AnswersFrames, AnswersJob, AnswersRecording, AnswersRun, AnswersTrace, IsJobFault, IsPrintFault, IsRecordingFault, KeepsOutput, KeepsTrace, ReadsInput, ReadsRecording, ReadsTrace, found_job, restarted_job};
+ghost use Rattle.pr_cli.specs.Jobs.{AnswersFrames, AnswersJob, AnswersPrinted, AnswersRecording, AnswersRun, AnswersTrace, AnswersTraced, IsJobFault, IsPrintFault, IsRecordingFault, KeepsOutput, KeepsTrace, ReadsInput, ReadsRecording, ReadsTrace, found_job, restarted_job};
 
-use pr_basic::StatusMode;
-use pr_bus::Delays;
 use pr_capture::{Source, TraceFormat, TraceInput};
 use pr_dots::Shapes;
 use pr_jobs::{
-    CliFault, Ending, Watched, bus_as_over, bus_over, check_as_over, check_over, pages_as_over,
-    pages_over, raw_over,
+    CliFault, Ending, RunEnd, Start, Watched, bus_as_over, bus_over, check_as_over, check_over,
+    pages_as_over, pages_over, raw_over,
 };
 use pr_options::{CheckOutput, DecodeOutput, Job, PagesOutput, found_source};
 use pr_recording::{
@@ -21,17 +20,18 @@ use pr_recording::{
 };
 use pr_render::Format;
 use pr_report::{Oddities, Report};
-use pr_serial::Present;
 use std::alloc::Global;
 use std::io::{Read, Write};
 
 /// How a job ended.
 #[derive(Clone, Copy, Debug, PartialEq, Eq)]
 pub enum Answer {
-    /// It wrote what was asked for.
+    /// It wrote what was asked for. Of a run this does not say which error stopped it, and where.
     Ended(Ending),
+    /// It wrote what was asked for of a run that ended so.
+    Ran(RunEnd),
     /// It wrote the bytes that a printer hears in a run, which do not say what [`Heard`] does.
-    Heard(Ending, Heard),
+    Heard(RunEnd, Heard),
     /// It wrote those that a printer hears in a recording, about which this is odd.
     Overheard(Heard, Oddities),
     /// It wrote the pages of a recording, or its readings as JSON, which do not say that this is odd about it.
@@ -87,14 +87,15 @@ pub fn restarted_job<'a>(job: Job<'a>, start: u64) -> Job<'a>
 /// It takes the whole [`Job`]: only the form of a listing, and whether a recording's format has to be
 /// found, is read from it elsewhere, so every use of a format, a set or a delay is proved.
 ///
-/// The ending is [`Ending::Stopped`] exactly if a BASIC error stopped the run of a script.
+/// The answer is that a run is stopped exactly if a BASIC error stopped the run of a script. Where `is_located`, it always
+/// says which error that was, and at which statement.
 ///
 /// # Errors
 ///
-/// Those of the job's call: [`pr_jobs::pages_over`] for a list of marks, [`pr_jobs::pages_as_over`] for other pages, and
-/// [`pr_recording::run_bytes_over`] for bytes; [`pr_jobs::bus_over`] for a trace text, and else
-/// [`pr_jobs::bus_as_over`]; [`pr_jobs::check_over`] for the frames of a trace text,
-/// [`pr_recording::check_json_over`] for the JSON of any trace, and else
+/// Those of the job's call: [`pr_jobs::pages_as_over`] for pages, or [`pr_jobs::pages_over`] for a list of marks where
+/// nobody asks for a stop's place, and [`pr_recording::run_bytes_over`] for bytes; [`pr_jobs::bus_as_over`], or
+/// [`pr_jobs::bus_over`] for a trace text where nobody asks for a stop's place; [`pr_jobs::check_over`] for the frames
+/// of a trace text, [`pr_recording::check_json_over`] for the JSON of any trace, and else
 /// [`pr_jobs::check_as_over`]; [`pr_recording::decode_over`] for a list,
 /// [`pr_recording::decode_json_over`] for JSON, [`pr_recording::bytes_over`], and [`pr_recording::reprint_over`] for
 /// pages; [`pr_jobs::raw_over`]. They leave what they leave there. A read failed exactly if the input has failed, and a write exactly if the output has.
@@ -104,13 +105,14 @@ pub fn do_job<R: Read, W: Write>(
     output: &mut Watched<W>,
     job: Job<'_>,
     shapes: &Shapes,
+    is_located: bool,
 ) -> Result<Answer, CliFault>
     // the caller's part
     requires input { has_failed input.old ≡ false }
     requires output { has_failed output.old ≡ false }
     // what it gives
     ensures job { IfSome (R.remaining (wrapped input.old)) (λ text.
-        AnswersJob shapes.now job.entry text (W.contents (wrapped output.old)) (W.contents (wrapped output.new)) result) }
+        AnswersJob is_located shapes.now job.entry text (W.contents (wrapped output.old)) (W.contents (wrapped output.new)) result) }
     ensures at_end { ReadsInput job.entry (R.remaining (wrapped input.new)) result }
     ensures flushed { OnOk result (is_flushed output.new ≡ true) }
     // when it refuses, and what that leaves
@@ -121,15 +123,20 @@ pub fn do_job<R: Read, W: Write>(
 {
     match job {
         Job::Pages(_, present, delays, mode, wanted) => {
-            print_run(alloc, input, output, present, delays, mode, wanted, shapes)
-        }
-        Job::Bus(_, present, delays, mode, TraceFormat::Text) => {
-            let ending = bus_over(alloc, input, output, present, delays, mode)?;
-            Ok(Answer::Ended(ending))
+            let start = Start {
+                present,
+                delays,
+                mode,
+            };
+            print_run(alloc, input, output, start, wanted, shapes, is_located)
         }
         Job::Bus(_, present, delays, mode, format) => {
-            let ending = bus_as_over(alloc, input, output, present, delays, mode, format)?;
-            Ok(Answer::Ended(ending))
+            let start = Start {
+                present,
+                delays,
+                mode,
+            };
+            trace_run(alloc, input, output, start, format, is_located)
         }
         Job::Check(trace, wanted) => {
             check_trace(alloc, input, output, trace, wanted)?;
@@ -153,18 +160,17 @@ fn print_run<R: Read, W: Write>(
     alloc: Global,
     input: &mut Watched<R>,
     output: &mut Watched<W>,
-    present: Present,
-    delays: Delays,
-    mode: StatusMode,
+    start: Start,
     wanted: PagesOutput,
     shapes: &Shapes,
+    is_located: bool,
 ) -> Result<Answer, CliFault>
     // the caller's part
     requires input { has_failed input.old ≡ false }
     requires output { has_failed output.old ≡ false }
     // what it gives
     ensures run { IfSome (R.remaining (wrapped input.old)) (λ text.
-        AnswersRun shapes.now (start_of present delays mode) wanted text
+        AnswersRun is_located shapes.now start wanted text
         (W.contents (wrapped output.old)) (W.contents (wrapped output.new)) result) }
     ensures at_end { ReadsToEnd (R.remaining (wrapped input.new)) result }
     ensures flushed { OnOk result (is_flushed output.new ≡ true) }
@@ -176,35 +182,32 @@ fn print_run<R: Read, W: Write>(
 {
     match wanted {
         PagesOutput::Pages(format) => {
-            let ending = print_pages(alloc, input, output, present, delays, mode, format, shapes)?;
-            Ok(Answer::Ended(ending))
+            print_pages(alloc, input, output, start, format, shapes, is_located)
         }
         PagesOutput::Bytes(device) => {
-            let (ending, heard) = run_bytes_over(
-                alloc, input, output, present, delays, mode, device,
-            )?;
-            Ok(Answer::Heard(ending, heard))
+            let (end, heard) = run_bytes_over(alloc, input, output, start, device)?;
+            Ok(Answer::Heard(end, heard))
         }
     }
 }
 
-/// Runs a script and writes the pages of its run: a list of marks, which draws no characters, by the call for that alone.
+/// Runs a script and writes the pages of its run: a list of marks by the call for that alone where nobody asks which error
+/// stopped the run.
 fn print_pages<R: Read, W: Write>(
     alloc: Global,
     input: &mut Watched<R>,
     output: &mut Watched<W>,
-    present: Present,
-    delays: Delays,
-    mode: StatusMode,
+    start: Start,
     format: Format,
     shapes: &Shapes,
-) -> Result<Ending, CliFault>
+    is_located: bool,
+) -> Result<Answer, CliFault>
     // the caller's part
     requires input { has_failed input.old ≡ false }
     requires output { has_failed output.old ≡ false }
     // what it gives
     ensures pages { IfSome (R.remaining (wrapped input.old)) (λ script.
-        AnswersPages shapes.now (start_of present delays mode) format script
+        AnswersPrinted is_located shapes.now start format script
         (W.contents (wrapped output.old)) (W.contents (wrapped output.new)) result) }
     ensures at_end { ReadsToEnd (R.remaining (wrapped input.new)) result }
     ensures flushed { OnOk result (is_flushed output.new ≡ true) }
@@ -214,10 +217,116 @@ fn print_pages<R: Read, W: Write>(
     ensures read_failed { IsErrOf result CliFault.ReadFailed ↔ (has_failed input.new ≡ true) }
     ensures write_failed { IsErrOf result CliFault.WriteFailed ↔ (has_failed output.new ≡ true) }
 {
-    match format {
-        Format::List => pages_over(alloc, input, output, present, delays, mode),
-        _ => pages_as_over(alloc, input, output, present, delays, mode, format, shapes),
+    match (format, is_located) {
+        (Format::List, false) => {
+            let ending = list_run(alloc, input, output, start, shapes)?;
+            Ok(Answer::Ended(ending))
+        }
+        _ => {
+            let end = pages_as_over(alloc, input, output, start, format, shapes)?;
+            Ok(Answer::Ran(end))
+        }
     }
+}
+
+/// Runs a script and writes the list of marks of its run. A list draws no characters, so these shapes change nothing.
+fn list_run<R: Read, W: Write>(
+    alloc: Global,
+    input: &mut Watched<R>,
+    output: &mut Watched<W>,
+    start: Start,
+    shapes: &Shapes,
+) -> Result<Ending, CliFault>
+    // the caller's part
+    requires input { has_failed input.old ≡ false }
+    requires output { has_failed output.old ≡ false }
+    // what it gives
+    ensures pages { IfSome (R.remaining (wrapped input.old)) (λ script.
+        AnswersPages shapes.now start Format.List script
+        (W.contents (wrapped output.old)) (W.contents (wrapped output.new)) result) }
+    ensures at_end { ReadsToEnd (R.remaining (wrapped input.new)) result }
+    ensures flushed { OnOk result (is_flushed output.new ≡ true) }
+    // when it refuses, and what that leaves
+    ensures nothing { WritesNothing (W.contents (wrapped output.old)) (W.contents (wrapped output.new)) result }
+    ensures memory { IfErr result IsRunFault }
+    ensures read_failed { IsErrOf result CliFault.ReadFailed ↔ (has_failed input.new ≡ true) }
+    ensures write_failed { IsErrOf result CliFault.WriteFailed ↔ (has_failed output.new ≡ true) }
+{
+    let _ = shapes;
+    let Start {
+        present,
+        delays,
+        mode,
+    } = start;
+    pages_over(alloc, input, output, present, delays, mode)
+}
+
+/// Runs a script and writes the trace of its run: a trace text by the call for that alone where nobody asks which error
+/// stopped the run.
+#[inline(never)]
+fn trace_run<R: Read, W: Write>(
+    alloc: Global,
+    input: &mut Watched<R>,
+    output: &mut Watched<W>,
+    start: Start,
+    format: TraceFormat,
+    is_located: bool,
+) -> Result<Answer, CliFault>
+    // the caller's part
+    requires input { has_failed input.old ≡ false }
+    requires output { has_failed output.old ≡ false }
+    // what it gives
+    ensures bus { IfSome (R.remaining (wrapped input.old)) (λ script.
+        AnswersTraced is_located start format script
+        (W.contents (wrapped output.old)) (W.contents (wrapped output.new)) result) }
+    ensures at_end { ReadsToEnd (R.remaining (wrapped input.new)) result }
+    ensures flushed { OnOk result (is_flushed output.new ≡ true) }
+    // when it refuses, and what that leaves
+    ensures nothing { WritesNoEdge (W.contents (wrapped output.old)) (W.contents (wrapped output.new)) result }
+    ensures memory { IfErr result IsRunFault }
+    ensures read_failed { IsErrOf result CliFault.ReadFailed ↔ (has_failed input.new ≡ true) }
+    ensures write_failed { IsErrOf result CliFault.WriteFailed ↔ (has_failed output.new ≡ true) }
+{
+    match (format, is_located) {
+        (TraceFormat::Text, false) => {
+            let ending = text_run(alloc, input, output, start)?;
+            Ok(Answer::Ended(ending))
+        }
+        _ => {
+            let end = bus_as_over(alloc, input, output, start, format)?;
+            Ok(Answer::Ran(end))
+        }
+    }
+}
+
+/// Runs a script and writes the trace text of its run.
+fn text_run<R: Read, W: Write>(
+    alloc: Global,
+    input: &mut Watched<R>,
+    output: &mut Watched<W>,
+    start: Start,
+) -> Result<Ending, CliFault>
+    // the caller's part
+    requires input { has_failed input.old ≡ false }
+    requires output { has_failed output.old ≡ false }
+    // what it gives
+    ensures bus { IfSome (R.remaining (wrapped input.old)) (λ script.
+        AnswersBus start TraceFormat.Text script
+        (W.contents (wrapped output.old)) (W.contents (wrapped output.new)) result) }
+    ensures at_end { ReadsToEnd (R.remaining (wrapped input.new)) result }
+    ensures flushed { OnOk result (is_flushed output.new ≡ true) }
+    // when it refuses, and what that leaves
+    ensures nothing { WritesNoEdge (W.contents (wrapped output.old)) (W.contents (wrapped output.new)) result }
+    ensures memory { IfErr result IsRunFault }
+    ensures read_failed { IsErrOf result CliFault.ReadFailed ↔ (has_failed input.new ≡ true) }
+    ensures write_failed { IsErrOf result CliFault.WriteFailed ↔ (has_failed output.new ≡ true) }
+{
+    let Start {
+        present,
+        delays,
+        mode,
+    } = start;
+    bus_over(alloc, input, output, present, delays, mode)
 }
 
 /// Checks a trace and writes what it says: its readings as JSON, or the report asked for.

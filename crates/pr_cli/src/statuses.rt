@@ -1,9 +1,10 @@
 //! How the program ends, and its exit statuses.
 
 ghost use Rattle.std.specs.Prelude.{◌≡◌, ◌==◌, ◌||◌};
-ghost use Rattle.pr_cli.specs.Statuses.{characters_status, ending_end, fault_status, refusal_end, status_of, text_status};
+ghost use Rattle.pr_cli.specs.Statuses.{characters_status, ending_end, fault_status, refusal_end, run_ended, status_of, text_status};
 
-use pr_jobs::{CliFault, Ending, ShapesFault};
+use pr_channels::Stop;
+use pr_jobs::{CliFault, Ending, RunEnd, ShapesFault};
 use pr_listing::TextFault;
 use pr_options::JobFault;
 
@@ -14,6 +15,13 @@ pub enum End {
     Done,
     /// The same of a run that a BASIC error stopped.
     Stopped,
+    /// The same of a run that this BASIC error stopped.
+    StoppedAt {
+        /// The statement that it stopped, counted from 1.
+        statement: usize,
+        /// The error.
+        stop: Stop,
+    },
     /// The job has this fault.
     Job(CliFault),
     /// The listing has no text of a script.
@@ -44,7 +52,7 @@ impl End {
     {
         match self {
             End::Done => DONE,
-            End::Stopped => STOPPED,
+            End::Stopped | End::StoppedAt { .. } => STOPPED,
             End::Job(fault) => fault_status(fault),
             End::Listing(fault) => text_status(fault),
             End::Characters(fault) => characters_status(fault),
@@ -59,6 +67,16 @@ impl End {
         match ending {
             Ending::Done => End::Done,
             Ending::Stopped => End::Stopped,
+        }
+    }
+
+    /// Returns how it ends after a run that ended so. It takes no memory.
+    pub fn of_run(end: RunEnd) -> End
+        ensures { result ≡ run_ended end }
+    {
+        match end {
+            RunEnd::Done => End::Done,
+            RunEnd::Stopped { statement, stop } => End::StoppedAt { statement, stop },
         }
     }
 

@@ -1,24 +1,19 @@
 //! What more there is to say of a job's input, on standard error.
 
-ghost use Rattle.std.specs.Prelude.{◌≤◌, length};
-ghost use Rattle.pr_basic.specs.Limits.{statement_limit};
-
-use pr_basic::{ScriptFault, Statement, StatusMode, cut_line, read_script};
-use pr_bus::Delays;
+use pr_basic::{ScriptFault, StatusMode, cut_line};
 use pr_capture::{Source, TraceInput};
 use pr_explain::{
     explain_line, explain_reading, explain_script, explain_stop, explain_trace, remark_on,
 };
-use pr_jobs::{CliFault, Ending, PictureFault};
+use pr_jobs::{CliFault, PictureFault, RunEnd};
 use pr_listing::{
     ListingFault, ListingForm, TextFault, has_typed_strings, looks_like_disk, looks_like_text,
     looks_saved,
 };
-use pr_options::{Job, read_delays};
+use pr_options::Job;
 use pr_recording::Heard;
 use pr_report::{Oddities, push_oddities};
 use pr_serial::Present;
-use pr_system::{NoMemory, Outcome, Running};
 use std::alloc::{AllocError, Global};
 
 /// What is said of a refused script that looks like a saved program.
@@ -87,7 +82,7 @@ pub fn tell_more(
     rt: &(impl Eprint + AllocGlobal),
     bytes: &[u8],
     subject: Subject<'_>,
-    answer: Result<Ending, CliFault>,
+    answer: Result<RunEnd, CliFault>,
 ) {
     show(rt, told(rt, bytes, subject, answer));
     show_hint(rt, hint_of(bytes, subject, answer));
@@ -135,7 +130,7 @@ fn told(
     rt: &impl AllocGlobal,
     bytes: &[u8],
     subject: Subject<'_>,
-    answer: Result<Ending, CliFault>,
+    answer: Result<RunEnd, CliFault>,
 ) -> Result<String, AllocError> {
     match (subject, answer) {
         (_, Err(CliFault::Picture(fault))) => sheets_told(rt, fault),
@@ -161,7 +156,7 @@ fn sheets_told(rt: &impl AllocGlobal, fault: PictureFault) -> Result<String, All
 fn hint_of(
     bytes: &[u8],
     subject: Subject<'_>,
-    answer: Result<Ending, CliFault>,
+    answer: Result<RunEnd, CliFault>,
 ) -> Option<&'static str> {
     match (subject, answer) {
         (Subject::Script(job), _) => script_hint(bytes, job.form, answer),
@@ -174,7 +169,7 @@ fn hint_of(
 fn script_hint(
     script: &[u8],
     form: ListingForm,
-    answer: Result<Ending, CliFault>,
+    answer: Result<RunEnd, CliFault>,
 ) -> Option<&'static str> {
     match answer {
         Err(CliFault::Script(_)) if form == ListingForm::Text && looks_saved(script) => {
@@ -256,12 +251,15 @@ fn run_told(
     rt: &impl AllocGlobal,
     script: &[u8],
     job: ScriptRun,
-    answer: Result<Ending, CliFault>,
+    answer: Result<RunEnd, CliFault>,
 ) -> Result<String, AllocError> {
     match answer {
-        Ok(Ending::Stopped) => stop_told(rt, script, job),
+        Ok(RunEnd::Stopped { statement, stop }) => {
+            let told = explain_stop(rt.alloc(), script, job.mode, stop, statement, job.present)?;
+            Ok(told.text)
+        }
         Err(CliFault::Script(fault)) => script_told(rt.alloc(), script, fault),
-        Ok(Ending::Done) | Err(_) => Ok(String::new(rt.alloc())),
+        Ok(RunEnd::Done) | Err(_) => Ok(String::new(rt.alloc())),
     }
 }
 
@@ -304,40 +302,6 @@ fn line_numbered(script: &[u8], number: usize) -> &[u8] {
     rest
 }
 
-/// What there is to say of the error that stopped a run. The script is run again: no delay changes
-/// where a run stops.
-fn stop_told(rt: &impl AllocGlobal, script: &[u8], job: ScriptRun) -> Result<String, AllocError> {
-    let alloc = rt.alloc();
-    let (Ok(statements), Ok(delays)) = (read_script(alloc, script), read_delays(alloc, "")) else {
-        return Err(AllocError);
-    };
-    let outcome = run_again(alloc, statements.as_slice(), job, delays)?;
-    match outcome.stop {
-        Some((statement, stop)) => {
-            Ok(explain_stop(alloc, script, job.mode, stop, statement, job.present)?.text)
-        }
-        None => Ok(String::new(alloc)),
-    }
-}
-
-/// Performs statements up to the first that stops. No trace is kept.
-fn run_again(
-    alloc: Global,
-    statements: &[Statement],
-    job: ScriptRun,
-    delays: Delays,
-) -> Result<Outcome, NoMemory>
-    requires few { length statements.now ≤ statement_limit }
-{
-    let mut running = Running::new(alloc, job.present, delays, job.mode)?;
-    for statement in statements {
-        if running.step(statement)?.is_some() {
-            return Ok(running.finish());
-        }
-    }
-    Ok(running.finish())
-}
-
 /// Writes further lines on standard error. Where there was no memory for them there are none, and
 /// the exit status is that of the refusal all the same.
 fn show(rt: &impl Eprint, lines: Result<String, AllocError>) {
@@ -352,7 +316,7 @@ fn trace_told(
     rt: &impl AllocGlobal,
     bytes: &[u8],
     trace: TraceInput<'_>,
-    answer: Result<Ending, CliFault>,
+    answer: Result<RunEnd, CliFault>,
 ) -> Result<String, AllocError> {
     let alloc = rt.alloc();
     let refusal = match answer {

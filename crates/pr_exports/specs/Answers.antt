@@ -1,8 +1,6 @@
 -- Trusted: the answer of a call with numbers.
-use Rattle.std.specs.Prelude.{ℕ, ◌+◌, Option, Some, None}
+use Rattle.std.specs.Prelude.{ℕ, Option, Some, None}
 use Rattle.std.specs.Option.{option_map_or, unwrap_or}
-use Rattle.pr_channels.specs.Stops.{stop_number}
-use Rattle.pr_channels.specs.declared.faults.Stop.{Stop}
 use Rattle.pr_cli.specs.Statuses.{status_of}
 use Rattle.pr_cli.specs.declared.statuses.End.{End}
 use Rattle.pr_cli.specs.declared.statuses.End.TheVariants.{Job}
@@ -38,11 +36,6 @@ answer_of (Written None n) = plain 0 n
 answer_of (Written (Some fault) n) = record (ended (Job fault)) { length = n }
 answer_of (TooSmall n) = plain 4 n
 answer_of (Refused fault) = ended (Job fault)
-
--- the BASIC error that stops a run, as 100 and its number, and its statement; or none does
-abbrev pub stopped : Option (ℕ × Stop) → Answer
-stopped None = plain 0 0
-stopped (Some (statement, stop)) = record { code = 1; fault = 100 + stop_number stop; place = statement; length = 0 }
 
 -- the line that cannot be read, or else the index of the edge, or else 0
 abbrev pub place_of_trace : TracePlace → ℕ

@@ -3,16 +3,11 @@
 use Rattle.std.specs.Prelude.{◌≡◌, ◌⊎◌, ℕ, ◌<◌, ◌≤◌, List, [], length, Option, Some, None, Result, Ok, Err}
 use Rattle.std.specs.List.{position}
 use Rattle.std.specs.Option.{option_map_or}
-use Rattle.pr_basic.specs.Faults.{IsFirstFault}
-use Rattle.pr_basic.specs.Grammar.{IsScript}
-use Rattle.pr_basic.specs.Runs.{run_of}
-use Rattle.pr_basic.specs.declared.fault.ScriptFault.{ScriptFault}
-use Rattle.pr_basic.specs.declared.statement.Statement.{Statement}
 use Rattle.pr_channels.specs.declared.faults.Stop.{Stop}
 use Rattle.pr_cli.specs.declared.statuses.End.TheVariants.{Characters, Job}
 use Rattle.pr_jobs.specs.declared.characters.ShapesFault.TheVariants as shapes
 use Rattle.pr_jobs.specs.declared.fault.CliFault.{CliFault}
-use Rattle.pr_jobs.specs.declared.fault.CliFault.TheVariants.{NoMemory, Script}
+use Rattle.pr_jobs.specs.declared.fault.CliFault.TheVariants.{NoMemory}
 use Rattle.pr_listing.specs.declared.form.ListingForm.{ListingForm}
 use Rattle.pr_explain.specs.ScriptPlaces.{IsScriptPlace}
 use Rattle.pr_explain.specs.StopPlaces.{IsStopPlace}
@@ -20,14 +15,13 @@ use Rattle.pr_explain.specs.TracePlaces.{IsReadingPlace, IsTracePlace, nowhere}
 use Rattle.pr_serial.specs.declared.Present.{Present}
 use Rattle.pr_capture.specs.declared.format.Source.{Source}
 use Rattle.pr_capture.specs.declared.format.TraceInput.{TraceInput}
-use Rattle.pr_basic.specs.declared.session.StatusMode.{StatusMode}
 use Rattle.pr_characters.specs.declared.fault.CharactersFault.{CharactersFault}
 use Rattle.pr_dots.specs.declared.character_sets.Shapes.{Shapes}
 use Rattle.pr_render.specs.declared.format.Format.{Format}
 use Rattle.pr_recording.specs.declared.wording.Wording.{Wording}
 use Rattle.pr_options.specs.declared.outputs.CheckOutput.{CheckOutput}
 use Rattle.pr_report.specs.declared.detail.Detail.{Detail}
-use Rattle.pr_exports.specs.Answers.{answer_of, ended, number_read, place_of_trace, refusal, stopped}
+use Rattle.pr_exports.specs.Answers.{answer_of, ended, number_read, place_of_trace, refusal}
 use Rattle.pr_exports.specs.Giving.{Gives, GivesCheck, GivesDelays, GivesEdges, GivesFault, GivesIntervals, GivesLines, GivesPages, GivesReadings, GivesRows, Hands, HasNoMemory}
 use Rattle.pr_exports.specs.Listings.{TellsText, answer_for}
 use Rattle.pr_exports.specs.Numbers.{bounds_numbers}
@@ -185,19 +179,3 @@ abbrev pub TellsPrint :
 TellsPrint None shapes inputs old new answer = Refuses 24 old new answer
 TellsPrint (Some format) (Err fault) inputs old new answer = RefusesCharacters fault old new answer
 TellsPrint (Some format) (Ok shapes) inputs old new answer = HandsInputs shapes format inputs old new answer
-
--- the error that stops the run of a script, if one does; or the script's first fault; or memory was refused
-abbrev pub FindsStop : StatusMode → Present → (script : List ℕ) → Result (Option (ℕ × Stop)) CliFault → Type 0
-FindsStop mode present script (Ok stop) =
-    (statements : List Statement) × IsScript script statements × (stop ≡ (run_of mode present statements).stop)
-FindsStop mode present script (Err fault) =
-    ((f : ScriptFault) × IsFirstFault script f × (fault ≡ Script f)) ⊎ (fault ≡ NoMemory)
-
--- the same as numbers
-abbrev pub stop_answer : Result (Option (ℕ × Stop)) CliFault → Answer
-stop_answer (Ok stop) = stopped stop
-stop_answer (Err fault) = ended (Job fault)
-
-abbrev pub TellsStop : StatusMode → Present → (script : List ℕ) → Answer → Type 0
-TellsStop mode present script answer =
-    (found : Result (Option (ℕ × Stop)) CliFault) × FindsStop mode present script found × (answer ≡ stop_answer found)

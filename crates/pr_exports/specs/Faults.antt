@@ -6,6 +6,7 @@ use Rattle.pr_wire.specs.declared.WaveFault.{WaveFault}
 use Rattle.pr_wire.specs.declared.WaveFault.TheVariants as wave
 use Rattle.pr_wire.specs.declared.text.TraceFault.{TraceFault}
 use Rattle.pr_wire.specs.declared.text.TraceFault.TheVariants as trace
+use Rattle.pr_channels.specs.Stops.{stop_number}
 use Rattle.pr_capture.specs.declared.fault.CaptureFault.{CaptureFault}
 use Rattle.pr_capture.specs.declared.fault.CaptureFault.TheVariants as capture
 use Rattle.pr_capture.specs.declared.fault.Wire.{Wire}
@@ -115,10 +116,12 @@ text_numbers text.TooLarge = (9, 0, 0)
 text_numbers text.ReadFailed = (90, 0, 0)
 text_numbers text.NoMemory = (90, 0, 0)
 
--- how the program ends: the number of its fault, 0 for none; its place; and its column
+-- how the program ends: the number of its fault, 0 for none, or 100 and that of the BASIC error that stopped a run; its place, the
+-- statement of such an error; and its column
 abbrev pub numbers_of : End → ℕ × ℕ × ℕ
 numbers_of end.Done = (0, 0, 0)
 numbers_of end.Stopped = (0, 0, 0)
+numbers_of (end.StoppedAt statement stop) = (100 + stop_number stop, statement, 0)
 numbers_of (end.Job fault) = ((job_numbers fault).0, (job_numbers fault).1, 0)
 numbers_of (end.Listing fault) = text_numbers fault
 numbers_of (end.Characters fault) = ((shapes_numbers fault).0, (shapes_numbers fault).1, 0)

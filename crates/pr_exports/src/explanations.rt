@@ -108,7 +108,7 @@ pub extern "C" fn print1525_explain_script(
 /// buffer, and answers the line of its place: the text and the place of
 /// [`pr_explain::explain_stop`]. 0, and no text, exactly where the script has no such statement.
 ///
-/// The error is passed by its number, and the statement, from 1, as [`crate::print1525_stop`] answers them, without the 100;
+/// The error is passed by its number, and the statement, from 1, as [`crate::print1525_answer`] answers them, without the 100;
 /// `four` and `five` are the printers that were present, `kept` is whether the status was kept (0
 /// for no). It is refused where the number is no BASIC error's, where memory was refused, and where
 /// the text has more bytes than the buffer has room for. The buffer is then as it was.

@@ -14,19 +14,23 @@ use pr_wire::{TraceFault, WaveFault};
 /// The number of too large an input, of any kind.
 const TOO_LARGE: usize = 9;
 
+/// What is added to the number of the BASIC error that stopped a run.
+const STOP: usize = 100;
+
 /// The number of words that ask for no task.
 const NO_TASK: usize = 54;
 
 /// The number of lack of memory. A read or a write in memory fails for nothing else.
 const NO_MEMORY: usize = 90;
 
-/// The number of the fault with which the program ends, 0 for none; its place, a line or an edge or how many sheets there are; and
-/// its column. A place or a column that a fault has not is 0.
+/// The number of the fault with which the program ends, 0 for none, or 100 and that of the BASIC error that stopped a run; its
+/// place, a line, an edge, a statement or how many sheets there are; and its column. A place or a column that a fault has not is 0.
 pub fn numbers_of(end: End) -> (usize, usize, usize)
     ensures { result ≡ numbers_of end }
 {
     match end {
         End::Done | End::Stopped => (0, 0, 0),
+        End::StoppedAt { statement, stop } => (STOP + usize::from(stop.number()), statement, 0),
         End::Job(fault) => at(job_numbers(fault)),
         End::Listing(fault) => text_numbers(fault),
         End::Characters(fault) => at(shapes_numbers(fault)),

@@ -12,8 +12,8 @@
 //! - `numbers` has edges, readings (`rows`), what the lengths of their intervals come to (`lengths`) and the bounds of the
 //!   delays; `delays` has the delay that each edge ends, `scripts` the line of each statement and the place of a fault. The
 //!   page in a browser draws and marks by these.
-//! - `stops` has the error that stops a run, and `listings` a listing's text of a script, with the line and the column of its
-//!   fault. `printing` has the page of a printer's inputs, of which some are no bytes.
+//! - `listings` has a listing's text of a script, with the line and the column of its fault. `printing` has the page of a
+//!   printer's inputs, of which some are no bytes.
 //! - `recordings` and `explanations` serve callers in C, who have a recording's settings as numbers: the name of a
 //!   signal that they pass may be any bytes, and explanations are given beside their places, so their contracts say the place
 //!   without a word on the text. A recording that cannot be read to its end answers its fault, and the text of what comes
@@ -39,7 +39,6 @@ mod recordings;
 mod rows;
 mod scripts;
 mod settings;
-mod stops;
 
 pub use answer::{Answer, Told};
 pub use delays::print1525_edge_delays;
@@ -53,7 +52,6 @@ pub use printing::{bytes_are_inputs, print1525_print};
 pub use program::{End, print1525_answer, print1525_names};
 pub use recordings::{print1525_check, print1525_readings, print1525_reprint};
 pub use scripts::{print1525_script_fault, print1525_statement_lines};
-pub use stops::print1525_stop;
 
 #[cfg(test)]
 mod tests;

@@ -6,12 +6,11 @@ ghost use Rattle.pr_jobs.specs.Report.{IsOwnFault, Says};
 ghost use Rattle.pr_exports.specs.Asked.{TellsBounds, TellsEdges, TellsIntervals, TellsRows};
 ghost use Rattle.pr_exports.specs.Giving.{GivesEdges, GivesIntervals, GivesRows};
 ghost use Rattle.pr_exports.specs.Numbers.{bounds_numbers, edge_numbers, kind_numbers, level_number};
-ghost use Rattle.pr_exports.specs.Rows.{EndsReadings};
 ghost use Rattle.pr_exports.specs.Settings.{detail_of, source_of};
 
 use crate::answer::{Answer, Told, give, made_of, numbered, refused};
 use crate::lengths::all_figures;
-use crate::rows::{Ended, RecordingReadings, flag, longest_answer, rows_of};
+use crate::rows::{flag, longest_answer, readings_of, rows_of};
 use crate::settings::{detail_for, input_for, source_for};
 use pr_capture::TraceInput;
 use pr_jobs::{CliFault, EdgeReader, LastEdges};
@@ -64,15 +63,6 @@ fn numbers_of(alloc: Global, edges: &[Edge]) -> Result<Vec<u64>, NoMemory>
         numbers.extend_from_slice(&[edge.time, level_number(edge.levels)])?;
     }
     Ok(numbers)
-}
-
-/// The readings of edges whose input has this fault, if it has one, and why there are no more.
-fn readings_of(alloc: Global, edges: &[Edge], own: Option<CliFault>) -> Result<Ended, NoMemory>
-    ensures { IfOk result (λ ended. EndsReadings edges.now own ended) }
-{
-    let mut readings = RecordingReadings::new(alloc);
-    readings.take_all(edges)?;
-    readings.finish(own)
 }
 
 /// Reads a recording, and puts the numbers of its edges at the front of a buffer.

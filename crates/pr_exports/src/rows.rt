@@ -1,21 +1,18 @@
 //! What the edges of a recording say: its readings, and a row of numbers for each.
 
-ghost use Rattle.std.specs.Prelude.{◌≡◌, ◌+◌, ◌^◌, ◌<◌, ◌≤◌, ◌∷◌, ◌++◌, [], List, length, IfOk, OnOk};
-ghost use Rattle.std.specs.Option.{option_map_or, option_to_list};
-ghost use Rattle.pr_wire.specs.declared.Edge.{Edge};
+ghost use Rattle.std.specs.Prelude.{◌≡◌, ◌++◌, [], IfOk, OnOk};
+ghost use Rattle.std.specs.Option.{option_map_or};
 ghost use Rattle.pr_report.specs.Contexts.{at_start};
 ghost use Rattle.pr_report.specs.Intervals.{longest_answer, transfer_of};
 ghost use Rattle.pr_report.specs.ReadingText.{reading_lines};
-ghost use Rattle.pr_recording.specs.Decoded.{stop_at};
 ghost use Rattle.pr_exports.specs.Numbers.{end_of, flag, reading_rows, row_of, row_with};
-ghost use Rattle.pr_exports.specs.Rows.{EndsReadings, HasTaken, TakesMore};
+ghost use Rattle.pr_exports.specs.Rows.{EndsReadings};
 
-use pr_decode::{
-    Decoder, FrameEnd, GoesBack, IncompleteEnd, Pulse, Reading, Transfer, readings_add_up,
-};
+use pr_decode::{FrameEnd, IncompleteEnd, Pulse, Reading, Transfer};
 use pr_jobs::CliFault;
+use pr_recording::{Takes, Tape};
 use pr_report::{Context, Detail, push_reading};
-use pr_wire::{Edge, Kind, NoMemory, WaveFault, bounds};
+use pr_wire::{Edge, Kind, NoMemory, bounds};
 use std::alloc::Global;
 
 /// Yes as 1, no as 0.
@@ -138,101 +135,53 @@ pub struct Ended {
     pub stop: Option<CliFault>,
 }
 
-/// Keeps what the edges of a recording say, up to where time goes back.
+/// The readings of a recording, kept.
 #[derive(Drop)]
-pub struct RecordingReadings {
-    decoder: Decoder,
-    readings: Vec<Reading>,
-    /// How many edges were taken.
-    taken: usize,
-    /// The index of the edge at which time goes back.
-    back: Option<usize>,
+struct Readings {
+    all: Vec<Reading>,
 }
 
-/// Why a recording is read no further: time goes back at an edge, or else it has this fault.
-fn stop_at(back: Option<usize>, own: Option<CliFault>) -> Option<CliFault>
-    ensures { result ≡ stop_at back own }
-{
-    match back {
-        Some(edge) => Some(CliFault::Wave(WaveFault::Order(edge))),
-        None => own,
+impl Readings {
+    /// No reading. It takes no memory.
+    fn none(alloc: Global) -> Readings
+        ensures { result.all.items ≡ [] }
+    {
+        Readings {
+            all: Vec::new(alloc),
+        }
     }
 }
 
-/// Adds a reading, if there is one.
-fn push_if(readings: &mut Vec<Reading>, reading: Option<Reading>) -> Result<(), NoMemory>
-    ensures { OnOk result (readings.new.items ≡ readings.old.items ++ option_to_list reading) }
-{
-    if let Some(reading) = reading {
-        readings.push(reading)?;
-    }
-    Ok(())
-}
+impl Takes for Readings {
+    ghost use Rattle.std.specs.Prelude.{⊤};
+    ghost use Rattle.std.proofs.Common.{ap, append-nil, append_assoc, sym, ◌∙◌};
 
-impl RecordingReadings {
-    /// The readings of no edge. It takes no memory.
-    pub fn new(alloc: Global) -> RecordingReadings
-        ensures readings { HasTaken [] result }
-        ensures edges { result.taken ≡ 0 }
-    {
-        RecordingReadings {
-            decoder: Decoder::new(),
-            readings: Vec::new(alloc),
-            taken: 0,
-            back: None,
-        }
-    }
+    ghost takes = { λ more old new. new.all.items ≡ old.all.items ++ more };
 
-    /// Takes the next edge. After one at which time goes back it takes none.
-    fn take(&mut self, edge: Edge) -> Result<(), NoMemory>
-        requires few { self.old.taken + 1 < 2 ^ 64 }
-        ensures readings { OnOk result (TakesMore (edge ∷ []) self.old self.new) }
-        ensures edges { self.new.taken ≤ self.old.taken + 1 }
-    {
-        if self.back.is_some() {
-            return Ok(());
-        }
-        match self.decoder.take(edge) {
-            Ok(reading) => {
-                self.taken += 1;
-                push_if(&mut self.readings, reading)
-            }
-            Err(GoesBack) => {
-                self.back = Some(self.taken);
-                Ok(())
-            }
-        }
-    }
+    ghost may_take = { λ n r. ⊤ };
 
-    /// Takes the next edges, in order.
-    pub fn take_all(&mut self, edges: &[Edge]) -> Result<(), NoMemory>
-        requires few { self.old.taken + length edges.now < 2 ^ 64 }
-        ensures readings { OnOk result (TakesMore edges.now self.old self.new) }
-    {
-        for edge in edges {
-            self.take(*edge)?;
-        }
+    ghost takes_none = { λ r. sym (append-nil r.all.items) };
+
+    ghost takes_both = { λ xs ys a b c h k. k ∙ (ap (λ l. l ++ ys) h ∙ append_assoc a.all.items xs ys) };
+
+    ghost takes_fewer = { λ k n r h. h };
+
+    fn take_reading(&mut self, reading: &Reading) -> Result<(), NoMemory> {
+        self.all.push(*reading)?;
         Ok(())
     }
+}
 
-    /// Ends the edges of an input with this fault, if it has one. Where nothing stops them, what the
-    /// end cuts is kept too.
-    pub fn finish(mut self, own: Option<CliFault>) -> Result<Ended, NoMemory>
-        ensures { IfOk result (λ ended. (edges : List Edge) → HasTaken edges self → EndsReadings edges own ended) }
-    {
-        readings_add_up();
-        let stop = stop_at(self.back, own);
-        if stop.is_some() {
-            return Ok(Ended {
-                readings: self.readings,
-                stop,
-            });
-        }
-        let cut = self.decoder.finish();
-        push_if(&mut self.readings, cut)?;
-        Ok(Ended {
-            readings: self.readings,
-            stop: None,
-        })
-    }
+/// The readings of edges whose input has this fault, if it has one, and why there are no more.
+pub fn readings_of(alloc: Global, edges: &[Edge], own: Option<CliFault>) -> Result<Ended, NoMemory>
+    ensures { IfOk result (λ ended. EndsReadings edges.now own ended) }
+{
+    let mut tape = Tape::new();
+    let mut readings = Readings::none(alloc);
+    tape.take_all(edges, &mut readings)?;
+    let end = tape.finish(own, &mut readings)?;
+    Ok(Ended {
+        readings: readings.all,
+        stop: end.stop,
+    })
 }

@@ -5,7 +5,7 @@ use crate::{
     print1525_explain_reading, print1525_explain_script, print1525_explain_stop,
     print1525_explain_trace, print1525_intervals, print1525_listing, print1525_names,
     print1525_print, print1525_reading_rows, print1525_readings, print1525_reprint,
-    print1525_script_fault, print1525_statement_lines, print1525_stop,
+    print1525_script_fault, print1525_statement_lines,
 };
 use std::alloc::Global;
 
@@ -383,15 +383,58 @@ fn program_over_memory(rt: HostRuntime) {
     assert!(rt; output.starts_with(b"=a.bas\0\0\0"));
 }
 
+/// How the program ends with these words and this script.
+fn run_of(alloc: Global, command: &[u8], script: &[u8]) -> End {
+    let mut output = [7u8; 4096];
+    let mut answer = BEFORE;
+    print1525_answer(
+        alloc,
+        command,
+        0,
+        1,
+        script,
+        &[],
+        &mut output,
+        &mut [],
+        &mut answer,
+    );
+    answer
+}
+
+#[test]
+fn messages_without_room(rt: HostRuntime) {
+    let mut messages = [7u8; 9];
+    let mut answer = BEFORE;
+    print1525_answer(
+        rt.alloc(),
+        b"print1525\0fly",
+        0,
+        3,
+        &[],
+        &[],
+        &mut [],
+        &mut messages,
+        &mut answer,
+    );
+    assert!(rt; answer.status == 2 && answer.messages > 9 && messages == [7; 9]);
+}
+
 #[test]
 fn errors_that_stop_a_run(rt: HostRuntime) {
-    let mut answer = NOTHING;
-    print1525_stop(rt.alloc(), b"OPEN 4,4\nPRINT#5", 1, 1, 0, &mut answer);
-    assert!(rt; answer.code == 1 && answer.fault == 103 && answer.place == 2 && answer.length == 0);
-    print1525_stop(rt.alloc(), b"OPEN 4,4", 0, 1, 0, &mut answer);
-    assert!(rt; answer.code == 0 && answer.fault == 0);
-    print1525_stop(rt.alloc(), b"OPEN 4,4\nPRUNT", 1, 1, 0, &mut answer);
-    assert!(rt; answer.code == 2 && answer.fault == 1 && answer.place == 2);
+    for command in [
+        &b"print1525\0pages"[..],
+        &b"print1525\0pages\0--as\0text"[..],
+        &b"print1525\0pages\0--as\0bytes\0--device\x004"[..],
+        &b"print1525\0bus"[..],
+        &b"print1525\0bus\0--as\0vcd"[..],
+    ] {
+        let end = run_of(rt.alloc(), command, b"OPEN 4,4\nPRINT#5");
+        assert!(rt; end.status == 1 && end.fault == 103 && end.place == 2 && end.column == 0);
+        let end = run_of(rt.alloc(), command, b"OPEN 4,4");
+        assert!(rt; end.status == 0 && end.fault == 0 && end.place == 0);
+        let end = run_of(rt.alloc(), command, b"OPEN 4,4\nPRUNT");
+        assert!(rt; end.status == 2 && end.fault == 1 && end.place == 2);
+    }
 }
 
 #[test]

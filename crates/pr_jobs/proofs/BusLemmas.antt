@@ -7,11 +7,14 @@ use Rattle.pr_basic.specs.Grammar.{IsScript}
 use Rattle.pr_system.specs.RunningState.{begun, trace_so_far}
 use Rattle.pr_system.specs.StepByStep.{stepped_through}
 use Rattle.pr_system.specs.Laws.{StepsMakeTheRun, StepsMakeTheTrace}
-use Rattle.pr_jobs.specs.Bus.{AnswersBus, bus_text, trace_in}
-use Rattle.pr_jobs.specs.Pages.{Start, ending_of, script_limit}
+use Rattle.pr_bus.specs.DelaysLeft.{numbers_left}
+use Rattle.pr_jobs.specs.Bus.{AnswersBusAs, bus_text, trace_in}
+use Rattle.pr_jobs.specs.Pages.{script_limit}
+use Rattle.pr_jobs.specs.Runs.{run_end}
 use Rattle.pr_jobs.specs.Traced.{GivesTrace}
 use Rattle.pr_input.specs.PartlyWritten.{AppendsFront}
-use Rattle.pr_jobs.specs.declared.pages.Ending.{Ending}
+use Rattle.pr_jobs.specs.declared.run.RunEnd.{RunEnd}
+use Rattle.pr_jobs.specs.declared.run.Start.{Start}
 use Rattle.pr_jobs.specs.declared.fault.CliFault.{CliFault}
 use Rattle.pr_jobs.specs.declared.fault.CliFault.TheVariants.{Script, Trace, Wave, Capture, Picture, TooLarge, NoMemory, ReadFailed, WriteFailed}
 
@@ -21,20 +24,20 @@ of_known None read P is h = tt
 of_known (Some bytes) read P is h = subst P is h
 
 -- the answer for a script that was read
-pub bus_answered : StepsMakeTheRun → StepsMakeTheTrace → (start : Start) (format : TraceFormat) (script : List ℕ) (statements : List Statement) (old new : Option (List ℕ)) (r : Result Ending CliFault)
-    → length script ≤ script_limit → IsScript script statements → GivesTrace format (stepped_through (begun start.mode start.present start.delays) statements) old new r → AnswersBus start format script old new r
+pub bus_answered : StepsMakeTheRun → StepsMakeTheTrace → (start : Start) (format : TraceFormat) (script : List ℕ) (statements : List Statement) (old new : Option (List ℕ)) (r : Result RunEnd CliFault)
+    → length script ≤ script_limit → IsScript script statements → GivesTrace format (stepped_through (begun start.mode start.present (numbers_left start.delays)) statements) old new r → AnswersBusAs start format script old new r
 bus_answered run trace start format script statements old new r short is gives = by r gives
   where
-    text : trace_in format (trace_so_far (stepped_through (begun start.mode start.present start.delays) statements)) ≡ bus_text start format statements
-    text = ap (trace_in format) (trace start.mode start.present start.delays statements)
+    text : trace_in format (trace_so_far (stepped_through (begun start.mode start.present (numbers_left start.delays)) statements)) ≡ bus_text start format statements
+    text = ap (trace_in format) (trace start.mode start.present (numbers_left start.delays) statements)
 
-    front : AppendsFront old new (trace_in format (trace_so_far (stepped_through (begun start.mode start.present start.delays) statements))) → AppendsFront old new (bus_text start format statements)
+    front : AppendsFront old new (trace_in format (trace_so_far (stepped_through (begun start.mode start.present (numbers_left start.delays)) statements))) → AppendsFront old new (bus_text start format statements)
     front h = let P : List ℕ → Type 0 = λ t. AppendsFront old new t in subst P text h
 
-    by : (r : Result Ending CliFault) → GivesTrace format (stepped_through (begun start.mode start.present start.delays) statements) old new r → AnswersBus start format script old new r
+    by : (r : Result RunEnd CliFault) → GivesTrace format (stepped_through (begun start.mode start.present (numbers_left start.delays)) statements) old new r → AnswersBusAs start format script old new r
     by (Ok ending) g =
         let P : List ℕ → Type 0 = λ t. Appends old new t in
-        (statements, short, is, g.ending ∙ ap ending_of (run start.mode start.present start.delays statements).stop, subst P text g.text)
+        (statements, short, is, g.ending ∙ ap run_end (run start.mode start.present (numbers_left start.delays) statements).stop, subst P text g.text)
     by (Err (Script x)) g = absurd g.text
     by (Err (Trace x)) g = absurd g.text
     by (Err (Wave x)) g = absurd g.text

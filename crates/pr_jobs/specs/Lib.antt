@@ -1,5 +1,6 @@
 pub mod PageText
 pub mod Formats
+pub mod Runs
 pub mod Pages
 pub mod Outcomes
 pub mod Tables

@@ -7,7 +7,7 @@ use Rattle.pr_basic.specs.Grammar.{IsScript}
 use Rattle.pr_basic.specs.Faults.{IsFirstFault}
 use Rattle.pr_system.specs.declared.outcome.Outcome.{Outcome}
 use Rattle.pr_system.specs.Headline.{IsOutcome}
-use Rattle.pr_jobs.specs.Pages.{Start}
+use Rattle.pr_jobs.specs.declared.run.Start.{Start}
 use Rattle.pr_jobs.specs.declared.fault.CliFault.{CliFault}
 use Rattle.pr_jobs.specs.declared.fault.CliFault.TheVariants.{Script, Trace, Wave, Capture, Picture, TooLarge, NoMemory, ReadFailed, WriteFailed}
 

@@ -3,14 +3,9 @@
 use Rattle.std.specs.Prelude.{◌≡◌, ℕ, ◌<◌, ◌≤◌, List, length, Option, Some, None, Result, Ok, Err}
 use Rattle.std.specs.Io.KnownBytes.{Appends, IsAtEnd, Keeps}
 use Rattle.pr_dots.specs.declared.character_sets.Shapes.{Shapes}
-use Rattle.pr_serial.specs.declared.Present.{Present}
-use Rattle.pr_serial.specs.Bus.{DelayNumbers}
-use Rattle.pr_bus.specs.DelaysLeft.{numbers_left}
-use Rattle.pr_bus.specs.declared.wires.Delays.{Delays}
 use Rattle.pr_channels.specs.declared.faults.Stop.{Stop}
 use Rattle.pr_basic.specs.declared.fault.ScriptFault.TheVariants as script
 use Rattle.pr_basic.specs.declared.statement.Statement.{Statement}
-use Rattle.pr_basic.specs.declared.session.StatusMode.{StatusMode}
 use Rattle.pr_basic.specs.Grammar.{IsScript}
 use Rattle.pr_basic.specs.Faults.{IsFirstFault}
 use Rattle.pr_system.specs.declared.outcome.Outcome.{Outcome}
@@ -20,24 +15,16 @@ use Rattle.pr_input.specs.PartlyWritten.{AppendsFront}
 use Rattle.pr_render.specs.declared.format.Format.{Format}
 use Rattle.pr_render.specs.declared.format.Format.TheVariants as format
 use Rattle.pr_jobs.specs.declared.fault.PictureFault.{PictureFault}
-use Rattle.pr_jobs.specs.declared.pages.Ending.{Ending}
-use Rattle.pr_jobs.specs.declared.pages.Ending.TheVariants.{Done, Stopped}
+use Rattle.pr_jobs.specs.declared.run.Ending.{Ending}
+use Rattle.pr_jobs.specs.declared.run.RunEnd.{RunEnd}
+use Rattle.pr_jobs.specs.declared.run.Start.{Start}
+use Rattle.pr_jobs.specs.Runs.{ending_of, run_end}
 use Rattle.pr_jobs.specs.declared.fault.CliFault.{CliFault}
 use Rattle.pr_jobs.specs.declared.fault.CliFault.TheVariants.{Script, Trace, Wave, Capture, Picture, TooLarge, NoMemory, ReadFailed, WriteFailed}
 
 -- the most bytes of a script
 abbrev pub script_limit : ℕ
 script_limit = 16777216
-
--- how a run begins: the printers present, the delay numbers, and whether the status is kept
-pub record Start : Type 0 where
-  pub present : Present
-  pub delays : DelayNumbers
-  pub mode : StatusMode
-
--- a run with the numbers that its delays have left
-abbrev pub start_of : Present → Delays → StatusMode → Start
-start_of present delays mode = record { present = present; delays = numbers_left delays; mode = mode }
 
 -- the text of the pages of a script: the script has these statements, and their run gives this outcome
 pub record IsTextOf (shapes : Shapes) (start : Start) (format : Format) (script : List ℕ) (outcome : Outcome)
@@ -56,31 +43,40 @@ pub record IsUnshown (shapes : Shapes) (start : Start) (format : Format) (script
   pub is_outcome : IsOutcome start.mode start.present statements outcome
   pub is_unshown : text_in shapes format start.present outcome ≡ Err fault
 
--- a run is stopped exactly if there is a stop
-abbrev pub ending_of : Option (ℕ × Stop) → Ending
-ending_of None = Done
-ending_of (Some stop) = Stopped
-
--- the answer, by the script and by what the writer held before and after
-abbrev pub AnswersPages :
-    Shapes → Start → Format → List ℕ → Option (List ℕ) → Option (List ℕ) → Result Ending CliFault → Type 0
-AnswersPages shapes start format script old new (Ok ending) =
-    (outcome : Outcome) × (text : List ℕ)
-    × (length script ≤ script_limit) × IsTextOf shapes start format script outcome text
-    × (ending ≡ ending_of outcome.stop) × Appends old new text
-AnswersPages shapes start format script old new (Err (Script fault)) =
+-- the fault with which a script is refused, and what that leaves in the writer
+abbrev pub RefusesPages : Shapes → Start → Format → List ℕ → Option (List ℕ) → Option (List ℕ) → CliFault → Type 0
+RefusesPages shapes start format script old new (Script fault) =
     (length script ≤ script_limit) × IsFirstFault script fault × Keeps old new
-AnswersPages shapes start format script old new (Err (Trace fault)) = ⊥
-AnswersPages shapes start format script old new (Err (Wave fault)) = ⊥
-AnswersPages shapes start format script old new (Err (Capture fault)) = ⊥
-AnswersPages shapes start format script old new (Err (Picture fault)) =
+RefusesPages shapes start format script old new (Trace fault) = ⊥
+RefusesPages shapes start format script old new (Wave fault) = ⊥
+RefusesPages shapes start format script old new (Capture fault) = ⊥
+RefusesPages shapes start format script old new (Picture fault) =
     (length script ≤ script_limit) × IsUnshown shapes start format script fault × Keeps old new
-AnswersPages shapes start format script old new (Err TooLarge) = (script_limit < length script) × Keeps old new
-AnswersPages shapes start format script old new (Err NoMemory) = Keeps old new
-AnswersPages shapes start format script old new (Err ReadFailed) = Keeps old new
-AnswersPages shapes start format script old new (Err WriteFailed) =
+RefusesPages shapes start format script old new TooLarge = (script_limit < length script) × Keeps old new
+RefusesPages shapes start format script old new NoMemory = Keeps old new
+RefusesPages shapes start format script old new ReadFailed = Keeps old new
+RefusesPages shapes start format script old new WriteFailed =
     (outcome : Outcome) × (text : List ℕ)
     × (length script ≤ script_limit) × IsTextOf shapes start format script outcome text × AppendsFront old new text
+
+-- the answer, by the script and by what the writer held before and after, where the end of a run with this stop is said so
+abbrev pub SaysPages : {E : Type 0} → (said : Option (ℕ × Stop) → E)
+    → Shapes → Start → Format → List ℕ → Option (List ℕ) → Option (List ℕ) → Result E CliFault → Type 0
+SaysPages said shapes start format script old new (Ok end) =
+    (outcome : Outcome) × (text : List ℕ)
+    × (length script ≤ script_limit) × IsTextOf shapes start format script outcome text
+    × (end ≡ said outcome.stop) × Appends old new text
+SaysPages said shapes start format script old new (Err fault) = RefusesPages shapes start format script old new fault
+
+-- that with whether an error stopped the run
+abbrev pub AnswersPages :
+    Shapes → Start → Format → List ℕ → Option (List ℕ) → Option (List ℕ) → Result Ending CliFault → Type 0
+AnswersPages shapes start format script old new result = SaysPages ending_of shapes start format script old new result
+
+-- that with the error, and the statement that it stopped
+abbrev pub AnswersPagesAs :
+    Shapes → Start → Format → List ℕ → Option (List ℕ) → Option (List ℕ) → Result RunEnd CliFault → Type 0
+AnswersPagesAs shapes start format script old new result = SaysPages run_end shapes start format script old new result
 
 -- every refusal but WriteFailed leaves the writer's bytes as they were, whatever the reader gives
 abbrev pub WritesNothing : {Y : Type 0} → Option (List ℕ) → Option (List ℕ) → Result Y CliFault → Type 0

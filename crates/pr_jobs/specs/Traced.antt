@@ -10,9 +10,9 @@ use Rattle.pr_capture.specs.declared.format.TraceFormat.{TraceFormat}
 use Rattle.pr_capture.specs.declared.format.TraceFormat.TheVariants as format
 use Rattle.pr_system.specs.RunningState.{RunningState, trace_so_far}
 use Rattle.pr_jobs.specs.Bus.{trace_in}
-use Rattle.pr_jobs.specs.Pages.{ending_of}
+use Rattle.pr_jobs.specs.Runs.{run_end}
 use Rattle.pr_input.specs.PartlyWritten.{AppendsFront}
-use Rattle.pr_jobs.specs.declared.pages.Ending.{Ending}
+use Rattle.pr_jobs.specs.declared.run.RunEnd.{RunEnd}
 use Rattle.pr_jobs.specs.declared.trace_writer.TraceWriter.{TraceWriter}
 use Rattle.pr_jobs.specs.declared.trace_writer.TraceWriter.TheVariants as writer
 use Rattle.pr_jobs.specs.declared.fault.CliFault.{CliFault}
@@ -91,6 +91,6 @@ WritesOn before after old new =
 
 -- the whole trace of a run, and how it ended
 pub record GivesTrace (format : TraceFormat) (run : RunningState) (old new : Option (List ℕ))
-    (result : Result Ending CliFault) : Type 0 where
+    (result : Result RunEnd CliFault) : Type 0 where
   pub text : GivesText (trace_in format (trace_so_far run)) old new result
-  pub ending : IfOk result (λ ending. ending ≡ ending_of run.stop)
+  pub ending : IfOk result (λ end. end ≡ run_end run.stop)

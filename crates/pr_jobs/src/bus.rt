@@ -6,13 +6,15 @@ ghost use Rattle.pr_basic.specs.Limits.{statement_limit};
 ghost use Rattle.pr_bus.specs.DelaysLeft.{numbers_left};
 ghost use Rattle.pr_system.specs.RunningState.{begun, next_effect, stepped_by, trace_before};
 ghost use Rattle.pr_system.specs.StepByStep.{stepped_through};
-ghost use Rattle.pr_jobs.specs.Bus.{AnswersBus, WritesNoEdge};
-ghost use Rattle.pr_jobs.specs.Pages.{IsRunFault, ReadsToEnd, ending_of, start_of};
+ghost use Rattle.pr_jobs.specs.Bus.{AnswersBus, AnswersBusAs, WritesNoEdge};
+ghost use Rattle.pr_jobs.specs.Pages.{IsRunFault, ReadsToEnd};
+ghost use Rattle.pr_jobs.specs.Runs.{run_end, start_of};
 ghost use Rattle.pr_jobs.specs.Traced.{AddsEdges, GivesText, GivesTrace, WritesOn, edges_in, format_of, last_in, last_of};
 ghost use Rattle.pr_input.specs.Watched.{has_failed, is_flushed, wrapped};
 
 use crate::fault::CliFault;
-use crate::pages::{Ending, SCRIPT_LIMIT};
+use crate::pages::SCRIPT_LIMIT;
+use crate::run::{Ending, RunEnd, Start};
 use crate::trace_writer::{TraceWriter, trace_head};
 use pr_basic::{Statement, StatusMode, read_script};
 use pr_bus::Delays;
@@ -26,14 +28,13 @@ use pr_wire::Edge;
 use std::alloc::Global;
 use std::io::{Read, Write};
 
-/// Reads a script to its end, runs it over wires with these printers present, these delays and the
-/// status going on in this way, and writes the trace of the run in this format: the trace text, or
-/// a Value Change Dump.
+/// Reads a script to its end, runs it over wires from this start and writes the trace of the run in
+/// this format: the trace text, or a Value Change Dump.
 ///
 /// The input is read whole before anything is written. The first edge, `0 111`, is written before
 /// the first statement, the edges of each statement before the next one, and a dump's end after the
-/// last, so no trace is kept. The answer is [`Ending::Stopped`] exactly if a BASIC error stopped the
-/// run.
+/// last, so no trace is kept. The answer says which BASIC error stopped the run, if one did, and at
+/// which statement.
 ///
 /// # Errors
 ///
@@ -49,17 +50,15 @@ pub fn bus_as_over<R: Read, W: Write>(
     alloc: Global,
     input: &mut Watched<R>,
     output: &mut Watched<W>,
-    present: Present,
-    delays: Delays,
-    mode: StatusMode,
+    start: Start,
     format: TraceFormat,
-) -> Result<Ending, CliFault>
+) -> Result<RunEnd, CliFault>
     // the caller's part
     requires input { has_failed input.old ≡ false }
     requires output { has_failed output.old ≡ false }
     // what it gives
     ensures bus { IfSome (R.remaining (wrapped input.old)) (λ script.
-        AnswersBus (start_of present delays mode) format script
+        AnswersBusAs start format script
         (W.contents (wrapped output.old)) (W.contents (wrapped output.new)) result) }
     ensures at_end { ReadsToEnd (R.remaining (wrapped input.new)) result }
     ensures flushed { OnOk result (is_flushed output.new ≡ true) }
@@ -72,13 +71,14 @@ pub fn bus_as_over<R: Read, W: Write>(
     steps_make_the_run();
     let script = read_whole(alloc, input, SCRIPT_LIMIT)?;
     let statements = read_script(alloc, &script)?;
-    write_run(alloc, output, &statements, present, delays, mode, format)
+    write_run(alloc, output, &statements, start, format)
 }
 
 /// Reads a script to its end, runs it over wires with these printers present, these delays and the
 /// status going on in this way, and writes the trace of the run as trace text.
 ///
-/// As [`bus_as_over`] with [`TraceFormat::Text`], with its answers and its errors.
+/// As [`bus_as_over`] with [`TraceFormat::Text`]. The answer is [`Ending::Stopped`] exactly if a BASIC
+/// error stopped the run.
 ///
 /// # Errors
 ///
@@ -107,15 +107,13 @@ pub fn bus_over<R: Read, W: Write>(
     ensures read_failed { IsErrOf result CliFault.ReadFailed ↔ (has_failed input.new ≡ true) }
     ensures write_failed { IsErrOf result CliFault.WriteFailed ↔ (has_failed output.new ≡ true) }
 {
-    bus_as_over(
-        alloc,
-        input,
-        output,
+    let start = Start {
         present,
         delays,
         mode,
-        TraceFormat::Text,
-    )
+    };
+    let end = bus_as_over(alloc, input, output, start, TraceFormat::Text)?;
+    Ok(end.ending())
 }
 
 /// Runs statements from the first one on, and writes the trace. Papers are made too, since
@@ -124,20 +122,18 @@ fn write_run<W: Write>(
     alloc: Global,
     output: &mut Watched<W>,
     statements: &[Statement],
-    present: Present,
-    delays: Delays,
-    mode: StatusMode,
+    start: Start,
     format: TraceFormat,
-) -> Result<Ending, CliFault>
+) -> Result<RunEnd, CliFault>
     requires fresh { has_failed output.old ≡ false }
     requires few { length statements.now ≤ statement_limit }
-    ensures trace { GivesTrace format (stepped_through (begun mode present (numbers_left delays)) statements.now)
+    ensures trace { GivesTrace format (stepped_through (begun start.mode start.present (numbers_left start.delays)) statements.now)
         (W.contents (wrapped output.old)) (W.contents (wrapped output.new)) result }
     ensures failed { IsErrOf result CliFault.WriteFailed ↔ (has_failed output.new ≡ true) }
     ensures flushed { OnOk result (is_flushed output.new ≡ true) }
 {
     steps_make_the_run();
-    let mut running = Running::new(alloc, present, delays, mode)?;
+    let mut running = Running::new(alloc, start.present, start.delays, start.mode)?;
     write_from_start(alloc, output, &mut running, statements, format)
 }
 
@@ -149,7 +145,7 @@ fn write_from_start<W: Write>(
     running: &mut Running,
     statements: &[Statement],
     format: TraceFormat,
-) -> Result<Ending, CliFault>
+) -> Result<RunEnd, CliFault>
     // the caller's part
     requires fresh { has_failed output.old ≡ false }
     requires none { trace_before running.old ≡ [] }
@@ -181,7 +177,7 @@ fn write_steps<W: Write>(
     writer: &mut TraceWriter,
     running: &mut Running,
     statements: &[Statement],
-) -> Result<Ending, CliFault>
+) -> Result<RunEnd, CliFault>
     // the caller's part
     requires fresh { has_failed output.old ≡ false }
     requires works { running.old.failed ≡ false }
@@ -191,7 +187,7 @@ fn write_steps<W: Write>(
     // what it gives
     ensures edges { AddsEdges writer.old running.old (stepped_through running.old statements.now)
         (W.contents (wrapped output.old)) (W.contents (wrapped output.new)) result }
-    ensures ending { IfOk result (λ ending. ending ≡ ending_of (stepped_through running.old statements.now).stop) }
+    ensures ending { IfOk result (λ end. end ≡ run_end (stepped_through running.old statements.now).stop) }
     ensures written { OnOk result (WritesOn running.old (stepped_through running.old statements.now) writer.old writer.new) }
     ensures flushed { OnOk result (is_flushed output.old ≡ true → is_flushed output.new ≡ true) }
     // when it refuses, and what that leaves
@@ -200,11 +196,15 @@ fn write_steps<W: Write>(
     steps_make_the_run();
     vcd_adds_up();
     for statement in statements {
-        if write_step(alloc, output, writer, running, statement)?.is_some() {
-            return Ok(Ending::Stopped);
+        let stop = write_step(alloc, output, writer, running, statement)?;
+        if let Some(stop) = stop {
+            return Ok(RunEnd::Stopped {
+                statement: running.statuses().len(),
+                stop,
+            });
         }
     }
-    Ok(Ending::Done)
+    Ok(RunEnd::Done)
 }
 
 /// Performs a statement and writes its edges.

@@ -8,8 +8,9 @@
 //! bytes that were read, and pr_explain makes the explanation of them. The program itself only passes on
 //! words, files and the standard streams, and turns answers into exit statuses.
 //!
-//! - `fault` has the faults with their texts. `pages` reads a script and runs it; `page_text` and `short_text`
-//!   make the page text, `format` the text of an outcome in each format, `text` a text in blocks.
+//! - `fault` has the faults with their texts, and `run` how a run begins and ends. `pages` reads a script and runs
+//!   it; `page_text` and `short_text` make the page text, `format` the text of an outcome in each format, `text` a
+//!   text in blocks.
 //! - `bus` runs a script step by step, and writes the edges of each step before the next
 //!   (`trace_writer`). It keeps no trace.
 //! - `raw` hands each block that it reads to a printer. The paper is an outcome in which nothing else
@@ -38,6 +39,7 @@ mod pages;
 mod raw;
 mod report;
 mod reporter;
+mod run;
 mod short_text;
 mod source_reader;
 mod text;
@@ -54,12 +56,13 @@ pub use fault::{CliFault, PictureFault, own_fault};
 pub use format::text_in_format;
 pub use input_reader::{InputReader, read_edges_come_first};
 pub use page_text::pages_text;
-pub use pages::{Ending, SCRIPT_LIMIT, pages_as_over, pages_over};
+pub use pages::{SCRIPT_LIMIT, pages_as_over, pages_over};
 pub use pr_input::{
     BLOCK, ReadFault, TeeReader, Watched, WriteFault, read_whole, write_piece, write_whole,
 };
 pub use raw::{RAW_LIMIT, print_input, raw_over};
 pub use report::{check_as_over, report_input};
 pub use reporter::ReportText;
+pub use run::{Ending, RunEnd, Start};
 pub use source_reader::{SourceReader, texts_say_samples};
 pub use text::Text;

@@ -5,11 +5,13 @@ ghost use Rattle.pr_basic.specs.Limits.{statement_limit};
 ghost use Rattle.pr_dots.specs.Shapes.{own_shapes};
 ghost use Rattle.pr_system.specs.StepByStep.{stepped_through};
 ghost use Rattle.pr_jobs.specs.Outcomes.{GivesOutcome};
-ghost use Rattle.pr_jobs.specs.Pages.{AnswersPages, IsPagesFault, IsRunFault, ReadsToEnd, WritesNothing, ending_of, start_of};
+ghost use Rattle.pr_jobs.specs.Pages.{AnswersPages, AnswersPagesAs, IsPagesFault, IsRunFault, ReadsToEnd, WritesNothing};
+ghost use Rattle.pr_jobs.specs.Runs.{start_of};
 ghost use Rattle.pr_input.specs.Watched.{has_failed, is_flushed, wrapped};
 
 use crate::fault::CliFault;
 use crate::format::text_in_format;
+use crate::run::{Ending, RunEnd, Start};
 use pr_basic::{Statement, StatusMode, read_script};
 use pr_bus::Delays;
 use pr_dots::Shapes;
@@ -21,29 +23,8 @@ use pr_system::{NoMemory, Outcome, Running};
 use std::alloc::Global;
 use std::io::{Read, Write};
 
-/// How a run ended.
-#[derive(Clone, Copy, Debug, PartialEq, Eq)]
-pub enum Ending {
-    /// Every statement was performed.
-    Done,
-    /// A BASIC error stopped the run.
-    Stopped,
-}
-
 /// The longest input of a script, in bytes (profile).
 pub const SCRIPT_LIMIT: usize = 16_777_216;
-
-impl Ending {
-    /// How a run with this outcome ended.
-    fn of(outcome: &Outcome) -> Ending
-        ensures { result ≡ ending_of outcome.now.stop }
-    {
-        match outcome.stop {
-            None => Ending::Done,
-            Some(_) => Ending::Stopped,
-        }
-    }
-}
 
 /// Performs statements up to the first that stops.
 fn perform_all(running: &mut Running, statements: &[Statement]) -> Result<(), NoMemory>
@@ -66,29 +47,27 @@ fn perform_all(running: &mut Running, statements: &[Statement]) -> Result<(), No
 
 /// What the run of a script gives, without its trace: that of a script of 16 MB has hundreds of
 /// millions of edges, and pages need none.
-fn outcome_of(
-    alloc: Global,
-    script: Vec<u8>,
-    present: Present,
-    delays: Delays,
-    mode: StatusMode,
-) -> Result<Outcome, CliFault>
-    ensures { GivesOutcome (start_of present delays mode) script.items result }
+fn outcome_of(alloc: Global, script: Vec<u8>, start: Start) -> Result<Outcome, CliFault>
+    ensures { GivesOutcome start script.items result }
 {
     steps_make_the_run();
+    let Start {
+        present,
+        delays,
+        mode,
+    } = start;
     let statements = read_script(alloc, &script)?;
     let mut running = Running::new(alloc, present, delays, mode)?;
     perform_all(&mut running, &statements)?;
     Ok(running.finish())
 }
 
-/// Reads a script to its end, runs it over wires with these printers present, these delays and the
-/// status going on in this way, and writes the pages of the outcome in this format, in pictures with
-/// characters of these shapes. No trace is kept.
+/// Reads a script to its end, runs it over wires from this start and writes the pages of the outcome
+/// in this format, in pictures with characters of these shapes. No trace is kept.
 ///
 /// The input is read whole before anything is written, and the text is made whole before the
-/// first write. The answer is [`Ending::Stopped`] exactly if a BASIC error stopped the run; the
-/// text is written all the same.
+/// first write. The answer says which BASIC error stopped the run, if one did, and at which statement;
+/// the text is written all the same.
 ///
 /// # Errors
 ///
@@ -104,18 +83,16 @@ pub fn pages_as_over<R: Read, W: Write>(
     alloc: Global,
     input: &mut Watched<R>,
     output: &mut Watched<W>,
-    present: Present,
-    delays: Delays,
-    mode: StatusMode,
+    start: Start,
     format: Format,
     shapes: &Shapes,
-) -> Result<Ending, CliFault>
+) -> Result<RunEnd, CliFault>
     // the caller's part
     requires input { has_failed input.old ≡ false }
     requires output { has_failed output.old ≡ false }
     // what it gives
     ensures pages { IfSome (R.remaining (wrapped input.old)) (λ script.
-        AnswersPages shapes.now (start_of present delays mode) format script
+        AnswersPagesAs shapes.now start format script
         (W.contents (wrapped output.old)) (W.contents (wrapped output.new)) result) }
     ensures at_end { ReadsToEnd (R.remaining (wrapped input.new)) result }
     ensures flushed { OnOk result (is_flushed output.new ≡ true) }
@@ -126,11 +103,12 @@ pub fn pages_as_over<R: Read, W: Write>(
     ensures write_failed { IsErrOf result CliFault.WriteFailed ↔ (has_failed output.new ≡ true) }
 {
     let script = read_whole(alloc, input, SCRIPT_LIMIT)?;
-    let outcome = outcome_of(alloc, script, present, delays, mode)?;
-    let ending = Ending::of(&outcome);
+    let present = start.present;
+    let outcome = outcome_of(alloc, script, start)?;
+    let end = RunEnd::of(outcome.stop);
     let text = text_in_format(alloc, shapes, outcome, present, format)?;
     match text.write_to(output) {
-        Ok(()) => Ok(ending),
+        Ok(()) => Ok(end),
         Err(WriteFault) => Err(CliFault::WriteFailed),
     }
 }
@@ -138,7 +116,8 @@ pub fn pages_as_over<R: Read, W: Write>(
 /// Reads a script to its end, runs it over wires with these printers present, these delays and the
 /// status going on in this way, and writes the page text: the pages of the outcome, as a list of marks.
 ///
-/// As [`pages_as_over`] with [`Format::List`], with its answers and its errors.
+/// As [`pages_as_over`] with [`Format::List`]. The answer is [`Ending::Stopped`] exactly if a BASIC
+/// error stopped the run.
 ///
 /// # Errors
 ///
@@ -166,14 +145,11 @@ pub fn pages_over<R: Read, W: Write>(
     ensures read_failed { IsErrOf result CliFault.ReadFailed ↔ (has_failed input.new ≡ true) }
     ensures write_failed { IsErrOf result CliFault.WriteFailed ↔ (has_failed output.new ≡ true) }
 {
-    pages_as_over(
-        alloc,
-        input,
-        output,
+    let start = Start {
         present,
         delays,
         mode,
-        Format::List,
-        &Shapes::own(),
-    )
+    };
+    let end = pages_as_over(alloc, input, output, start, Format::List, &Shapes::own())?;
+    Ok(end.ending())
 }

@@ -8,9 +8,9 @@ use Rattle.pr_capture.specs.declared.format.Source.{Source}
 use Rattle.pr_capture.specs.declared.format.Source.TheVariants.{Csv, Vcd}
 use Rattle.pr_options.specs.CommandLine.{print1525}
 use Rattle.pr_options.specs.Given.{value_in}
-use Rattle.pr_options.specs.OptionNames.{ValueOption}
 use Rattle.pr_options.specs.Values.{option_of}
 use Rattle.pr_options.specs.declared.command_line.JobFault.{JobFault}
+use Rattle.pr_options.specs.declared.options.Opt.{Opt}
 
 -- the first line is the one that sigrok-cli puts in front of a dump and of a table
 abbrev pub has_meta : List ℕ → Bool
@@ -59,9 +59,9 @@ found_source source bytes =
     if begins_as_dump bytes then Vcd else (if begins_as_table bytes then Csv else source)
 
 -- the value that words give an option, by the subcommand that they name
-abbrev pub value_given : List Text → ValueOption → Option Text
-value_given words option =
-    option_map (value_in option) (option_map (λ met. met.1) (subcommand_of print1525 words))
+abbrev pub value_given : List Text → Opt → Option Text
+value_given words o =
+    option_map (value_in o) (option_map (λ met. met.1) (subcommand_of print1525 words))
 
 -- the value that words give the option of which the fault says that it is a bad one
 abbrev pub bad_value : List Text → JobFault → Option Text

@@ -5,7 +5,9 @@ use Rattle.std.specs.Str.{bytes_eq, str_eq_ignore_ascii_case}
 use Rattle.clap.specs.Words.{Row, Text, first_of}
 use Rattle.clap.specs.declared.parser.matches.ValueSource.{ValueSource}
 use Rattle.clap.specs.declared.parser.matches.ValueSource.TheVariants.{CommandLine, DefaultValue}
-use Rattle.pr_options.specs.OptionNames.{ValueOption}
+use Rattle.pr_options.specs.Rows.{OptionRow, row}
+use Rattle.pr_options.specs.declared.options.Opt.{Opt}
+use Rattle.pr_options.specs.declared.options.Opt.TheVariants as opt
 
 -- a value comes from the words, not from a default
 abbrev pub is_of_words : Option ValueSource → Bool
@@ -13,10 +15,14 @@ is_of_words None = false
 is_of_words (Some DefaultValue) = false
 is_of_words (Some CommandLine) = true
 
--- the words have the option or the flag of this name
-abbrev pub is_given : Text → List Row → Bool
-is_given name rows =
+-- the words have an option of this name
+abbrev pub is_named : Text → List Row → Bool
+is_named name rows =
     option_map_or (λ row. is_of_words row.source) (find (λ row. bytes_eq row.id name) rows) false
+
+-- the words have this option or flag
+abbrev pub is_given : Opt → List Row → Bool
+is_given o rows = is_named (row o).name rows
 
 -- a file's name ends so, in capitals or not
 abbrev pub has_ending : Text → Text → Bool
@@ -28,15 +34,14 @@ abbrev pub value_by_ending : List (Text × Text) → Text → Option Text
 value_by_ending endings name = option_map (λ e. e.1) (find (λ e. has_ending name e.0) endings)
 
 -- the value that the ending of a file's name gives, where words do not give the option itself
-abbrev pub ending_value : ValueOption → List Row → Option Text
-ending_value option rows = if is_given option.name rows then None
+abbrev pub ending_value : OptionRow → List Row → Option Text
+ending_value option rows = if is_named option.name rows then None
     else option_and_then (value_by_ending option.endings) (first_of option.file rows)
 
 -- the value of an option: the one that words give; else the one that a file's name gives; else its default, which
 -- serves in a subcommand that does not have the option too
-abbrev pub value_in : ValueOption → List Row → Text
-value_in option rows =
-    unwrap_or (ending_value option rows) (unwrap_or (first_of option.name rows) option.default)
+abbrev pub value_in : Opt → List Row → Text
+value_in o rows = unwrap_or (ending_value (row o) rows) (unwrap_or (first_of (row o).name rows) (row o).default)
 
 -- the name of a file; `-` is none
 abbrev pub named : Text → Option Text
@@ -45,3 +50,7 @@ named name = if bytes_eq name (codes "-") then None else Some name
 -- the file that words give by this argument; without one, standard input or standard output serves
 abbrev pub file_in : Text → List Row → Option Text
 file_in argument rows = option_and_then named (first_of argument rows)
+
+-- the file of characters that words name, whatever its name
+abbrev pub characters_in : List Row → Option Text
+characters_in rows = first_of (row opt.Characters).name rows

@@ -1,7 +1,7 @@
 -- Trusted: the job that a command line asks for, with clap's reading of the words.
 use Rattle.std.specs.Prelude.{◌≡◌, ◌≢◌, ◌||◌, ⊤, ℕ, Bool, true, false, List, Option, Some, None, Result, Ok, Err, [], codes, is_none, is_some, ok_or, option_map, unwrap_or, if◌then◌else◌}
 use Rattle.std.specs.Str.{bytes_eq}
-use Rattle.clap.specs.Words.{IsAmong, Row, Text, fault_of, first_of, kind_of, subcommand_of, takes}
+use Rattle.clap.specs.Words.{IsAmong, Row, Text, fault_of, kind_of, subcommand_of, takes}
 use Rattle.clap.specs.declared.error.kind.ErrorKind.TheVariants.{OutOfMemory}
 use Rattle.pr_serial.specs.declared.Present.{Present}
 use Rattle.pr_serial.specs.Bus.{DelayNumbers}
@@ -21,16 +21,18 @@ use Rattle.pr_capture.specs.declared.format.Source.TheVariants as source
 use Rattle.pr_capture.specs.declared.format.TraceInput.{TraceInput}
 use Rattle.pr_options.specs.declared.outputs.CheckOutput.{CheckOutput}
 use Rattle.pr_report.specs.declared.detail.Detail.{Detail}
-use Rattle.pr_options.specs.OptionNames.{ValueOption}
-use Rattle.pr_options.specs.OptionNames as option
+use Rattle.pr_options.specs.Rows as option
 use Rattle.pr_options.specs.CommandLine.{print1525}
 use Rattle.pr_options.specs.DelayLists.{delays_of}
-use Rattle.pr_options.specs.Given.{file_in, is_given, value_in}
+use Rattle.pr_options.specs.Given.{characters_in, file_in, is_given, value_in}
 use Rattle.pr_options.specs.Options.{before_of, bounds_of, decode_output_of, device_of, form_of, format_of, from_time_of, mode_of, pages_output_of, present_of, rate_of, reading_source_of, report_of, set_of, sheet_of, source_of, trace_format_of}
 use Rattle.pr_options.specs.SignalNames.{Names, names_of, names_of_signals}
+use Rattle.pr_options.specs.Values.{bad}
 use Rattle.pr_options.specs.declared.command_line.Job.{Job}
 use Rattle.pr_options.specs.declared.command_line.Job.TheVariants as job
 use Rattle.pr_options.specs.declared.command_line.JobFault.{JobFault}
+use Rattle.pr_options.specs.declared.options.Opt.{Opt}
+use Rattle.pr_options.specs.declared.options.Opt.TheVariants as opt
 use Rattle.pr_options.specs.declared.outputs.DecodeOutput.{DecodeOutput}
 use Rattle.pr_options.specs.declared.outputs.DecodeOutput.TheVariants as reading
 use Rattle.pr_options.specs.declared.outputs.PagesOutput.{PagesOutput}
@@ -111,32 +113,29 @@ Ok value >>= next = next value
 Err f >>= next = Err f
 
 -- what an option's value means, or the fault of a value without a meaning
-abbrev pub read : {A : Type 0} → ValueOption → (Text → Option A) → JobFault → List Row
-    → Result A JobFault
-read option meaning bad rows = ok_or (meaning (value_in option rows)) bad
+abbrev pub read : {A : Type 0} → Opt → (Text → Option A) → List Row → Result A JobFault
+read o meaning rows = ok_or (meaning (value_in o rows)) (bad o)
 
 -- the same of an option that words may leave out
-abbrev pub read_if_given : {A : Type 0} → ValueOption → (Text → Option A) → JobFault → List Row
-    → Result (Option A) JobFault
-read_if_given option meaning bad rows =
-    if is_given option.name rows then (read option meaning bad rows >>= λ value. Ok (Some value)) else Ok None
+abbrev pub read_if_given : {A : Type 0} → Opt → (Text → Option A) → List Row → Result (Option A) JobFault
+read_if_given o meaning rows =
+    if is_given o rows then (read o meaning rows >>= λ value. Ok (Some value)) else Ok None
 
 -- how to run a script
 abbrev pub wanted_run : List Row → Result RunView JobFault
 wanted_run rows =
-    read option.present present_of fault.BadPresent rows >>= λ present.
-    read option.delays delays_of fault.BadDelays rows >>= λ delays.
-    read option.status mode_of fault.BadStatus rows >>= λ mode.
+    read opt.Present present_of rows >>= λ present.
+    read opt.Delays delays_of rows >>= λ delays.
+    read opt.Status mode_of rows >>= λ mode.
     Ok (record { present = present; delays = delays; mode = mode })
 
 -- an option is given that only a recording can have
 abbrev pub wants_recording : List Row → Bool
-wants_recording rows = is_given option.invert rows
-    || (is_given option.names.name rows || is_given option.from_time.name rows)
+wants_recording rows = is_given opt.Invert rows || (is_given opt.Names rows || is_given opt.FromTime rows)
 
 -- an option is given that only a table can have
 abbrev pub wants_table : List Row → Bool
-wants_table rows = is_given option.rate.name rows
+wants_table rows = is_given opt.Rate rows
 
 -- the options that are given fit the source: with a trace text, none of a recording, and --rate only with a table
 abbrev pub fitting : Source → List Row → Result (Unit {0}) JobFault
@@ -148,14 +147,14 @@ fitting source.Csv rows = Ok tt
 -- how to read a trace or a recording in this format
 abbrev pub wanted_input : Source → List Row → Result InputView JobFault
 wanted_input source rows =
-    read option.names names_of fault.BadNames rows >>= λ names.
-    read option.from_time from_time_of fault.BadStart rows >>= λ start.
-    read option.rate rate_of fault.BadRate rows >>= λ rate.
+    read opt.Names names_of rows >>= λ names.
+    read opt.FromTime from_time_of rows >>= λ start.
+    read opt.Rate rate_of rows >>= λ rate.
     fitting source rows >>= λ fits.
     Ok (record {
       source = source;
       names = names;
-      is_inverted = is_given option.invert rows;
+      is_inverted = is_given opt.Invert rows;
       start = start;
       rate = rate;
     })
@@ -163,8 +162,8 @@ wanted_input source rows =
 -- what of the pages is shown
 abbrev pub wanted_part : List Row → Result Part JobFault
 wanted_part rows =
-    read_if_given option.device device_of fault.BadDevice rows >>= λ device.
-    read_if_given option.sheet sheet_of fault.BadSheet rows >>= λ sheet.
+    read_if_given opt.Device device_of rows >>= λ device.
+    read_if_given opt.Sheet sheet_of rows >>= λ sheet.
     Ok (record { device = device; sheet = sheet })
 
 -- pages in this format are drawn
@@ -178,7 +177,7 @@ is_picture (format.Pdf device) = true
 -- a format, where it draws characters or no file of them is named
 abbrev pub drawn : Format → List Row → Result Format JobFault
 drawn format rows =
-    if is_picture format || is_none (first_of option.characters rows) then Ok format else Err fault.NoPicture
+    if is_picture format || is_none (characters_in rows) then Ok format else Err fault.NoPicture
 
 -- a format that shows that part, with the characters of a file that is named
 abbrev pub shown : Format → List Row → Result Format JobFault
@@ -190,23 +189,23 @@ abbrev pub heard : List Row → Result Device JobFault
 heard rows =
     wanted_part rows >>= λ part.
     if is_some part.sheet then Err fault.NoPart
-    else (if is_some (first_of option.characters rows) then Err fault.NoPicture else Ok (unwrap_or part.device Four))
+    else (if is_some (characters_in rows) then Err fault.NoPicture else Ok (unwrap_or part.device Four))
 
 -- what of the intervals of readings is written: readings are no pictures, so they show no part and draw no characters
 abbrev pub wanted_detail : List Row → Result Detail JobFault
 wanted_detail rows =
     shown format.List rows >>= λ whole.
-    read option.bounds bounds_of fault.BadBounds rows >>= λ bounds.
-    Ok (record { intervals = is_given option.intervals rows; bounds = bounds })
+    read opt.Bounds bounds_of rows >>= λ bounds.
+    Ok (record { intervals = is_given opt.Intervals rows; bounds = bounds })
 
 -- an option is given that only a list of readings can have: JSON has all intervals, and no bounds
 abbrev pub wants_readings : List Row → Bool
-wants_readings rows = is_given option.intervals rows || is_given option.bounds.name rows
+wants_readings rows = is_given opt.Intervals rows || is_given opt.Bounds rows
 
 -- no option of a list of readings is given
 abbrev pub unmeasured : List Row → Result (Unit {0}) JobFault
 unmeasured rows =
-    read option.bounds bounds_of fault.BadBounds rows >>= λ bounds.
+    read opt.Bounds bounds_of rows >>= λ bounds.
     if wants_readings rows then Err fault.NoReadings else Ok tt
 
 -- what is written, as the other options say
@@ -225,9 +224,9 @@ decode_output (reading.Pages format) rows =
 -- the jobs of the subcommands; each has its own values of --as
 abbrev pub wanted_check : List Row → Result JobView JobFault
 wanted_check rows =
-    read option.from source_of fault.BadFrom rows >>= λ source.
+    read opt.From source_of rows >>= λ source.
     wanted_input source rows >>= λ input.
-    read option.report_as report_of fault.BadReportAs rows >>= λ report.
+    read opt.ReportAs report_of rows >>= λ report.
     Ok (Check input report)
 
 -- a recording whose format is not given is a trace text, or a table where something is given that goes with a
@@ -238,28 +237,28 @@ unless_found rows = if wants_recording rows || wants_table rows then source.Csv 
 -- the first part of a job of `decode` says whether the format is to be found in the first bytes, since no option gives it
 abbrev pub wanted_decode : List Row → Result JobView JobFault
 wanted_decode rows =
-    read option.reading_from reading_source_of fault.BadReadingFrom rows >>= λ source.
+    read opt.ReadingFrom reading_source_of rows >>= λ source.
     wanted_input (unwrap_or source (unless_found rows)) rows >>= λ input.
-    read option.reading_as decode_output_of fault.BadReadingAs rows >>= λ plain.
+    read opt.ReadingAs decode_output_of rows >>= λ plain.
     decode_output plain rows >>= λ output.
     Ok (Decode (is_none source) input output)
 
 abbrev pub wanted_bus : RunView → List Row → Result JobView JobFault
 wanted_bus run rows =
-    read option.listing_from form_of fault.BadForm rows >>= λ form.
-    read option.trace_as trace_format_of fault.BadTraceAs rows >>= λ format.
+    read opt.ListingFrom form_of rows >>= λ form.
+    read opt.TraceAs trace_format_of rows >>= λ format.
     Ok (Bus form run format)
 
 abbrev pub wanted_raw : Bool → List Row → Result JobView JobFault
 wanted_raw lower rows =
-    read option.raw_as format_of fault.BadRawAs rows >>= λ format.
+    read opt.RawAs format_of rows >>= λ format.
     shown format rows >>= λ shown.
     Ok (Raw lower shown)
 
 abbrev pub wanted_pages : RunView → List Row → Result JobView JobFault
 wanted_pages run rows =
-    read option.listing_from form_of fault.BadForm rows >>= λ form.
-    read option.page_as pages_output_of fault.BadPageAs rows >>= λ plain.
+    read opt.ListingFrom form_of rows >>= λ form.
+    read opt.PageAs pages_output_of rows >>= λ plain.
     pages_output plain rows >>= λ output.
     Ok (Pages form run output)
 
@@ -268,7 +267,7 @@ wanted_pages run rows =
 abbrev pub wanted : Text → List Row → Result JobView JobFault
 wanted name rows =
     wanted_run rows >>= λ run.
-    read option.set set_of fault.BadSet rows >>= λ lower.
+    read opt.Set set_of rows >>= λ lower.
     if bytes_eq name (codes "check") then wanted_check rows
     else (if bytes_eq name (codes "decode") then wanted_decode rows
     else (if bytes_eq name (codes "bus") then wanted_bus run rows
@@ -281,10 +280,10 @@ wanted_task name rows =
     wanted name rows >>= λ job.
     Ok (record {
       job = job;
-      before = before_of (value_in option.from_time rows);
+      before = before_of (value_in opt.FromTime rows);
       input = file_in option.input rows;
       output = file_in option.output rows;
-      characters = first_of option.characters rows;
+      characters = characters_in rows;
     })
 
 -- the job that words ask for and its files, with the subcommand that they name

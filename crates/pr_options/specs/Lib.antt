@@ -1,6 +1,6 @@
 pub mod DelayLists
 pub mod Options
-pub mod OptionNames
+pub mod Rows
 pub mod SignalNames
 pub mod Given
 pub mod CommandLine

@@ -41,3 +41,8 @@ abbrev pub IsOfClap : Error → JobFault → Type 0
 IsOfClap error (fault.Line e) = (e ≡ error) × (kind_of error ≢ OutOfMemory)
 IsOfClap error fault.NoMemory = ⊤
 IsOfClap error _ = ⊥
+
+-- a fault that is none of clap's
+abbrev pub IsOwn : JobFault → Type 0
+IsOwn (fault.Line e) = ⊥
+IsOwn _ = ⊤

@@ -7,27 +7,23 @@ ghost use Rattle.clap.specs.Words.{fault_of, found_of, rows_of, subcommand_rows_
 ghost use Rattle.pr_options.specs.CommandLine.{print1525};
 ghost use Rattle.pr_options.specs.CommandLaws.{NamesOurs};
 ghost use Rattle.pr_options.specs.Jobs.{IsRefused, asked, input_view, job_view, task_view, wanted, wanted_bus, wanted_check, wanted_decode, wanted_input, wanted_pages, wanted_raw, wanted_run};
-ghost use Rattle.pr_options.specs.Steps.{IsFaultIn, IsOfClap, job_result, run_view, wanted_of};
+ghost use Rattle.pr_options.specs.Steps.{IsFaultIn, IsOfClap, IsOwn, job_result, run_view, wanted_of};
 ghost use Rattle.pr_options.specs.Found.{bad_value, begins_as_dump, begins_as_table, behind_meta, found_source, front, has_meta, has_separator, is_inner, is_no_text, is_separator, value_given};
 ghost use Rattle.pr_options.specs.Given.{value_in};
-ghost use Rattle.pr_options.specs.Subcommands.{option_view};
 ghost use Rattle.pr_options.specs.Values.{good_values_of, option_of, values_of};
 
 use crate::clap_command::make_command;
-use crate::delays::DelayFault;
-use crate::options::{
-    BOUNDS, BOUNDS_VALUES, DELAYS, DEVICE, DEVICE_VALUES, FROM, FROM_TIME, FROM_TIME_VALUES,
-    FROM_VALUES, INPUT, LISTING_FROM, LISTING_FROM_VALUES, NAMES, NAMES_VALUES, OUTPUT, PAGE_AS,
-    PAGE_AS_VALUES, PRESENT, RATE, RATE_VALUES, RAW_AS, RAW_AS_VALUES, READING_AS,
-    READING_AS_VALUES, READING_FROM, READING_FROM_VALUES, REPORT_AS, REPORT_AS_VALUES, SET,
-    SET_VALUES, SHEET, SHEET_VALUES, STATUS, TRACE_AS, TRACE_AS_VALUES, ValueOption,
+use crate::delays::{DelayFault, read_delays};
+use crate::option_values::{
+    read_before, read_decode_output, read_form, read_format, read_from_time, read_given_rate,
+    read_pages_output, read_present, read_reading_source, read_report, read_set, read_source,
+    read_status, read_trace_format,
 };
+use crate::options::{INPUT, OUTPUT, Opt};
 use crate::outputs::{CheckOutput, DecodeOutput, PagesOutput};
 use crate::values_given::{
-    before_in, characters_in, decode_output_in, delays_in, file_in, fitting, form_in, page_as_in,
-    pages_output_in, present_in, rate_in, raw_as_in, reading_as_in, reading_source_in, report_in,
-    set_in, shown_in, signals_in, source_in, start_in, status_in, trace_format_in, unless_found,
-    value_in,
+    characters_in, decode_output_in, file_in, fitting, pages_output_in, shown_in, signals_in,
+    unless_found, value_in,
 };
 use clap::ArgMatches;
 use clap::error::ErrorKind;
@@ -101,63 +97,21 @@ pub enum JobFault {
     /// The value of `--status` is not `each` or `kept`.
     #[error("bad --status")]
     BadStatus,
-    /// The value of `--set` is not `upper` or `lower`.
-    #[error("bad --set")]
-    BadSet,
-    /// The value of `--from` of `check` is not `text`, `vcd` or `csv`.
-    #[error("bad --from")]
-    BadFrom,
-    /// The value of `--from` of `decode` is not `auto`, `text`, `vcd` or `csv`.
-    #[error("bad --from")]
-    BadReadingFrom,
-    /// The value of `--from` of `pages` or `bus` is not `text`, `prg` or `petcat`.
-    #[error("bad --from")]
-    BadForm,
-    /// The value of `--names` is not three names, as [`read_signals`] reads them.
-    #[error("bad --names")]
-    BadNames,
-    /// The value of `--from-time` is no number of microseconds, as [`read_from_time`] reads it.
-    #[error("bad --from-time")]
-    BadStart,
-    /// The value of `--rate` is no number of samples in a second, as [`pr_capture::read_rate`] reads it.
-    #[error("bad --rate")]
-    BadRate,
+    /// The value of any other option is none of its values, which [`JobFault::good_values`] has.
+    #[error("bad --{0}")]
+    Bad(Opt),
     /// `--names`, `--invert` or `--from-time` is given where the trace is a text.
     #[error("--names, --invert and --from-time go with --from vcd or csv")]
     NoRecording,
     /// `--rate` is given where the trace is a text or a dump.
     #[error("--rate goes with --from csv")]
     NoTable,
-    /// The value of `--as` of `pages` is not `list`, `text`, `svg`, `png`, `pdf` or `bytes`.
-    #[error("bad --as")]
-    BadPageAs,
-    /// The value of `--as` of `raw` is not `list`, `text`, `svg`, `png` or `pdf`.
-    #[error("bad --as")]
-    BadRawAs,
-    /// The value of `--as` of `bus` is not `text` or `vcd`.
-    #[error("bad --as")]
-    BadTraceAs,
-    /// The value of `--as` of `check` is not `frames`, `story` or `json`.
-    #[error("bad --as")]
-    BadReportAs,
-    /// The value of `--as` of `decode` is not `list`, `text`, `svg`, `png`, `pdf`, `json` or `bytes`.
-    #[error("bad --as")]
-    BadReadingAs,
-    /// The value of `--device` is not `4` or `5`.
-    #[error("bad --device")]
-    BadDevice,
-    /// The value of `--sheet` is no number from 1.
-    #[error("bad --sheet")]
-    BadSheet,
     /// `--device` is given where no picture and no bytes are written, or `--sheet` where no picture of a sheet is.
     #[error("--device goes with --as svg, png, pdf or bytes, --sheet with svg or png")]
     NoPart,
     /// `--characters` is given where no picture is written.
     #[error("--characters goes with --as svg, png or pdf")]
     NoPicture,
-    /// The value of `--bounds` is not `profile` or `guide`.
-    #[error("bad --bounds")]
-    BadBounds,
     /// `--intervals` or `--bounds` is given where no list of readings is written.
     #[error("--intervals and --bounds go with --as list")]
     NoReadings,
@@ -174,7 +128,7 @@ impl JobFault {
         ensures { option_map (λ text. text.now) result ≡ values_of self.now }
     {
         match self.option() {
-            Some(option) => Some(option.help),
+            Some(opt) => Some(opt.row().help),
             None => None,
         }
     }
@@ -186,55 +140,36 @@ impl JobFault {
         ensures { option_map (λ text. text.now) result ≡ good_values_of self.now }
     {
         match self {
-            JobFault::BadSet => Some(SET_VALUES),
-            JobFault::BadFrom => Some(FROM_VALUES),
-            JobFault::BadReadingFrom => Some(READING_FROM_VALUES),
-            JobFault::BadForm => Some(LISTING_FROM_VALUES),
-            JobFault::BadNames => Some(NAMES_VALUES),
-            JobFault::BadStart => Some(FROM_TIME_VALUES),
-            JobFault::BadRate => Some(RATE_VALUES),
-            JobFault::BadPageAs => Some(PAGE_AS_VALUES),
-            JobFault::BadRawAs => Some(RAW_AS_VALUES),
-            JobFault::BadTraceAs => Some(TRACE_AS_VALUES),
-            JobFault::BadReportAs => Some(REPORT_AS_VALUES),
-            JobFault::BadReadingAs => Some(READING_AS_VALUES),
-            JobFault::BadDevice => Some(DEVICE_VALUES),
-            JobFault::BadSheet => Some(SHEET_VALUES),
-            JobFault::BadBounds => Some(BOUNDS_VALUES),
-            JobFault::BadPresent | JobFault::BadDelays | JobFault::BadStatus => None,
-            JobFault::NoRecording | JobFault::NoTable | JobFault::NoPart => None,
-            JobFault::NoPicture | JobFault::NoReadings => None,
-            JobFault::Line(_) | JobFault::NoMemory => None,
+            JobFault::Bad(opt) => Some(opt.row().values),
+            _ => None,
         }
     }
 
     /// Returns the option of which this is a bad value.
-    fn option(&self) -> Option<ValueOption>
-        ensures option { option_map option_view result ≡ option_of self.now }
-        ensures help { option_map (λ o. o.help.now) result ≡ values_of self.now }
+    fn option(&self) -> Option<Opt>
+        ensures { result ≡ option_of self.now }
     {
         match self {
-            JobFault::BadPresent => Some(PRESENT),
-            JobFault::BadDelays => Some(DELAYS),
-            JobFault::BadStatus => Some(STATUS),
-            JobFault::BadSet => Some(SET),
-            JobFault::BadFrom => Some(FROM),
-            JobFault::BadReadingFrom => Some(READING_FROM),
-            JobFault::BadForm => Some(LISTING_FROM),
-            JobFault::BadNames => Some(NAMES),
-            JobFault::BadStart => Some(FROM_TIME),
-            JobFault::BadRate => Some(RATE),
-            JobFault::BadPageAs => Some(PAGE_AS),
-            JobFault::BadRawAs => Some(RAW_AS),
-            JobFault::BadTraceAs => Some(TRACE_AS),
-            JobFault::BadReportAs => Some(REPORT_AS),
-            JobFault::BadReadingAs => Some(READING_AS),
-            JobFault::BadDevice => Some(DEVICE),
-            JobFault::BadSheet => Some(SHEET),
-            JobFault::BadBounds => Some(BOUNDS),
-            JobFault::NoRecording | JobFault::NoTable | JobFault::NoPart => None,
-            JobFault::NoPicture | JobFault::NoReadings => None,
-            JobFault::Line(_) | JobFault::NoMemory => None,
+            JobFault::BadPresent => Some(Opt::Present),
+            JobFault::BadDelays => Some(Opt::Delays),
+            JobFault::BadStatus => Some(Opt::Status),
+            JobFault::Bad(opt) => Some(*opt),
+            _ => None,
+        }
+    }
+}
+
+impl From<Opt> for JobFault {
+    ghost use Rattle.pr_options.specs.Values.{bad};
+
+    ghost from_gives = { λ o f. f ≡ bad o };
+
+    fn from(opt: Opt) -> JobFault {
+        match opt {
+            Opt::Present => JobFault::BadPresent,
+            Opt::Delays => JobFault::BadDelays,
+            Opt::Status => JobFault::BadStatus,
+            _ => JobFault::Bad(opt),
         }
     }
 }
@@ -261,15 +196,11 @@ impl From<DelayFault> for JobFault {
 /// [`JobFault::Line`] only for words that clap's meaning of the command does not take, with one of
 /// its reasons against them (a request for help or the version is such a refusal), and
 /// [`JobFault::NoMemory`] where memory was refused, by clap too. The other faults come
-/// only for words that clap takes, and report the first bad value in this order:
-/// [`JobFault::BadPresent`], [`JobFault::BadDelays`], [`JobFault::BadStatus`], [`JobFault::BadSet`];
-/// of `pages` and `bus` [`JobFault::BadForm`]; of `check` [`JobFault::BadFrom`], of `decode`
-/// [`JobFault::BadReadingFrom`], and of both [`JobFault::BadNames`], [`JobFault::BadStart`], [`JobFault::BadRate`],
-/// then [`JobFault::NoRecording`] and [`JobFault::NoTable`], where these are good; and at last a bad `--as`:
-/// [`JobFault::BadPageAs`] of `pages`, [`JobFault::BadRawAs`] of `raw`, [`JobFault::BadTraceAs`] of `bus`,
-/// [`JobFault::BadReportAs`] of `check`, [`JobFault::BadReadingAs`] of `decode`. A good one of `pages`, `raw` and
-/// `decode` is followed by [`JobFault::BadDevice`], [`JobFault::BadSheet`], [`JobFault::NoPart`] and
-/// [`JobFault::NoPicture`], and of `decode` by [`JobFault::BadBounds`] and [`JobFault::NoReadings`].
+/// only for words that clap takes, and report the first bad value: of [`JobFault::BadPresent`],
+/// [`JobFault::BadDelays`], [`JobFault::BadStatus`] and then of [`JobFault::Bad`], in the order of [`Opt`]. What does
+/// not go together comes after the values that it is judged by: [`JobFault::NoRecording`] and [`JobFault::NoTable`]
+/// after [`Opt::Rate`], [`JobFault::NoPart`] and [`JobFault::NoPicture`] after [`Opt::Sheet`], and
+/// [`JobFault::NoReadings`] at last.
 pub fn read_task<'a>(alloc: Global, words: &'a [&'a str]) -> Result<Task<'a>, JobFault>
     ensures ok { IfOk result (λ task. asked (map (λ s. s.now) words.entry.now) ≡ Some (Ok (task_view task))) }
     ensures taken { OnOk result (fault_of print1525 (map (λ s. s.now) words.entry.now) ≡ []) }
@@ -290,30 +221,30 @@ pub fn bad_value<'a>(alloc: Global, words: &'a [&'a str], fault: &JobFault) -> O
     ensures { IfSome result (λ value. bad_value (map (λ s. s.now) words.entry.now) fault.now ≡ Some value.now) }
 {
     match fault.option() {
-        Some(option) => given_to(alloc, words, option),
+        Some(opt) => given_to(alloc, words, opt),
         None => None,
     }
 }
 
 /// The value that words give an option. None where clap refuses them, and where memory was refused.
-fn given_to<'a>(alloc: Global, words: &'a [&'a str], option: ValueOption) -> Option<&'a str>
-    ensures { IfSome result (λ value. value_given (map (λ s. s.now) words.entry.now) (option_view option) ≡ Some value.now) }
+fn given_to<'a>(alloc: Global, words: &'a [&'a str], opt: Opt) -> Option<&'a str>
+    ensures { IfSome result (λ value. value_given (map (λ s. s.now) words.entry.now) opt ≡ Some value.now) }
 {
     let Ok(command) = make_command(alloc) else {
         return None;
     };
     match command.try_get_matches_from(words) {
-        Ok(matches) => value_of(&matches, option),
+        Ok(matches) => value_of(&matches, opt),
         Err(_error) => None,
     }
 }
 
 /// The value of an option of the subcommand that was met.
-fn value_of<'a>(matches: &ArgMatches<'a>, option: ValueOption) -> Option<&'a str>
-    ensures { option_map (λ value. value.now) result ≡ option_map (value_in (option_view option)) (option_map (λ met. met.1) (subcommand_rows_of matches.now)) }
+fn value_of<'a>(matches: &ArgMatches<'a>, opt: Opt) -> Option<&'a str>
+    ensures { option_map (λ value. value.now) result ≡ option_map (value_in opt) (option_map (λ met. met.1) (subcommand_rows_of matches.now)) }
 {
     match matches.subcommand() {
-        Some((_name, options)) => Some(value_in(options, option)),
+        Some((_name, options)) => Some(value_in(options, opt)),
         None => None,
     }
 }
@@ -454,6 +385,7 @@ fn task_of<'a>(alloc: Global, matches: &ArgMatches<'a>) -> Result<Task<'a>, JobF
     requires { IsSome (subcommand_rows_of matches.now) }
     ensures ok { IfOk result (λ task. wanted_of (subcommand_rows_of matches.now) ≡ Some (Ok (task_view task))) }
     ensures bad { IfErr result (λ f. (f ≡ JobFault.NoMemory) ⊎ (wanted_of (subcommand_rows_of matches.now) ≡ Some (Err f))) }
+    ensures own { IfErr result IsOwn }
 {
     let Some((name, options)) = matches.subcommand() else {
         unreachable!()
@@ -461,7 +393,7 @@ fn task_of<'a>(alloc: Global, matches: &ArgMatches<'a>) -> Result<Task<'a>, JobF
     let job = job_of(alloc, name, options)?;
     Ok(Task {
         job,
-        before: before_in(options),
+        before: read_before(value_in(options, Opt::FromTime)),
         input: file_in(options, INPUT),
         output: file_in(options, OUTPUT),
         characters: characters_in(options),
@@ -473,9 +405,10 @@ fn task_of<'a>(alloc: Global, matches: &ArgMatches<'a>) -> Result<Task<'a>, JobF
 fn job_of<'a>(alloc: Global, name: &str, options: &ArgMatches<'a>) -> Result<Job<'a>, JobFault>
     ensures ok { IfOk result (λ job. wanted name.now (rows_of (found_of options.now)) ≡ Ok (job_view job)) }
     ensures bad { IfErr result (IsFaultIn (wanted name.now (rows_of (found_of options.now)))) }
+    ensures own { IfErr result IsOwn }
 {
     let run = run_of(alloc, options)?;
-    let lower = set_in(options)?;
+    let lower = read_set(value_in(options, Opt::Set)).ok_or(Opt::Set)?;
     match name {
         "check" => check_job(options),
         "decode" => decode_job(options),
@@ -489,10 +422,11 @@ fn job_of<'a>(alloc: Global, name: &str, options: &ArgMatches<'a>) -> Result<Job
 fn run_of(alloc: Global, options: &ArgMatches<'_>) -> Result<Run, JobFault>
     ensures ok { IfOk result (λ run. wanted_run (rows_of (found_of options.now)) ≡ Ok (run_view run)) }
     ensures bad { IfErr result (IsFaultIn (wanted_run (rows_of (found_of options.now)))) }
+    ensures own { IfErr result IsOwn }
 {
-    let present = present_in(options)?;
-    let delays = delays_in(alloc, options)?;
-    let mode = status_in(options)?;
+    let present = read_present(value_in(options, Opt::Present)).ok_or(Opt::Present)?;
+    let delays = read_delays(alloc, value_in(options, Opt::Delays))?;
+    let mode = read_status(value_in(options, Opt::Status)).ok_or(Opt::Status)?;
     Ok(Run {
         present,
         delays,
@@ -505,10 +439,11 @@ fn run_of(alloc: Global, options: &ArgMatches<'_>) -> Result<Run, JobFault>
 fn input_of<'a>(source: Source, options: &ArgMatches<'a>) -> Result<TraceInput<'a>, JobFault>
     ensures ok { IfOk result (λ input. wanted_input source (rows_of (found_of options.now)) ≡ Ok (input_view input)) }
     ensures bad { IfErr result (λ f. wanted_input source (rows_of (found_of options.now)) ≡ Err f) }
+    ensures own { IfErr result IsOwn }
 {
     let signals = signals_in(options)?;
-    let start = start_in(options)?;
-    let rate = rate_in(options)?;
+    let start = read_from_time(value_in(options, Opt::FromTime)).ok_or(Opt::FromTime)?;
+    let rate = read_given_rate(value_in(options, Opt::Rate)).ok_or(Opt::Rate)?;
     fitting(source, options)?;
     Ok(TraceInput {
         source,
@@ -520,21 +455,23 @@ fn input_of<'a>(source: Source, options: &ArgMatches<'a>) -> Result<TraceInput<'
 
 /// The job of `check`.
 fn check_job<'a>(options: &ArgMatches<'a>) -> Result<Job<'a>, JobFault>
-    ensures { job_result result ≡ wanted_check (rows_of (found_of options.now)) }
+    ensures value { job_result result ≡ wanted_check (rows_of (found_of options.now)) }
+    ensures own { IfErr result IsOwn }
 {
-    let source = source_in(options)?;
+    let source = read_source(value_in(options, Opt::From)).ok_or(Opt::From)?;
     let input = input_of(source, options)?;
-    let report = report_in(options)?;
+    let report = read_report(value_in(options, Opt::ReportAs)).ok_or(Opt::ReportAs)?;
     Ok(Job::Check(input, report))
 }
 
 /// The job of `decode`.
 fn decode_job<'a>(options: &ArgMatches<'a>) -> Result<Job<'a>, JobFault>
-    ensures { job_result result ≡ wanted_decode (rows_of (found_of options.now)) }
+    ensures value { job_result result ≡ wanted_decode (rows_of (found_of options.now)) }
+    ensures own { IfErr result IsOwn }
 {
-    let source = reading_source_in(options)?;
+    let source = read_reading_source(value_in(options, Opt::ReadingFrom)).ok_or(Opt::ReadingFrom)?;
     let input = input_of(source.unwrap_or(unless_found(options)), options)?;
-    let plain = reading_as_in(options)?;
+    let plain = read_decode_output(value_in(options, Opt::ReadingAs)).ok_or(Opt::ReadingAs)?;
     let output = decode_output_in(plain, options)?;
     Ok(Job::Decode {
         is_found: source.is_none(),
@@ -545,28 +482,31 @@ fn decode_job<'a>(options: &ArgMatches<'a>) -> Result<Job<'a>, JobFault>
 
 /// The job of `bus`.
 fn bus_job<'a>(run: Run, options: &ArgMatches<'_>) -> Result<Job<'a>, JobFault>
-    ensures { job_result result ≡ wanted_bus (run_view run) (rows_of (found_of options.now)) }
+    ensures value { job_result result ≡ wanted_bus (run_view run) (rows_of (found_of options.now)) }
+    ensures own { IfErr result IsOwn }
 {
-    let form = form_in(options)?;
-    let format = trace_format_in(options)?;
+    let form = read_form(value_in(options, Opt::ListingFrom)).ok_or(Opt::ListingFrom)?;
+    let format = read_trace_format(value_in(options, Opt::TraceAs)).ok_or(Opt::TraceAs)?;
     Ok(Job::Bus(form, run.present, run.delays, run.mode, format))
 }
 
 /// The job of `raw`.
 fn raw_job<'a>(lower: bool, options: &ArgMatches<'_>) -> Result<Job<'a>, JobFault>
-    ensures { job_result result ≡ wanted_raw lower (rows_of (found_of options.now)) }
+    ensures value { job_result result ≡ wanted_raw lower (rows_of (found_of options.now)) }
+    ensures own { IfErr result IsOwn }
 {
-    let plain = raw_as_in(options)?;
+    let plain = read_format(value_in(options, Opt::RawAs)).ok_or(Opt::RawAs)?;
     let format = shown_in(plain, options)?;
     Ok(Job::Raw { lower, format })
 }
 
 /// The job of `pages`.
 fn pages_job<'a>(run: Run, options: &ArgMatches<'_>) -> Result<Job<'a>, JobFault>
-    ensures { job_result result ≡ wanted_pages (run_view run) (rows_of (found_of options.now)) }
+    ensures value { job_result result ≡ wanted_pages (run_view run) (rows_of (found_of options.now)) }
+    ensures own { IfErr result IsOwn }
 {
-    let form = form_in(options)?;
-    let plain = page_as_in(options)?;
+    let form = read_form(value_in(options, Opt::ListingFrom)).ok_or(Opt::ListingFrom)?;
+    let plain = read_pages_output(value_in(options, Opt::PageAs)).ok_or(Opt::PageAs)?;
     let output = pages_output_in(plain, options)?;
     Ok(Job::Pages(form, run.present, run.delays, run.mode, output))
 }

@@ -8,17 +8,17 @@
 //!
 //! # Inside
 //!
-//! - `options` has each option's name, default and help; `specs/OptionNames` has the names and
-//!   defaults once more. `help` has the texts of the help.
+//! - `options` has a row for each option, with its name, default, values and help, and the options of each
+//!   subcommand; `specs/Rows` has them once more. `help` has the other texts of the help.
 //! - `clap_command` makes the command of these, as clap takes it (`specs/CommandLine`).
-//! - `outputs` has what `pages` and `decode` write.
+//! - `outputs` has what `pages`, `check` and `decode` write.
 //! - `option_values` and `delays` give the values of options their meaning (`specs/Options`,
 //!   `SignalNames`, `DelayLists`); `parts` cuts their texts.
-//! - `values_given` reads each option of a command line, with the fault of a bad value. Each function
-//!   is one step of `wanted` in `specs/Jobs`.
-//! - `command_line` chains these steps to a job, in the order in which a bad value is reported. A new
-//!   option is a row of `options` and of `OptionNames`, a step in `values_given`, and a line in
-//!   `wanted` and in `run_of`, `input_of` or the subcommand's function.
+//! - `values_given` finds the value that words, a file's name or a default give an option, and judges what
+//!   goes together.
+//! - `command_line` reads the values, in the order in which a bad one is reported, and makes the job of them
+//!   (`wanted` in `specs/Jobs`). A new option is a row of `options` and of `Rows`, its meaning in `option_values`
+//!   and `Options`, and a line where `command_line` and `Jobs` read it.
 #![tactic(auto)]
 
 mod clap_command;
@@ -36,4 +36,5 @@ pub use command_line::{
 };
 pub use delays::{DelayFault, read_delays};
 pub use option_values::{read_present, read_status};
+pub use options::Opt;
 pub use outputs::{CheckOutput, DecodeOutput, PagesOutput};

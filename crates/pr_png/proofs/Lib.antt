@@ -1,5 +1,10 @@
 pub mod Checking
 pub mod OnSheet
 pub mod Packed
-pub mod Streaming
 pub mod Apart
+pub mod Bitwise
+pub mod Matching
+pub mod Rows
+pub mod Symbols
+pub mod Inflating
+pub mod Small

@@ -6,12 +6,15 @@
 //! - `laws` says that the pixels determine the dots.
 #![tactic(auto)]
 
+mod bits;
 mod checksums;
+mod deflating;
 mod file;
 mod laws;
 mod marking;
+mod matches;
 mod packing;
 
 pub use file::png;
-pub use laws::pixels_tell_dots;
+pub use laws::{file_shows_sheet, pixels_tell_dots};
 pub use marking::SHEET_LINES;

@@ -1,7 +1,5 @@
 -- Readings and their text, as more of them come.
-use Rattle.std.proofs.Common.{◌≡◌, ℕ, Bool, true, false, ◌||◌, List, [], ◌∷◌, ◌++◌, refl, ap, sym, subst, ◌∙◌, append-nil, append_assoc, Option}
-use Rattle.std.proofs.lemmas.List.Folds.{list_any-append}
-use Rattle.std.specs.List.{list_any}
+use Rattle.std.proofs.Common.{◌≡◌, ℕ, List, [], ◌∷◌, ◌++◌, refl, ap, sym, ◌∙◌, append-nil, append_assoc, Option}
 use Rattle.pr_wire.specs.declared.Edge.{Edge}
 use Rattle.pr_wire.specs.declared.WaveFault.{WaveFault}
 use Rattle.pr_capture.specs.declared.format.TraceInput.{TraceInput}
@@ -13,7 +11,7 @@ use Rattle.pr_report.specs.Contexts.{after_reading, at_start, behind_all}
 use Rattle.pr_report.specs.declared.oddities.Oddities.{Oddities}
 use Rattle.pr_report.specs.JsonText.{json_line, json_lines, json_verdict}
 use Rattle.pr_report.specs.ReadingText.{all_lines, reading_lines}
-use Rattle.pr_report.specs.Oddities.{is_acknowledged, oddities_of, oddities_text}
+use Rattle.pr_report.specs.Oddities.{oddities_of, oddities_text}
 use Rattle.pr_report.specs.Outside.{conclusion}
 use Rattle.pr_report.specs.Summary.{summary}
 use Rattle.pr_report.specs.Taking as survey
@@ -61,26 +59,17 @@ text_none : (w : Wording) → readings_text w [] ≡ []
 text_none (Lines d) = refl
 text_none Json = refl
 
-pub accounted_none : (w : Wording) (a : ReadingLog) → a.wording ≡ w → survey.HasSurveyed (bounds_in w) [] a.survey → a.context ≡ at_start → a.has_byte ≡ false → a.lines.items ≡ []
+pub accounted_none : (w : Wording) (a : ReadingLog) → a.wording ≡ w → survey.HasSurveyed (bounds_in w) [] a.survey → a.context ≡ at_start → a.lines.items ≡ []
     → HasAccounted w [] [] a
-accounted_none w a is s c y l = record { wording = is; surveyed = s; context = c; byte = y; lines = l ∙ sym (text_none w) }
-
--- an acknowledged byte is among readings with one more, if it was among them or this one is it
-or-false : (b : Bool) → (b || false) ≡ b
-or-false true = refl
-or-false false = refl
-
-byte-more : (rs : List Reading) (r : Reading) → list_any is_acknowledged (rs ++ r ∷ []) ≡ (list_any is_acknowledged rs || is_acknowledged r)
-byte-more rs r = list_any-append is_acknowledged rs (r ∷ []) ∙ ap (λ b. list_any is_acknowledged rs || b) (or-false (is_acknowledged r))
+accounted_none w a is s c l = record { wording = is; surveyed = s; context = c; lines = l ∙ sym (text_none w) }
 
 -- a reading more
 pub accounts_one : (old new : ReadingLog) (r : Reading) → new.wording ≡ old.wording → new.lines.items ≡ old.lines.items ++ reading_text old.wording old.context r
-    → new.context ≡ after_reading old.context r → new.has_byte ≡ (old.has_byte || is_acknowledged r)
+    → new.context ≡ after_reading old.context r
     → ((b : Bounds) (rs : List Reading) → survey.HasSurveyed b rs old.survey → survey.HasSurveyed b (rs ++ r ∷ []) new.survey) → AccountsMore (r ∷ []) old new
-accounts_one old new r same lines context byte taken = λ w given written h. record {
+accounts_one old new r same lines context taken = λ w given written h. record {
   wording = same ∙ h.wording;
   surveyed = taken (bounds_in w) given h.surveyed;
-  byte = byte ∙ (ap (λ b. b || is_acknowledged r) h.byte ∙ sym (byte-more given r));
   context = context ∙ (ap (λ c. after_reading c r) h.context ∙ sym (behind_add at_start given (r ∷ [])));
   lines =
       ap (λ t. written ++ t) (lines ∙ (ap (λ x. old.lines.items ++ reading_text x old.context r) h.wording ∙ ap (λ c. old.lines.items ++ reading_text w c r) h.context))
@@ -88,17 +77,12 @@ accounts_one old new r same lines context byte taken = λ w given written h. rec
       ∙ (ap (λ t. t ++ reading_text w (behind_all at_start given) r) h.lines ∙ sym (text_one w given r)));
 }
 
--- no reading more
-pub accounts_same : (a : ReadingLog) → AccountsMore [] a a
-accounts_same a = λ w given written h. let P : List Reading → Type 0 = λ l. HasAccounted w l written a in subst P (sym (append-nil given)) h
-
 -- lines that are given up
-pub cleared : (old new : ReadingLog) → new.wording ≡ old.wording → new.survey ≡ old.survey → new.context ≡ old.context → new.has_byte ≡ old.has_byte → new.lines.items ≡ []
+pub cleared : (old new : ReadingLog) → new.wording ≡ old.wording → new.survey ≡ old.survey → new.context ≡ old.context → new.lines.items ≡ []
     → (w : Wording) (given : List Reading) (written : List ℕ) → HasAccounted w given written old → HasAccounted w given (written ++ old.lines.items) new
-cleared old new e s b y l = λ w given written h. record {
+cleared old new e s b l = λ w given written h. record {
   wording = e ∙ h.wording;
   surveyed = rw s h.surveyed;
-  byte = y ∙ h.byte;
   context = b ∙ h.context;
   lines = ap (λ t. (written ++ old.lines.items) ++ t) l ∙ (append-nil (written ++ old.lines.items) ∙ h.lines);
 }

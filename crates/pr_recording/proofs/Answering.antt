@@ -37,6 +37,7 @@ use Rattle.pr_recording.specs.Decoded.{AnswersDecode, AnswersDecodeJson, IsDecod
 use Rattle.pr_recording.specs.Narrated.{AnswersTold, EndsEdges, EndsNarrated, GivesUp, HasNarrated, HasReadTo, IsRefusal, IsStop, NarratesMore, Refuses, WritesEnd, lines_in, refused_for}
 use Rattle.pr_recording.proofs.Coming.{Laws, coming}
 use Rattle.pr_recording.proofs.Judging.{no_memory}
+use Rattle.pr_recording.proofs.ReadInto.{is_stop, no_own}
 use Rattle.pr_recording.proofs.Writing.{front_behind, front_none, whole_behind}
 
 -- these edges were reported, and the lines that were given up were written
@@ -158,23 +159,6 @@ pub at_first : EachTextSaysEdges → (w : Wording) (limit : ℕ) (checked : Bool
 at_first some w limit checked a old input (Ok u) e = absurd e
 at_first some w limit checked a old input (Err f) e = rw e (first_refused some w limit checked a old input)
 
--- why an input stops
-pub is_stop : (back : Option ℕ) (own : Option CliFault) → IfSome own IsOwnFault → IfSome (stop_at back own) IsStop
-is_stop (Some n) own h = tt
-is_stop None None h = tt
-is_stop None (Some f) h = own_stop f h
-  where
-    own_stop : (f : CliFault) → IsOwnFault f → IsStop f
-    own_stop (Script x) h = h
-    own_stop (Trace x) h = h
-    own_stop (Wave x) h = absurd h
-    own_stop (Capture x) h = h
-    own_stop (Picture x) h = h
-    own_stop TooLarge h = h
-    own_stop NoMemory h = h
-    own_stop ReadFailed h = h
-    own_stop WriteFailed h = h
-
 -- a stop is a fault of a recording
 pub stop_fault : (f : CliFault) → IsStop f → IsDecodeFault f
 stop_fault (Script x) h = h
@@ -260,11 +244,6 @@ no_picture false x h = h
 known_refusal : (checked : Bool) (v : Option CliFault) (f : CliFault) → v ≡ Some f → IfSome v (Refuses checked) → Refuses checked f
 known_refusal checked None f e h = absurd (cc)
 known_refusal checked (Some g) f e h = let k : g ≡ f = cc in let P : CliFault → Type 0 = λ x. Refuses checked x in subst P k h
-
--- where nothing stops, the input has no fault
-pub no_own : (back : Option ℕ) (own : Option CliFault) → stop_at back own ≡ None → own ≡ None
-no_own None own h = h
-no_own (Some n) own h = absurd (cc)
 
 -- where nothing is refused, the input has no fault
 no_own_fault : (checked : Bool) (s : Source) (edges : List Edge) (own : Option CliFault) → refused_for checked s edges own ≡ None → own ≡ None

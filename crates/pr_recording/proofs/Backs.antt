@@ -7,7 +7,7 @@ use Rattle.std.proofs.lemmas.List.{take-append-le}
 use Rattle.pr_wire.specs.declared.Edge.{Edge}
 use Rattle.pr_decode.specs.Taking.{AreInOrder, StandsBefore, time_behind}
 use Rattle.pr_recording.specs.Decoded.{back_behind, back_in, in_front}
-use Rattle.pr_recording.specs.Narrated.{time_after, time_of}
+use Rattle.pr_recording.specs.Taped.{time_after, time_of}
 
 -- more edges change nothing after the first that goes back
 behind_more : (i last : ℕ) (es more : List Edge) (n : ℕ) → back_behind i last es ≡ Some n → back_behind i last (es ++ more) ≡ Some n
@@ -90,10 +90,6 @@ front_stays es more n h =
 pub front_back : (es : List Edge) (e : Edge) → back_in es ≡ None → StandsBefore e.time (time_of es) → in_front (back_in (es ++ e ∷ [])) (es ++ e ∷ []) ≡ in_front (back_in es) es
 front_back es e h before =
     ap (λ v. in_front v (es ++ e ∷ [])) (goes_back es e h before) ∙ (take-append_seam es (e ∷ []) ∙ sym (ap (λ v. in_front v es) h))
-
-pub front_on : (es : List Edge) (e : Edge) → back_in es ≡ None → (StandsBefore e.time (time_of es) → ⊥)
-    → in_front (back_in (es ++ e ∷ [])) (es ++ e ∷ []) ≡ in_front (back_in es) es ++ e ∷ []
-front_on es e h later = ap (λ v. in_front v (es ++ e ∷ [])) (goes_on es e h later) ∙ sym (ap (λ v. in_front v es ++ e ∷ []) h)
 
 -- with more edges more may be in front
 pub front_more : (es more : List Edge) → (later : List Edge) × (in_front (back_in (es ++ more)) (es ++ more) ≡ in_front (back_in es) es ++ later)

@@ -52,10 +52,9 @@ pub coming : Laws → (input : TraceInput) (w : Wording) (edges later : List Edg
     → (rest : List ℕ) × (told_of w input (stop_at (back_in (edges ++ later)) own) (edges ++ later) ≡ (written ++ lines_in n) ++ rest)
 coming laws input w edges later written n own h =
     let all = edges ++ later in
-    let k = h.told.heeded in
-    let given = given_begins laws edges all k.given later refl (laws.given (in_front (back_in edges) edges) k.given n.decoder k.read) in
+    let given = given_begins laws edges all h.given later refl (laws.given (in_front (back_in edges) edges) h.given n.tape.head.decoder h.taped.played.read) in
     let begins = told_begins input w laws.cut all own in
-    let behind = rest_text w k.given given.0 in
+    let behind = rest_text w h.given given.0 in
     let lines : readings_text w (settled_of (in_front (back_in all) all)) ≡ (written ++ lines_in n) ++ behind =
-    ap (λ rs. readings_text w rs) given.1 ∙ (text_add w k.given given.0 ∙ ap (λ l. l ++ behind) (sym k.accounted.lines)) in
+    ap (λ rs. readings_text w rs) given.1 ∙ (text_add w h.given given.0 ∙ ap (λ l. l ++ behind) (sym h.accounted.lines)) in
     (behind ++ begins.0, begins.1 ∙ (ap (λ l. l ++ begins.0) lines ∙ append_assoc (written ++ lines_in n) behind begins.0))

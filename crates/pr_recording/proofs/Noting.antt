@@ -1,6 +1,5 @@
 -- What follows of what a call gives, and of an input that has ended.
-use Rattle.std.proofs.Common.{◌≡◌, ℕ, ◌+◌, ◌<◌, List, [], ◌∷◌, ◌++◌, append_assoc, ap, get_or, length, subst, sym, take, ◌∙◌, Option, Result, Ok, Err}
-use Rattle.std.proofs.lemmas.List.{take_more}
+use Rattle.std.proofs.Common.{◌≡◌, ℕ, List, ◌++◌, append_assoc, ap, ◌∙◌, Option, Result, Ok, Err}
 use Rattle.std.specs.Prelude.{IfOk, OnOk}
 use Rattle.pr_wire.specs.declared.Edge.{Edge}
 use Rattle.pr_jobs.specs.InputReads.{EndsInputs}
@@ -31,10 +30,6 @@ reading_ends r last taken follows ends after = λ limit start now input given h 
       says = e.says;
       follows = rw (e.follows.0, e.follows.1) (after given t);
     }
-
--- the next of a list's elements
-pub more_at : {X : Type 0} (P : List X → Type 0) (before xs : List X) (i : ℕ) (d : X) → i < length xs → P ((before ++ take i xs) ++ get_or xs i d ∷ []) → P (before ++ take (i + 1) xs)
-more_at P before xs i d within p = subst P (append_assoc before (take i xs) (get_or xs i d ∷ []) ∙ ap (λ l. before ++ l) (sym (take_more xs i d within))) p
 
 -- three parts of a text
 pub three_parts : (t0 t1 t2 t3 a b c : List ℕ) → t1 ≡ t0 ++ a → t2 ≡ t1 ++ b → t3 ≡ t2 ++ c → t3 ≡ t0 ++ (a ++ (b ++ c))

@@ -1,9 +1,9 @@
 -- What a device hears of the edges of a run.
-use Rattle.std.proofs.Common.{◌≡◌, ℕ, ◌+◌, ◌<◌, Bool, true, false, ◌&&◌, List, [], ◌∷◌, ◌++◌, length, take, get_or, refl, ap, sym, subst, ◌∙◌, arith, append_assoc, Option, Some, None, Result, Ok, Err}
+use Rattle.std.proofs.Common.{◌≡◌, ℕ, ◌+◌, ◌<◌, Bool, true, false, ◌&&◌, List, [], ◌∷◌, ◌++◌, length, length-drop, take, drop, refl, ap, sym, subst, ◌∙◌, arith, append-nil, append_assoc, Option, Some, None, Result, Ok, Err}
 use Rattle.std.specs.Prelude.{nat_lt, if◌then◌else◌}
 use Rattle.std.specs.Option.{option_to_list}
 use Rattle.std.proofs.lemmas.Grind.{common_steps}
-use Rattle.std.proofs.lemmas.List.{take_more}
+use Rattle.std.proofs.lemmas.List.{take-append-drop}
 use Rattle.pr_serial.specs.Items.{items_of}
 use Rattle.pr_wire.specs.declared.Edge.{Edge}
 use Rattle.pr_wire.specs.declared.Frame.{Frame}
@@ -18,7 +18,7 @@ use Rattle.pr_wire.specs.Table.{by_row, differ, fault_from, fault_of, fault_or, 
 use Rattle.pr_receiver.specs.Heard.{heard_of}
 use Rattle.pr_decode.specs.declared.reading.Reading.{Reading}
 use Rattle.pr_decode.specs.Readings.{readings_of}
-use Rattle.pr_decode.specs.Taking.{HasReadings, IsBefore, StandsBefore, last_time}
+use Rattle.pr_decode.specs.Taking.{HasReadings, StandsBefore, time_behind}
 use Rattle.pr_basic.specs.declared.statement.Statement.{Statement}
 use Rattle.pr_system.specs.Laws.{StepsAddToTheTrace}
 use Rattle.pr_system.specs.RunningState.{RunningState, stepped_by, trace_before, trace_so_far}
@@ -27,10 +27,10 @@ use Rattle.pr_recording.specs.declared.run_log.RunLog.{RunLog}
 use Rattle.pr_recording.specs.Decoded.{back_behind, back_in}
 use Rattle.pr_recording.specs.Laws.{TracesAreHeardAsSpelled}
 use Rattle.pr_recording.specs.Logged.{AreHeard, HasHeard, HearsMore}
-use Rattle.pr_recording.specs.Narrated.{time_of}
+use Rattle.pr_recording.specs.Taped.{BeginsBack, ReadsMore, time_of}
 use Rattle.pr_recording.specs.PrintedPages.{heard_in}
 use Rattle.pr_recording.specs.RunLogged.{FollowsMore, FollowsRun, HasFollowed}
-use Rattle.pr_recording.proofs.Backs.{back_stays, goes_back, time_of_one}
+use Rattle.pr_recording.proofs.Backs.{back_stays, goes_back, times_many}
 
 -- the times of a lawful trace do not go back
 later_in_time : (i n : ℕ) (last : Edge) (es : List Edge) (p : BusState) → fault_from n last p es ≡ None → back_behind i last.time es ≡ None
@@ -67,35 +67,39 @@ front_in_time edges more h = by (back_in edges) refl
     by None k = k
     by (Some n) k = absurd (let j : back_in (edges ++ more) ≡ Some n = back_stays edges more n k in cc)
 
--- an edge is taken
-pub follows_one : (old new : RunLog) (e : Edge) (r : Option Reading) → ((edges : List Edge) (given : List Reading) → HasReadings edges given old.decoder → HasReadings (edges ++ e ∷ []) (given ++ option_to_list r) new.decoder)
-    → last_time new.decoder ≡ Some e.time → HearsMore (option_to_list r) old.log new.log → FollowsMore (e ∷ []) old new
-follows_one old new e r reads last hears = λ device edges none h. record {
-  given = h.given ++ option_to_list r;
-  read = reads edges h.given h.read;
-  last = last ∙ sym (time_of_one edges e);
-  heard = hears device h.given h.heard;
+-- the edges that were read
+follows_front : (old new : RunLog) (more : List Edge) → ReadsMore HearsMore more old.head new.head old.log new.log → (device : ℕ) (edges : List Edge) → HasFollowed device edges old → HasFollowed device (edges ++ more) new
+follows_front old new more reads device edges h = record {
+  given = h.given ++ reads.later;
+  read = reads.reads edges h.given h.read;
+  last = reads.last ∙ (ap (λ t. time_behind t more) h.last ∙ sym (times_many edges more));
+  heard = reads.taken device h.given h.heard;
 }
 
--- no edge comes before the one taken last
-pub follows_none : (old new : RunLog) (e : Edge) → IsBefore e old.decoder → FollowsMore (e ∷ []) old new
-follows_none old new e before = λ device edges none h.
-    let stands : StandsBefore e.time (time_of edges) = rw (← h.last) before in
-    let back : back_in (edges ++ e ∷ []) ≡ Some (length edges) = goes_back edges e (front_in_time edges (e ∷ []) none) stands in
-    absurd (cc)
-
--- the next of a list's edges
-pub follows_next : (old so_far new : RunLog) (es : List Edge) (i : ℕ) (d : Edge) → i < length es → FollowsMore (take i es) old so_far → FollowsMore (get_or es i d ∷ []) so_far new → FollowsMore (take (i + 1) es) old new
-follows_next old so_far new es i d within first next = λ device edges none h.
-    let one = get_or es i d ∷ [] in
-    let seam : (edges ++ take i es) ++ one ≡ edges ++ take (i + 1) es = append_assoc edges (take i es) one ∙ ap (λ l. edges ++ l) (sym (take_more es i d within)) in
-    let goes : back_in ((edges ++ take i es) ++ one) ≡ None = ap back_in seam ∙ none in
-    let P : List Edge → Type 0 = λ l. HasFollowed device l new in
-    subst P seam (next device (edges ++ take i es) goes (first device edges (front_in_time (edges ++ take i es) one goes) h))
+-- are all edges
+pub follows_all : (old new : RunLog) (n : ℕ) (more : List Edge) → ReadsMore HearsMore (take n more) old.head new.head old.log new.log → (n < length more → BeginsBack (drop n more) new.head) → FollowsMore more old new
+follows_all old new n more reads back = λ device edges none h. by device edges none (drop n more) refl (follows_front old new (take n more) reads device edges h)
+  where
+    by : (device : ℕ) (edges : List Edge) → back_in (edges ++ more) ≡ None → (rest : List Edge) → drop n more ≡ rest → HasFollowed device (edges ++ take n more) new → HasFollowed device (edges ++ more) new
+    by device edges none [] e k =
+        let P : List Edge → Type 0 = λ l. HasFollowed device l new in
+        let whole : take n more ≡ more = sym (append-nil (take n more)) ∙ (ap (λ l. take n more ++ l) (sym e) ∙ take-append-drop n more) in
+        subst P (ap (λ l. edges ++ l) whole) k
+    by device edges none (x ∷ xs) e k =
+        let front = edges ++ take n more in
+        let less : n < length more = omega (arith, length-drop n more, ap length e) in
+        let P : List Edge → Type 0 = λ l. BeginsBack l new.head in
+        let before : BeginsBack (x ∷ xs) new.head = subst P e (back less) in
+        let stands : StandsBefore x.time (time_of front) = rw (← k.last) before in
+        let seam : (front ++ x ∷ []) ++ xs ≡ edges ++ more =
+        append_assoc front (x ∷ []) xs ∙ (append_assoc edges (take n more) (x ∷ xs) ∙ ap (λ l. edges ++ l) (ap (λ l. take n more ++ l) (sym e) ∙ take-append-drop n more)) in
+        let goes : back_in (front ++ x ∷ []) ≡ None = front_in_time (front ++ x ∷ []) xs (ap back_in seam ∙ none) in
+        let turns : back_in (front ++ x ∷ []) ≡ Some (length front) = goes_back front x (front_in_time front (x ∷ []) goes) stands in
+        absurd (cc)
 
 -- the end of the edges
 pub ends_run : (old : RunLog) (cut : Option Reading) (heard : HeardBytes)
-    → ((edges : List Edge) (given : List Reading) → HasReadings edges given old.decoder → readings_of edges ≡ given ++ option_to_list cut)
+    → ((edges : List Edge) (given : List Reading) → HasReadings edges given old.head.decoder → readings_of edges ≡ given ++ option_to_list cut)
     → ((device : ℕ) (given : List Reading) → HasHeard device given old.log → AreHeard (heard_in device (given ++ option_to_list cut)) heard)
     → (device : ℕ) (edges : List Edge) → HasFollowed device edges old → AreHeard (heard_in device (readings_of edges)) heard
 ends_run old cut heard reads are = λ device edges h.

@@ -1,7 +1,6 @@
 -- Linking words, for proofs: which edges were taken, and which lines were made and written of them. No reader needs to believe them.
-use Rattle.std.specs.Prelude.{◌≡◌, ℕ, ◌+◌, Bool, true, false, List, [], ◌∷◌, ◌++◌, length, Option, Some, None, Result, Ok, Err, IfOk}
+use Rattle.std.specs.Prelude.{◌≡◌, ℕ, ◌+◌, Bool, true, false, List, ◌++◌, length, Option, Some, None, Result, Ok, Err, IfOk}
 use Rattle.std.specs.Io.KnownBytes.{Appends}
-use Rattle.std.specs.List.{list_any}
 use Rattle.pr_wire.specs.declared.Edge.{Edge}
 use Rattle.pr_wire.specs.declared.WaveFault.{WaveFault}
 use Rattle.pr_wire.specs.declared.WaveFault.TheVariants as wave
@@ -10,14 +9,13 @@ use Rattle.pr_capture.specs.declared.format.Source.{Source}
 use Rattle.pr_capture.specs.declared.format.TraceInput.{TraceInput}
 use Rattle.pr_decode.specs.declared.reading.Reading.{Reading}
 use Rattle.pr_decode.specs.Readings.{readings_of}
-use Rattle.pr_decode.specs.Taking.{HasReadings, last_time}
 use Rattle.pr_report.specs.declared.detail.Bounds.{Bounds}
 use Rattle.pr_report.specs.declared.detail.Bounds.TheVariants.{Profile}
 use Rattle.pr_report.specs.declared.context.Context.{Context}
 use Rattle.pr_report.specs.Contexts.{at_start, behind_all}
 use Rattle.pr_report.specs.JsonText.{json_line}
 use Rattle.pr_report.specs.ReadingText.{reading_lines}
-use Rattle.pr_report.specs.Oddities.{is_acknowledged, oddities_of}
+use Rattle.pr_report.specs.Oddities.{oddities_of}
 use Rattle.pr_report.specs.declared.oddities.Oddities.{Oddities}
 use Rattle.pr_report.specs.Taking as survey
 use Rattle.pr_report.specs.declared.report.Report.TheVariants.{Story}
@@ -33,20 +31,20 @@ use Rattle.pr_recording.specs.declared.wording.Wording.TheVariants.{Json, Lines}
 use Rattle.pr_recording.specs.declared.reading_log.ReadingLog.{ReadingLog}
 use Rattle.pr_recording.specs.declared.decode_report.Ended.{Ended}
 use Rattle.pr_recording.specs.declared.decode_report.DecodeReport.{DecodeReport}
+use Rattle.pr_recording.specs.Taped.{HasTaped, edges_taped}
 use Rattle.pr_recording.specs.Judged.{HasJudged, edges_judged}
-use Rattle.pr_recording.specs.Decoded.{IsDecodeFault, Leaves, ReadsAll, back_in, in_front, readings_text, stop_at, told_of, without_odd}
+use Rattle.pr_recording.specs.Decoded.{IsDecodeFault, Leaves, ReadsAll, back_in, readings_text, stop_at, told_of, without_odd}
 
 -- Verdicts.
 
--- why a recording is refused that is checked or not, by where time goes back, by a fault of its own, and by the first fault of its
--- edges
-abbrev pub refused_by : (checked : Bool) → (back : Option ℕ) → (own : Option CliFault) → Option WaveFault → Option CliFault
-refused_by true back own fault = refusal own fault
-refused_by false back own fault = stop_at back own
+-- why a recording is refused that is checked or not, by why it stops, by a fault of its own, and by the first fault of its edges
+abbrev pub refused_by : (checked : Bool) → (stop own : Option CliFault) → Option WaveFault → Option CliFault
+refused_by true stop own fault = refusal own fault
+refused_by false stop own fault = stop
 
 -- the same, by its format and its edges
 abbrev pub refused_for : (checked : Bool) → Source → List Edge → (own : Option CliFault) → Option CliFault
-refused_for checked s edges own = refused_by checked (back_in edges) own (fault_of (edges_checked s edges))
+refused_for checked s edges own = refused_by checked (stop_at (back_in edges) own) own (fault_of (edges_checked s edges))
 
 -- Logs of readings.
 
@@ -65,7 +63,6 @@ pub record HasAccounted (w : Wording) (given : List Reading) (written : List ℕ
   pub wording : a.wording ≡ w
   pub surveyed : survey.HasSurveyed (bounds_in w) given a.survey
   pub context : a.context ≡ behind_all at_start given
-  pub byte : a.has_byte ≡ list_any is_acknowledged given
   pub lines : written ++ a.lines.items ≡ readings_text w given
 
 -- how many readings an log has
@@ -79,42 +76,16 @@ AccountsMore more old new = (w : Wording) (given : List Reading) (written : List
 
 -- Reports on edges.
 
--- the moment of the last of edges, if there is one
-abbrev pub time_after : (last : ℕ) → List Edge → ℕ
-time_after last [] = last
-time_after last (e ∷ es) = time_after e.time es
-
-abbrev pub time_of : List Edge → Option ℕ
-time_of [] = None
-time_of (e ∷ es) = Some (time_after e.time es)
-
--- edges in time order were taken, and their lines were made
-pub record HasHeeded (w : Wording) (edges : List Edge) (written : List ℕ) (n : DecodeReport) : Type 0 where
-  pub given : List Reading
-  pub read : HasReadings edges given n.decoder
-  pub last : last_time n.decoder ≡ time_of edges
-  pub seen : survey.HasSeen edges n.seen
-  pub accounted : HasAccounted w given written n.log
-  pub taken : n.taken ≡ length edges
-
--- edges were taken, up to where time goes back
-pub record HasTold (w : Wording) (edges : List Edge) (written : List ℕ) (n : DecodeReport) : Type 0 where
-  pub back : n.back ≡ back_in edges
-  pub heeded : HasHeeded w (in_front (back_in edges) edges) written n
-
--- with more edges
-abbrev pub TellsMore : List Edge → (old new : DecodeReport) → Type 0
-TellsMore more old new =
-    (w : Wording) (edges : List Edge) (written : List ℕ) → HasTold w edges written old → HasTold w (edges ++ more) written new
-
--- edges of an input in this format were taken up to where time goes back, and all were judged
+-- edges of an input in this format were taken up to where time goes back, their lines were made, and all were judged
 pub record HasNarrated (s : Source) (w : Wording) (edges : List Edge) (written : List ℕ) (n : DecodeReport) : Type 0 where
   pub judged : HasJudged s edges n.judge
-  pub told : HasTold w edges written n
+  pub given : List Reading
+  pub taped : HasTaped edges given n.tape
+  pub accounted : HasAccounted w given written n.log
 
 -- how many edges and readings were taken, by all that count them
 abbrev pub load : DecodeReport → ℕ
-load n = n.taken + (edges_judged n.judge + readings_told n.log)
+load n = edges_taped n.tape + (edges_judged n.judge + readings_told n.log)
 
 -- with more edges
 abbrev pub NarratesMore : List Edge → (old new : DecodeReport) → Type 0

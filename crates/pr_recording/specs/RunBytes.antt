@@ -11,8 +11,10 @@ use Rattle.pr_basic.specs.Faults.{IsFirstFault}
 use Rattle.pr_basic.specs.Runs.{run_of, items_sent}
 use Rattle.pr_render.specs.declared.format.Device.{Device}
 use Rattle.pr_input.specs.PartlyWritten.{AppendsFront}
-use Rattle.pr_jobs.specs.Pages.{Start, ending_of, script_limit}
-use Rattle.pr_jobs.specs.declared.pages.Ending.{Ending}
+use Rattle.pr_jobs.specs.Pages.{script_limit}
+use Rattle.pr_jobs.specs.Runs.{run_end}
+use Rattle.pr_jobs.specs.declared.run.RunEnd.{RunEnd}
+use Rattle.pr_jobs.specs.declared.run.Start.{Start}
 use Rattle.pr_jobs.specs.declared.fault.CliFault.{CliFault}
 use Rattle.pr_jobs.specs.declared.fault.CliFault.TheVariants.{Script, Trace, Wave, Capture, Picture, TooLarge, NoMemory, ReadFailed, WriteFailed}
 use Rattle.pr_recording.specs.declared.byte_log.Heard.{Heard}
@@ -28,10 +30,10 @@ heard_in_run start device statements =
 
 -- the answer, by the script and by what the writer held before and after
 abbrev pub AnswersRunBytes :
-    Start → Device → List ℕ → Option (List ℕ) → Option (List ℕ) → Result (Ending × Heard) CliFault → Type 0
+    Start → Device → List ℕ → Option (List ℕ) → Option (List ℕ) → Result (RunEnd × Heard) CliFault → Type 0
 AnswersRunBytes start device script old new (Ok answer) =
     (statements : List Statement) × (length script ≤ script_limit) × IsScript script statements
-    × (answer.0 ≡ ending_of (run_of start.mode start.present statements).stop)
+    × (answer.0 ≡ run_end (run_of start.mode start.present statements).stop)
     × (answer.1 ≡ heard_with (heard_in_run start device statements))
     × Appends old new (bytes_of (heard_in_run start device statements))
 AnswersRunBytes start device script old new (Err (Script fault)) =

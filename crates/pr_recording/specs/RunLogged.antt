@@ -10,21 +10,22 @@ use Rattle.pr_basic.specs.Faults.{IsFirstFault}
 use Rattle.pr_basic.specs.Runs.{run_of}
 use Rattle.pr_system.specs.RunningState.{RunningState, trace_so_far}
 use Rattle.pr_render.specs.declared.format.Device.{Device}
-use Rattle.pr_jobs.specs.Pages.{Start, ending_of}
+use Rattle.pr_jobs.specs.Runs.{run_end}
+use Rattle.pr_jobs.specs.declared.run.Start.{Start}
 use Rattle.pr_jobs.specs.declared.fault.CliFault.{CliFault}
 use Rattle.pr_jobs.specs.declared.fault.CliFault.TheVariants.{Script, NoMemory}
 use Rattle.pr_recording.specs.declared.run_bytes.HeardRun.{HeardRun}
 use Rattle.pr_recording.specs.declared.run_log.RunLog.{RunLog}
 use Rattle.pr_recording.specs.Decoded.{back_in}
 use Rattle.pr_recording.specs.Logged.{AreHeard, HasHeard}
-use Rattle.pr_recording.specs.Narrated.{time_of}
+use Rattle.pr_recording.specs.Taped.{time_of}
 use Rattle.pr_recording.specs.RunBytes.{heard_in_run}
 
 -- these edges were taken
 pub record HasFollowed (device : ℕ) (edges : List Edge) (l : RunLog) : Type 0 where
   pub given : List Reading
-  pub read : HasReadings edges given l.decoder
-  pub last : last_time l.decoder ≡ time_of edges
+  pub read : HasReadings edges given l.head.decoder
+  pub last : last_time l.head.decoder ≡ time_of edges
   pub heard : HasHeard device given l.log
 
 -- with more edges, among which time does not go back
@@ -42,7 +43,7 @@ FollowsRun before after old new =
 abbrev pub GivesRun : Start → Device → List ℕ → Result HeardRun CliFault → Type 0
 GivesRun start device text (Ok run) =
     (statements : List Statement) × IsScript text statements
-    × (run.ending ≡ ending_of (run_of start.mode start.present statements).stop)
+    × (run.end ≡ run_end (run_of start.mode start.present statements).stop)
     × AreHeard (heard_in_run start device statements) run.heard
 GivesRun start device text (Err (Script fault)) = (fault ≢ script.NoMemory) × IsFirstFault text fault
 GivesRun start device text (Err NoMemory) = Unit {0}

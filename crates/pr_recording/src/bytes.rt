@@ -1,25 +1,22 @@
 //! A recording in any format in, the bytes that one printer hears in it out.
 
-ghost use Rattle.std.specs.Prelude.{◌≡◌, ◌+◌, ◌^◌, ◌<◌, ◌≤◌, ◌↔◌, ℕ, length, false, true, IfErr, IfOk, IfSome, IsErrOf, OnOk};
-ghost use Rattle.pr_jobs.specs.Inputs.{edges_read, lines_ahead};
-ghost use Rattle.pr_jobs.specs.Report.{IsNoReading};
+ghost use Rattle.std.specs.Prelude.{◌≡◌, ◌≤◌, ◌↔◌, false, true, IfErr, IfSome, IsErrOf, OnOk};
 ghost use Rattle.pr_input.specs.Watched.{has_failed, is_flushed, wrapped};
 ghost use Rattle.pr_recording.specs.Bytes.{AnswersBytes, HasReadBytes, number_of};
 ghost use Rattle.pr_recording.specs.Decoded.{IsDecodeFault};
-ghost use Rattle.pr_recording.specs.Captured.{EndsOverheard, GivesOverheard, HasReadOverheard, WritesOverheard, edges_captured};
 ghost use Rattle.pr_recording.specs.Narrated.{IsStop};
+ghost use Rattle.pr_recording.specs.Writes.{WritesHeard};
 
-use crate::byte_log::Heard;
-use crate::device_capture::{DeviceCapture, Overheard};
+use crate::blocks::read_into;
+use crate::byte_log::{Heard, HeardBytes};
+use crate::device_log::DeviceLog;
+use crate::tape::TapeEnd;
 use pr_base::{FIRST_PRINTER, SECOND_PRINTER};
 use pr_capture::TraceInput;
-use pr_jobs::{
-    BLOCK, CHECK_LIMIT, CliFault, InputReader, Watched, WriteFault, read_edges_come_first,
-    write_whole,
-};
+use pr_jobs::{CHECK_LIMIT, CliFault, Watched, WriteFault, read_edges_come_first, write_whole};
 use pr_render::Device;
 use pr_report::Oddities;
-use std::alloc::{AllocError, Global};
+use std::alloc::Global;
 use std::io::{Read, Write};
 
 /// Reads any recording of the bus, in any format, and writes the bytes that a printer hears in it, as they are: of
@@ -66,8 +63,9 @@ pub fn bytes_over<R: Read, W: Write>(
     ensures write_failed { IsErrOf result CliFault.WriteFailed ↔ (has_failed output.new ≡ true) }
 {
     read_edges_come_first();
-    let overheard = hear_input(alloc, input, trace, number_of(device))?;
-    write_overheard(output, overheard)
+    let mut log = DeviceLog::new(alloc, number_of(device));
+    let end = read_into(alloc, input, trace, CHECK_LIMIT, &mut log)?;
+    write_heard(output, log.finish(), end)
 }
 
 /// The number of a printer on the bus.
@@ -81,69 +79,28 @@ pub fn number_of(device: Device) -> u8
     }
 }
 
-/// Reads a recording block by block, and gives what the device with this number hears in it up to its end or
-/// its fault.
-fn hear_input<R: Read>(
-    alloc: Global,
-    input: &mut Watched<R>,
-    trace: TraceInput<'_>,
-    device: u8,
-) -> Result<Overheard, CliFault>
-    // the caller's part
-    requires fresh { has_failed input.old ≡ false }
-    requires callable { device ≤ 30 }
-    // what it gives
-    ensures overheard { IfSome (R.remaining (wrapped input.old)) (λ text. GivesOverheard trace.entry device result text) }
-    ensures at_end { HasReadOverheard (R.remaining (wrapped input.new)) result }
-    ensures stop { IfOk result (λ overheard. IfSome overheard.stop IsStop) }
-    // when it refuses, and what that leaves
-    ensures own { IfErr result IsNoReading }
-    ensures failed { IsErrOf result CliFault.ReadFailed ↔ (has_failed input.new ≡ true) }
-{
-    let mut reader = InputReader::new(alloc, trace, CHECK_LIMIT);
-    let mut capture = DeviceCapture::new(alloc, device);
-    let mut block = [0u8; BLOCK];
-    'pieces: loop {
-        if !reader.read_block(input, &mut block)? {
-            return Ok(end_capture(reader, capture)?);
-        }
-        capture.take_all(reader.edges())?;
-    }
-}
-
-/// Ends an input, and gives what was heard in it.
-fn end_capture(reader: InputReader<'_>, mut capture: DeviceCapture) -> Result<Overheard, AllocError>
-    requires lines { lines_ahead reader + 1 < 2 ^ 64 }
-    requires edges { edges_captured capture + length (edges_read reader) + 2 < 2 ^ 64 }
-    ensures { IfOk result (λ overheard. EndsOverheard reader.entry capture overheard) }
-{
-    let last = reader.finish()?;
-    capture.take_all(last.edges.as_slice())?;
-    capture.finish(last.fault)
-}
-
 /// Writes the bytes, and answers why no more were heard, if that has a reason.
-fn write_overheard<W: Write>(
+fn write_heard<W: Write>(
     output: &mut Watched<W>,
-    overheard: Overheard,
+    heard: HeardBytes,
+    end: TapeEnd,
 ) -> Result<(Heard, Oddities), CliFault>
     // the caller's part
     requires fresh { has_failed output.old ≡ false }
-    requires stop { IfSome overheard.stop IsStop }
+    requires stop { IfSome end.stop IsStop }
     // what it gives
-    ensures written { WritesOverheard overheard (W.contents (wrapped output.old)) (W.contents (wrapped output.new)) result }
+    ensures written { WritesHeard heard end (W.contents (wrapped output.old)) (W.contents (wrapped output.new)) result }
     ensures flushed { OnOk result (is_flushed output.new ≡ true) }
     // when it refuses, and what that leaves
     ensures own { IfErr result IsDecodeFault }
     ensures failed { IsErrOf result CliFault.WriteFailed ↔ (has_failed output.new ≡ true) }
 {
-    let Overheard { heard, odd, stop } = overheard;
     match write_whole(output, heard.bytes.as_slice()) {
         Ok(()) => {}
         Err(WriteFault) => return Err(CliFault::WriteFailed),
     }
-    match stop {
-        None => Ok((heard.heard, odd)),
+    match end.stop {
+        None => Ok((heard.heard, end.odd)),
         Some(fault) => Err(fault),
     }
 }

@@ -64,40 +64,7 @@ pub fn decode_over<R: Read, W: Write>(
     ensures read_failed { IsErrOf result CliFault.ReadFailed ↔ (has_failed input.new ≡ true) }
     ensures write_failed { IsErrOf result CliFault.WriteFailed ↔ (has_failed output.new ≡ true) }
 {
-    decode_input(alloc, input, output, trace, wording, CHECK_LIMIT)
-}
-
-/// Reads a recording of at most `limit` bytes and writes what it says, block by block, as
-/// [`decode_over`] does. It is public with the limit as an argument, since no test can try the
-/// program's own limit.
-///
-/// # Errors
-///
-/// Those of [`decode_over`], with `limit` instead of [`CHECK_LIMIT`](pr_jobs::CHECK_LIMIT), and
-/// what they leave is the same.
-pub fn decode_input<R: Read, W: Write>(
-    alloc: Global,
-    input: &mut Watched<R>,
-    output: &mut Watched<W>,
-    trace: TraceInput<'_>,
-    wording: Wording,
-    limit: usize,
-) -> Result<(), CliFault>
-    // the caller's part
-    requires input { has_failed input.old ≡ false }
-    requires output { has_failed output.old ≡ false }
-    requires few { limit ≤ trace_limit }
-    // what it gives
-    ensures decode { IfSome (R.remaining (wrapped input.old)) (λ text.
-        AnswersDecode limit wording trace.entry text (W.contents (wrapped output.old)) (W.contents (wrapped output.new)) result) }
-    ensures at_end { ReadsAll (R.remaining (wrapped input.new)) result }
-    ensures flushed { OnOk result (is_flushed output.new ≡ true) }
-    // when it refuses, and what that leaves
-    ensures own { IfErr result IsDecodeFault }
-    ensures read_failed { IsErrOf result CliFault.ReadFailed ↔ (has_failed input.new ≡ true) }
-    ensures write_failed { IsErrOf result CliFault.WriteFailed ↔ (has_failed output.new ≡ true) }
-{
-    without_odd(tell_input(alloc, input, output, trace, wording, false, limit))
+    without_odd(tell_input(alloc, input, output, trace, wording, false, CHECK_LIMIT))
 }
 
 /// Does what [`decode_over`] does in JSON, and answers what is odd about the recording, which JSON does not say.
@@ -147,7 +114,12 @@ pub(crate) fn without_odd(answer: Result<Oddities, CliFault>) -> Result<(), CliF
 
 /// Reads a recording of at most `limit` bytes and writes what it says, block by block. What is checked is refused
 /// unless it is lawful, anything else only where it cannot be read to its end. Answers what is odd about it.
-pub(crate) fn tell_input<R: Read, W: Write>(
+///
+/// # Errors
+///
+/// Those of [`decode_over`], or of [`crate::check_json_over`] for what is checked, with `limit` instead of
+/// [`CHECK_LIMIT`], and what they leave is the same.
+pub fn tell_input<R: Read, W: Write>(
     alloc: Global,
     input: &mut Watched<R>,
     output: &mut Watched<W>,

@@ -7,6 +7,7 @@ ghost use Rattle.pr_recording.specs.PrintedPages.{heard_in};
 
 use crate::byte_log::{ByteLog, HeardBytes};
 use crate::frame::acknowledged_frame;
+use crate::tape::Takes;
 use pr_decode::Reading;
 use pr_page::NoMemory;
 use pr_receiver::{Listener, frames_are_heard_in_turn};
@@ -74,5 +75,25 @@ impl DeviceLog {
         ensures { (device : ℕ) (readings : List Reading) → HasHeard device readings self → AreHeard (heard_in device readings) result }
     {
         self.ear.log.finish()
+    }
+}
+
+impl Takes for DeviceLog {
+    ghost use Rattle.std.specs.Prelude.{⊤};
+    ghost use Rattle.pr_recording.specs.Adds.{adds_both, adds_none};
+    ghost use Rattle.pr_recording.specs.Logged.{HasHeard, HearsMore};
+
+    ghost takes = { HearsMore };
+
+    ghost may_take = { λ n d. ⊤ };
+
+    ghost takes_none = { λ d device. adds_none (HasHeard device) d };
+
+    ghost takes_both = { λ xs ys a b c h k device. adds_both (HasHeard device) xs ys a b c (h device) (k device) };
+
+    ghost takes_fewer = { λ k n d h. h };
+
+    fn take_reading(&mut self, reading: &Reading) -> Result<(), NoMemory> {
+        self.take(*reading)
     }
 }

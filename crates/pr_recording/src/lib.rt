@@ -6,51 +6,49 @@
 //! it in their place, as `specs/Pages.antt` defines them, and [`bytes_over`] the bytes that one of them hears
 //! (`specs/Bytes.antt`). [`run_bytes_over`] writes those of a script's run (`specs/RunBytes.antt`).
 //!
-//! - `decode` reads block by block, and writes what a block settles before it reads the next.
-//!   `decode_report` takes the edges that pr_jobs's `InputReader` gives, and hands those up to where time goes
-//!   back to a decoder, and all to `judge`, which says whether they are a lawful trace, as `check` counts them;
-//!   `reading_log` has the lines that are not written yet, and a survey of all readings. `checked` does the
-//!   same in JSON, and refuses a trace that is not lawful ([`check_json_over`], `specs/Checked.antt`).
-//! - `pages` has the same loop, with `capture_printer` in the report's place: it prints what the decoder
-//!   gives, and keeps the papers alone.
-//! - `printer_pair` is what printers 4 and 5 print of readings, `bus_printer` one of them: its listening
-//!   part (pr_receiver's `Listener`) and pr_page's `Printer`. `frame` is the frame that a reading says. A
-//!   frame that printer 4 has printed and printer 5 was refused cannot be given to both again, so a
-//!   refusal is for good.
-//! - `bytes` has that loop once more, with `device_capture`. Both take the readings of an `observer`, a decoder that
-//!   also sees what is odd. `device_log` is one printer's listening part with
-//!   a `byte_log`, which keeps the bytes of its inputs and the character sets in which they come.
-//! - `run_bytes` performs a script statement by statement, and hands the edges of each to `run_log`, a decoder
-//!   with a `device_log`.
+//! - `tape` reads the edges of a recording one after the other, up to where time goes back, and hands on the readings
+//!   that they settle to whoever takes them (`Takes`). `blocks` does so with an input in any format, block by block.
+//! - `decode` writes what a block settles before it reads the next. `decode_report` has a tape, whose readings go to
+//!   `reading_log`: the lines that are not written yet, and a survey of all readings. All edges go to `judge` too,
+//!   which says whether they are a lawful trace, as `check` counts them. `checked` does the same in JSON, and refuses
+//!   a trace that is not lawful ([`check_json_over`], `specs/Checked.antt`).
+//! - `pages` has the readings go to a `printer_pair`: what printers 4 and 5 print of readings. `bus_printer` is one of
+//!   them: its listening part (pr_receiver's `Listener`) and pr_page's `Printer`. `frame` is the frame that a reading
+//!   says. A frame that printer 4 has printed and printer 5 was refused cannot be given to both again, so a refusal is
+//!   for good.
+//! - `bytes` has them go to a `device_log`: one printer's listening part with a `byte_log`, which keeps the bytes of
+//!   its inputs and the character sets in which they come.
+//! - `run_bytes` performs a script statement by statement, and hands the edges of each to `run_log`, a tape's
+//!   head with a `device_log`.
 #![tactic(auto)]
 
+mod blocks;
 mod bus_printer;
 mod byte_log;
 mod bytes;
-mod capture_printer;
 mod checked;
 mod decode;
 mod decode_report;
-mod device_capture;
 mod device_log;
 mod frame;
 mod judge;
 mod laws;
-mod observer;
 mod pages;
 mod printer_pair;
 mod reading_log;
 mod run_bytes;
 mod run_log;
+mod tape;
 mod wording;
 
+pub use blocks::read_into;
 pub use byte_log::Heard;
 pub use bytes::bytes_over;
-pub use capture_printer::Printed;
 pub use checked::check_json_over;
-pub use decode::{decode_input, decode_json_over, decode_over};
+pub use decode::{decode_json_over, decode_over, tell_input};
 pub use laws::{readings_are_heard_in_turn, traces_are_heard_as_spelled};
-pub use pages::{PRINT_LIMIT, print_input, reprint_over};
+pub use pages::{PRINT_LIMIT, reprint_over};
 pub use printer_pair::{PrintedPages, PrinterPair};
 pub use run_bytes::run_bytes_over;
+pub use tape::{Takes, Tape, TapeEnd};
 pub use wording::Wording;

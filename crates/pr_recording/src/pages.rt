@@ -1,27 +1,22 @@
 //! A recording in any format in, the pages that printers print of it out.
 
-ghost use Rattle.std.specs.Prelude.{◌≡◌, ◌≢◌, ◌+◌, ◌^◌, ◌<◌, ◌≤◌, ◌↔◌, length, false, true, None, IfErr, IfOk, IfSome, IsErrOf, OnOk};
-ghost use Rattle.std.specs.Io.KnownBytes.{Keeps};
-ghost use Rattle.pr_jobs.specs.Inputs.{edges_read, lines_ahead};
-ghost use Rattle.pr_jobs.specs.Report.{IsNoReading};
+ghost use Rattle.std.specs.Prelude.{◌≡◌, ◌↔◌, false, true, IfErr, IfSome, IsErrOf, OnOk};
 ghost use Rattle.pr_input.specs.Watched.{has_failed, is_flushed, wrapped};
-ghost use Rattle.pr_recording.specs.Copied.{EndsPrinted, edges_copied, inputs_printed};
-ghost use Rattle.pr_recording.specs.Copying.{GivesPrint, HasReadPages, WritesPrint};
 ghost use Rattle.pr_recording.specs.Narrated.{IsStop};
-ghost use Rattle.pr_recording.specs.Pages.{AnswersPages, IsReprintFault, ReadsPages, papers_alone, print_limit};
+ghost use Rattle.pr_recording.specs.Pages.{AnswersPages, IsReprintFault, ReadsPages, papers_alone};
+ghost use Rattle.pr_recording.specs.Writes.{WritesPrint};
 
-use crate::capture_printer::{CapturePrinter, Printed};
-use crate::printer_pair::PrintedPages;
+use crate::blocks::read_into;
+use crate::printer_pair::{PrintedPages, PrinterPair};
+use crate::tape::TapeEnd;
 use pr_capture::TraceInput;
 use pr_dots::Shapes;
-use pr_jobs::{
-    BLOCK, CliFault, InputReader, Watched, WriteFault, read_edges_come_first, text_in_format,
-};
+use pr_jobs::{CliFault, Watched, WriteFault, read_edges_come_first, text_in_format};
 use pr_page::Sequence;
 use pr_render::Format;
 use pr_report::Oddities;
 use pr_system::Outcome;
-use std::alloc::{AllocError, Global};
+use std::alloc::Global;
 use std::io::{Read, Write};
 
 /// The longest recording that is printed, in bytes (profile): a printer takes at most 2^32 inputs, and no
@@ -73,57 +68,9 @@ pub fn reprint_over<R: Read, W: Write>(
     ensures write_failed { IsErrOf result CliFault.WriteFailed ↔ (has_failed output.new ≡ true) }
 {
     read_edges_come_first();
-    let printed = print_input(alloc, input, trace, PRINT_LIMIT)?;
-    write_pages(alloc, output, printed, format, shapes)
-}
-
-/// Prints a recording of at most `limit` bytes, block by block: gives the papers that
-/// [`reprint_over`] writes, and the fault of the recording after which nothing more is printed, if
-/// it has one.
-///
-/// # Errors
-///
-/// Those of [`reprint_over`] but a failed write, with `limit` instead of [`PRINT_LIMIT`]. A fault
-/// of the recording is no error here: the answer has the pages of what is settled before it, and
-/// the fault.
-pub fn print_input<R: Read>(
-    alloc: Global,
-    input: &mut Watched<R>,
-    trace: TraceInput<'_>,
-    limit: usize,
-) -> Result<Printed, CliFault>
-    // the caller's part
-    requires fresh { has_failed input.old ≡ false }
-    requires few { limit ≤ print_limit }
-    // what it gives
-    ensures print { IfSome (R.remaining (wrapped input.old)) (λ text. GivesPrint limit trace.entry result text) }
-    ensures at_end { HasReadPages (R.remaining (wrapped input.new)) result }
-    ensures stop { IfOk result (λ printed. IfSome printed.stop IsStop) }
-    // when it refuses, and what that leaves
-    ensures own { IfErr result IsNoReading }
-    ensures failed { IsErrOf result CliFault.ReadFailed ↔ (has_failed input.new ≡ true) }
-{
-    let mut reader = InputReader::new(alloc, trace, limit);
-    let mut printer = CapturePrinter::new(alloc);
-    let mut block = [0u8; BLOCK];
-    'pieces: loop {
-        if !reader.read_block(input, &mut block)? {
-            return Ok(end_print(reader, printer)?);
-        }
-        printer.take_all(reader.edges())?;
-    }
-}
-
-/// Ends an input, and gives what was printed of it.
-fn end_print(reader: InputReader<'_>, mut printer: CapturePrinter) -> Result<Printed, AllocError>
-    requires lines { lines_ahead reader + 1 < 2 ^ 64 }
-    requires edges { edges_copied printer + length (edges_read reader) + 2 < 2 ^ 64 }
-    requires inputs { inputs_printed printer + length (edges_read reader) + 2 < 2 ^ 32 }
-    ensures { IfOk result (λ printed. EndsPrinted reader.entry printer printed) }
-{
-    let last = reader.finish()?;
-    printer.take_all(last.edges.as_slice())?;
-    printer.finish(last.fault)
+    let mut printers = PrinterPair::new(alloc);
+    let end = read_into(alloc, input, trace, PRINT_LIMIT, &mut printers)?;
+    write_pages(alloc, output, printers.finish(), end, format, shapes)
 }
 
 /// The outcome that is these papers and nothing else.
@@ -144,21 +91,21 @@ fn papers_alone(alloc: Global, pages: PrintedPages) -> Outcome
 fn write_pages<W: Write>(
     alloc: Global,
     output: &mut Watched<W>,
-    printed: Printed,
+    pages: PrintedPages,
+    end: TapeEnd,
     format: Format,
     shapes: &Shapes,
 ) -> Result<Oddities, CliFault>
     // the caller's part
     requires fresh { has_failed output.old ≡ false }
-    requires stop { IfSome printed.stop IsStop }
+    requires stop { IfSome end.stop IsStop }
     // what it gives
-    ensures written { WritesPrint shapes.now format printed (W.contents (wrapped output.old)) (W.contents (wrapped output.new)) result }
+    ensures written { WritesPrint shapes.now format pages end (W.contents (wrapped output.old)) (W.contents (wrapped output.new)) result }
     ensures flushed { OnOk result (is_flushed output.new ≡ true) }
     // when it refuses, and what that leaves
     ensures own { IfErr result IsReprintFault }
     ensures failed { IsErrOf result CliFault.WriteFailed ↔ (has_failed output.new ≡ true) }
 {
-    let Printed { pages, odd, stop } = printed;
     let present = pages.present;
     let outcome = papers_alone(alloc, pages);
     let text = text_in_format(alloc, shapes, outcome, present, format)?;
@@ -166,8 +113,8 @@ fn write_pages<W: Write>(
         Ok(()) => {}
         Err(WriteFault) => return Err(CliFault::WriteFailed),
     }
-    match stop {
-        None => Ok(odd),
+    match end.stop {
+        None => Ok(end.odd),
         Some(fault) => Err(fault),
     }
 }

@@ -8,6 +8,7 @@ ghost use Rattle.pr_recording.specs.Taking.{HasPrinted, HasReprinted, HaveListen
 
 use crate::bus_printer::BusPrinter;
 use crate::frame::acknowledged_frame;
+use crate::tape::Takes;
 use pr_base::{FIRST_PRINTER, SECOND_PRINTER};
 use pr_decode::Reading;
 use pr_page::{NoMemory, Paper};
@@ -148,5 +149,24 @@ impl PrinterPair {
             paper5: self.printers.five.printer.into_paper(),
             present,
         }
+    }
+}
+
+impl Takes for PrinterPair {
+    ghost use Rattle.pr_recording.specs.Adds.{Adds, adds_both, adds_none, fewer_fit};
+    ghost use Rattle.pr_recording.specs.Taking.{HasReprinted, number_taken};
+
+    ghost takes = { Adds HasReprinted };
+
+    ghost may_take = { λ n p. number_taken p + n ≤ 2 ^ 32 };
+
+    ghost takes_none = { adds_none HasReprinted };
+
+    ghost takes_both = { adds_both HasReprinted };
+
+    ghost takes_fewer = { λ k n p. fewer_fit k n (number_taken p) (2 ^ 32) };
+
+    fn take_reading(&mut self, reading: &Reading) -> Result<(), NoMemory> {
+        self.take(*reading)
     }
 }

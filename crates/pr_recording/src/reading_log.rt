@@ -1,25 +1,25 @@
 //! The lines of readings, and what they come to.
 
-ghost use Rattle.std.specs.Prelude.{◌≡◌, ◌+◌, ◌^◌, ◌<◌, ◌≤◌, ◌∷◌, ◌++◌, ◌||◌, [], List, ℕ, IfOk, OnOk};
-ghost use Rattle.std.specs.Option.{option_to_list};
+ghost use Rattle.std.specs.Prelude.{◌≡◌, ◌+◌, ◌-◌, ◌^◌, ◌≤◌, ◌++◌, [], List, ℕ, IfOk, OnOk};
 ghost use Rattle.pr_wire.specs.declared.Edge.{Edge};
 ghost use Rattle.pr_decode.specs.declared.reading.Reading.{Reading};
 ghost use Rattle.pr_report.specs.declared.detail.Bounds.{Bounds};
 ghost use Rattle.pr_report.specs.Summary.{summary};
-ghost use Rattle.pr_report.specs.Oddities.{is_acknowledged, oddities_of, oddities_text};
-ghost use Rattle.pr_report.specs.Taking.{HasSeen, HasSurveyed};
+ghost use Rattle.pr_report.specs.Oddities.{oddities_of, oddities_text};
+ghost use Rattle.pr_report.specs.Taking.{HasSurveyed};
 ghost use Rattle.pr_report.specs.Outside.{conclusion};
 ghost use Rattle.pr_report.specs.JsonText.{json_verdict};
 ghost use Rattle.pr_recording.specs.declared.wording.Wording.{Wording};
 ghost use Rattle.pr_recording.specs.Decoded.{last_lines, readings_text};
-ghost use Rattle.pr_recording.specs.Narrated.{AccountsMore, HasAccounted, bounds_in, reading_text, readings_told};
+ghost use Rattle.pr_recording.specs.Narrated.{HasAccounted, bounds_in, reading_text, readings_told};
 
+use crate::tape::Takes;
 use crate::wording::Wording;
 use pr_capture::TraceInput;
 use pr_decode::Reading;
 use pr_report::{
-    Bounds, Context, LinesSeen, Oddities, Survey, is_acknowledged, push_json_reading,
-    push_json_verdict, push_oddities, push_reading,
+    Bounds, Context, Oddities, Survey, push_json_reading, push_json_verdict, push_oddities,
+    push_reading,
 };
 use pr_wire::WaveFault;
 use std::alloc::{AllocError, Global};
@@ -31,17 +31,8 @@ pub struct ReadingLog {
     wording: Wording,
     /// What comes before the next reading.
     context: Context,
-    /// Some reading is an acknowledged byte.
-    has_byte: bool,
     survey: Survey,
     lines: Vec<u8>,
-}
-
-/// Whether an acknowledged byte has come, with one reading more.
-fn with_byte(before: bool, reading: &Reading) -> bool
-    ensures { result ≡ (before || is_acknowledged reading.now) }
-{
-    before || is_acknowledged(reading)
 }
 
 /// The bounds of the summary; JSON has none.
@@ -95,36 +86,9 @@ impl ReadingLog {
         Ok(ReadingLog {
             wording,
             context: Context::new(),
-            has_byte: false,
             survey: Survey::new(alloc, bounds_in(wording))?,
             lines: Vec::new(alloc),
         })
-    }
-
-    /// Adds a reading.
-    pub fn push(&mut self, reading: &Reading) -> Result<(), AllocError>
-        requires few { readings_told self.old + 1 < 2 ^ 64 }
-        ensures accounted { OnOk result (AccountsMore (reading.now ∷ []) self.old self.new) }
-        ensures count { OnOk result (readings_told self.new ≤ readings_told self.old + 1) }
-    {
-        push_worded(&mut self.lines, self.wording, self.context, reading)?;
-        self.context = self.context.after(reading);
-        self.has_byte = with_byte(self.has_byte, reading);
-        self.survey.take(reading);
-        Ok(())
-    }
-
-    /// Adds a reading, if there is one.
-    #[inline(always)]
-    pub fn push_if(&mut self, reading: Option<Reading>) -> Result<(), AllocError>
-        requires few { readings_told self.old + 1 < 2 ^ 64 }
-        ensures accounted { OnOk result (AccountsMore (option_to_list reading) self.old self.new) }
-        ensures count { OnOk result (readings_told self.new ≤ readings_told self.old + 1) }
-    {
-        match reading {
-            Some(reading) => self.push(&reading),
-            None => Ok(()),
-        }
     }
 
     /// The lines that are not written yet.
@@ -150,14 +114,6 @@ impl ReadingLog {
         self.lines
     }
 
-    /// What is odd about the edges that were seen, of which these are the readings.
-    pub fn oddities(&self, seen: LinesSeen) -> Oddities
-        ensures { (wording : Wording) (edges : List Edge) (given : List Reading) (written : List ℕ) →
-            HasSeen edges seen → HasAccounted wording given written self.now → result ≡ oddities_of edges given }
-    {
-        seen.oddities(self.has_byte)
-    }
-
     /// Ends the readings of an input: gives the lines that are not written yet, and what follows them at the end, by
     /// the fault of the edges that were seen, and by what is odd about them.
     pub fn finish(
@@ -181,5 +137,29 @@ impl ReadingLog {
                 Ok(lines)
             }
         }
+    }
+}
+
+impl Takes for ReadingLog {
+    ghost use Rattle.pr_recording.specs.Adds.{adds_both, adds_none, fewer_fit};
+    ghost use Rattle.pr_recording.specs.Narrated.{AccountsMore, HasAccounted, readings_told};
+
+    ghost takes = { AccountsMore };
+
+    ghost may_take = { λ n log. readings_told log + n ≤ 2 ^ 64 - 1 };
+
+    ghost takes_none = { λ log w given written. adds_none (λ rs l. HasAccounted w rs written l) log given };
+
+    ghost takes_both = { λ xs ys a b c h k w given written. adds_both (λ rs l. HasAccounted w rs written l) xs ys a b c
+        (λ rs. h w rs written) (λ rs. k w rs written) given };
+
+    ghost takes_fewer = { λ k n log. fewer_fit k n (readings_told log) (2 ^ 64 - 1) };
+
+    #[inline(always)]
+    fn take_reading(&mut self, reading: &Reading) -> Result<(), AllocError> {
+        push_worded(&mut self.lines, self.wording, self.context, reading)?;
+        self.context = self.context.after(reading);
+        self.survey.take(reading);
+        Ok(())
     }
 }

@@ -8,7 +8,8 @@ ghost use Rattle.pr_bus.specs.Answers.{answered_frames};
 ghost use Rattle.pr_basic.specs.Limits.{statement_limit};
 ghost use Rattle.pr_system.specs.RunningState.{next_effect, stepped_by, trace_before};
 ghost use Rattle.pr_system.specs.StepByStep.{stepped_through};
-ghost use Rattle.pr_jobs.specs.Pages.{IsRunFault, ReadsToEnd, WritesNothing, ending_of, start_of};
+ghost use Rattle.pr_jobs.specs.Pages.{IsRunFault, ReadsToEnd, WritesNothing};
+ghost use Rattle.pr_jobs.specs.Runs.{run_end};
 ghost use Rattle.pr_input.specs.Watched.{has_failed, is_flushed, wrapped};
 ghost use Rattle.pr_recording.specs.Bytes.{number_of};
 ghost use Rattle.pr_recording.specs.Logged.{AreHeard};
@@ -19,10 +20,11 @@ use crate::byte_log::{ByteLog, Heard, HeardBytes};
 use crate::bytes::number_of;
 use crate::laws::traces_are_heard_as_spelled;
 use crate::run_log::RunLog;
-use pr_basic::{Statement, StatusMode, read_script};
-use pr_bus::Delays;
+use pr_basic::{Statement, read_script};
 use pr_channels::Stop;
-use pr_jobs::{CliFault, Ending, SCRIPT_LIMIT, Watched, WriteFault, read_whole, write_whole};
+use pr_jobs::{
+    CliFault, RunEnd, SCRIPT_LIMIT, Start, Watched, WriteFault, read_whole, write_whole,
+};
 use pr_render::Device;
 use pr_serial::Present;
 use pr_system::laws::steps_make_the_run;
@@ -34,17 +36,16 @@ use std::io::{Read, Write};
 /// What a printer hears in a run, and how the run ended.
 #[derive(Drop)]
 pub struct HeardRun {
-    pub ending: Ending,
+    pub end: RunEnd,
     pub heard: HeardBytes,
 }
 
-/// Reads a script to its end, runs it over wires with these printers present, these delays and the
-/// status going on in this way, and writes the bytes that a printer hears in the run, as they are. `raw` prints
-/// them. A printer that is not present hears nothing.
+/// Reads a script to its end, runs it over wires from this start and writes the bytes that a printer hears in the
+/// run, as they are. `raw` prints them. A printer that is not present hears nothing.
 ///
 /// The secondary address that selects a character set is no byte: the answer says in which set the first byte
-/// comes, and whether a byte comes in the other one. It is [`Ending::Stopped`] exactly if a BASIC error stopped the
-/// run; the bytes are written all the same.
+/// comes, and whether a byte comes in the other one. It also says which BASIC error stopped the run, if one did, and
+/// at which statement; the bytes are written all the same.
 ///
 /// The input is read whole before anything is written. The bytes are kept, the trace of the run is not.
 ///
@@ -61,17 +62,15 @@ pub fn run_bytes_over<R: Read, W: Write>(
     alloc: Global,
     input: &mut Watched<R>,
     output: &mut Watched<W>,
-    present: Present,
-    delays: Delays,
-    mode: StatusMode,
+    start: Start,
     device: Device,
-) -> Result<(Ending, Heard), CliFault>
+) -> Result<(RunEnd, Heard), CliFault>
     // the caller's part
     requires input { has_failed input.old ≡ false }
     requires output { has_failed output.old ≡ false }
     // what it gives
     ensures bytes { IfSome (R.remaining (wrapped input.old)) (λ script.
-        AnswersRunBytes (start_of present delays mode) device script
+        AnswersRunBytes start device script
         (W.contents (wrapped output.old)) (W.contents (wrapped output.new)) result) }
     ensures at_end { ReadsToEnd (R.remaining (wrapped input.new)) result }
     ensures flushed { OnOk result (is_flushed output.new ≡ true) }
@@ -82,9 +81,9 @@ pub fn run_bytes_over<R: Read, W: Write>(
     ensures write_failed { IsErrOf result CliFault.WriteFailed ↔ (has_failed output.new ≡ true) }
 {
     let script = read_whole(alloc, input, SCRIPT_LIMIT)?;
-    let run = heard_in_run(alloc, script, present, delays, mode, device)?;
+    let run = heard_in_run(alloc, script, start, device)?;
     match write_whole(output, run.heard.bytes.as_slice()) {
-        Ok(()) => Ok((run.ending, run.heard.heard)),
+        Ok(()) => Ok((run.end, run.heard.heard)),
         Err(WriteFault) => Err(CliFault::WriteFailed),
     }
 }
@@ -93,14 +92,17 @@ pub fn run_bytes_over<R: Read, W: Write>(
 fn heard_in_run(
     alloc: Global,
     script: Vec<u8>,
-    present: Present,
-    delays: Delays,
-    mode: StatusMode,
+    start: Start,
     device: Device,
 ) -> Result<HeardRun, CliFault>
-    ensures { GivesRun (start_of present delays mode) device script.items result }
+    ensures { GivesRun start device script.items result }
 {
     steps_make_the_run();
+    let Start {
+        present,
+        delays,
+        mode,
+    } = start;
     let statements = read_script(alloc, &script)?;
     let mut running = Running::new(alloc, present, delays, mode)?;
     let run = follow_run(alloc, &mut running, &statements, number_of(device))?;
@@ -109,7 +111,7 @@ fn heard_in_run(
 
 /// What a printer hears in a run, if it is present; nothing otherwise.
 fn if_present(alloc: Global, present: Present, device: Device, run: HeardRun) -> HeardRun
-    ensures ending { result.ending ≡ run.ending }
+    ensures ending { result.end ≡ run.end }
     ensures there { is_present present (number_of device) ≡ true → result.heard ≡ run.heard }
     ensures absent { is_present present (number_of device) ≡ false → AreHeard [] result.heard }
 {
@@ -121,7 +123,7 @@ fn if_present(alloc: Global, present: Present, device: Device, run: HeardRun) ->
         return run;
     }
     HeardRun {
-        ending: run.ending,
+        end: run.end,
         heard: ByteLog::new(alloc).finish(),
     }
 }
@@ -142,7 +144,7 @@ fn follow_run(
     requires sent { running.old.items ≡ items_of running.old.elements }
     requires few { length running.old.statuses + length statements.now ≤ statement_limit }
     // what it gives
-    ensures ending { IfOk result (λ run. run.ending ≡ ending_of (stepped_through running.old statements.now).stop) }
+    ensures ending { IfOk result (λ run. run.end ≡ run_end (stepped_through running.old statements.now).stop) }
     ensures heard { IfOk result (λ run. AreHeard (heard_of device
         (answered_frames running.old.present (stepped_through running.old statements.now).items)) run.heard) }
 {
@@ -154,7 +156,7 @@ fn follow_run(
     // For the prover alone: the law of `edges` says what the trace spells.
     let _edges = running.edges();
     let heard = log.finish()?;
-    Ok(HeardRun { ending, heard })
+    Ok(HeardRun { end: ending, heard })
 }
 
 /// Performs statements up to the first that stops, and takes the edges of each before the next.
@@ -162,7 +164,7 @@ fn follow_steps(
     running: &mut Running,
     log: &mut RunLog,
     statements: &[Statement],
-) -> Result<Ending, NoMemory>
+) -> Result<RunEnd, NoMemory>
     // the caller's part
     requires works { running.old.failed ≡ false }
     requires going { running.old.stop ≡ None }
@@ -171,15 +173,19 @@ fn follow_steps(
     // what it gives
     ensures steps { OnOk result (running.new ≡ stepped_through running.old statements.now) }
     ensures present { OnOk result (running.new.present ≡ running.old.present) }
-    ensures ending { IfOk result (λ ending. ending ≡ ending_of running.new.stop) }
+    ensures ending { IfOk result (λ end. end ≡ run_end running.new.stop) }
     ensures followed { OnOk result (FollowsRun running.old running.new log.old log.new) }
 {
     for statement in statements {
-        if follow_step(running, log, statement)?.is_some() {
-            return Ok(Ending::Stopped);
+        let stop = follow_step(running, log, statement)?;
+        if let Some(stop) = stop {
+            return Ok(RunEnd::Stopped {
+                statement: running.statuses().len(),
+                stop,
+            });
         }
     }
-    Ok(Ending::Done)
+    Ok(RunEnd::Done)
 }
 
 /// Performs a statement and takes its edges.

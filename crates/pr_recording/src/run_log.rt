@@ -1,6 +1,6 @@
 //! The bytes that a printer hears in a run whose edges come step by step.
 
-ghost use Rattle.std.specs.Prelude.{◌≡◌, ◌≤◌, ◌∷◌, [], ℕ, List, IfOk, OnOk};
+ghost use Rattle.std.specs.Prelude.{◌≤◌, [], ℕ, List, IfOk, OnOk};
 ghost use Rattle.pr_wire.specs.declared.Edge.{Edge};
 ghost use Rattle.pr_decode.specs.Readings.{readings_of};
 ghost use Rattle.pr_recording.specs.Logged.{AreHeard};
@@ -8,9 +8,8 @@ ghost use Rattle.pr_recording.specs.PrintedPages.{heard_in};
 ghost use Rattle.pr_recording.specs.RunLogged.{FollowsMore, HasFollowed};
 
 use crate::byte_log::HeardBytes;
-use crate::device_capture::hear_if;
 use crate::device_log::DeviceLog;
-use pr_decode::{Decoder, GoesBack, readings_add_up};
+use crate::tape::Head;
 use pr_page::NoMemory;
 use pr_wire::Edge;
 use std::alloc::Global;
@@ -19,7 +18,7 @@ use std::alloc::Global;
 /// does not count them: a run may have any number.
 #[derive(Drop)]
 pub struct RunLog {
-    decoder: Decoder,
+    head: Head,
     log: DeviceLog,
 }
 
@@ -30,19 +29,8 @@ impl RunLog {
         ensures { HasFollowed device [] result }
     {
         RunLog {
-            decoder: Decoder::new(),
+            head: Head::new(),
             log: DeviceLog::new(alloc, device),
-        }
-    }
-
-    /// Takes the next edge.
-    fn take(&mut self, edge: Edge) -> Result<(), NoMemory>
-        ensures { OnOk result (FollowsMore (edge ∷ []) self.old self.new) }
-    {
-        match self.decoder.take(edge) {
-            Ok(reading) => hear_if(&mut self.log, reading),
-            // In a run no time goes back.
-            Err(GoesBack) => Ok(()),
         }
     }
 
@@ -54,9 +42,8 @@ impl RunLog {
     pub fn take_all(&mut self, edges: &[Edge]) -> Result<(), NoMemory>
         ensures { OnOk result (FollowsMore edges.now self.old self.new) }
     {
-        for edge in edges {
-            self.take(*edge)?;
-        }
+        // In a run no time goes back: all edges are read.
+        let _len = self.head.read_all(edges, &mut self.log)?;
         Ok(())
     }
 
@@ -69,9 +56,7 @@ impl RunLog {
         ensures { IfOk result (λ heard. (device : ℕ) (edges : List Edge) → HasFollowed device edges self →
             AreHeard (heard_in device (readings_of edges)) heard) }
     {
-        readings_add_up();
-        let cut = self.decoder.finish();
-        hear_if(&mut self.log, cut)?;
+        let _has_byte = self.head.finish(&mut self.log)?;
         Ok(self.log.finish())
     }
 }

@@ -14,6 +14,8 @@ mod dumps;
 #[cfg(test)]
 mod growths;
 #[cfg(test)]
+mod inflating;
+#[cfg(test)]
 mod picture;
 #[cfg(test)]
 mod readings;

@@ -5,7 +5,7 @@ use pr_bus::Delays;
 use pr_capture::Source;
 use pr_cli::read_job;
 use pr_options::{
-    DecodeOutput, DelayFault, Job, JobFault, PagesOutput, bad_value, explains, found_source,
+    DecodeOutput, DelayFault, Job, JobFault, Opt, PagesOutput, bad_value, explains, found_source,
     read_delays, read_task,
 };
 use pr_render::{Device, Format};
@@ -563,12 +563,14 @@ fn files_of_tasks(rt: HostRuntime) {
 #[test]
 fn bad_values(rt: HostRuntime) {
     const WORDS: [&str; 4] = ["print1525", "pages", "--as", "gif"];
-    assert!(rt; bad_value(rt.alloc(), &WORDS, &JobFault::BadPageAs) == Some("gif"));
+    assert!(rt; bad_value(rt.alloc(), &WORDS, &JobFault::Bad(Opt::PageAs)) == Some("gif"));
     assert!(rt; bad_value(rt.alloc(), &WORDS, &JobFault::NoMemory).is_none());
-    assert!(rt; JobFault::BadPageAs.good_values() == Some("list, text, svg, png, pdf or bytes"));
-    assert!(rt; JobFault::BadRawAs.good_values() == Some("list, text, svg, png or pdf"));
     assert!(rt;
-        JobFault::BadRate.good_values()
+        JobFault::Bad(Opt::PageAs).good_values() == Some("list, text, svg, png, pdf or bytes")
+    );
+    assert!(rt; JobFault::Bad(Opt::RawAs).good_values() == Some("list, text, svg, png or pdf"));
+    assert!(rt;
+        JobFault::Bad(Opt::Rate).good_values()
             == Some("samples in a second, as in 4M, 500k or 1000000, or none")
     );
     assert!(rt; JobFault::BadPresent.good_values().is_none());

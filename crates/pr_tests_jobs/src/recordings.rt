@@ -2,7 +2,7 @@
 
 use pr_capture::{Signals, Source, TraceInput};
 use pr_jobs::{CliFault, Watched};
-use pr_recording::{Wording, decode_input, print_input};
+use pr_recording::{PrinterPair, Wording, read_into, tell_input};
 use pr_report::{Bounds, Detail};
 
 const TEXT: TraceInput<'_> = TraceInput {
@@ -37,7 +37,16 @@ fn too_large(rt: HostRuntime) {
     for (limit, wanted, written) in rows {
         let mut input = Watched::new(b"0 111\n".as_slice());
         let mut output = Watched::new(Vec::new(rt.alloc()));
-        let answer = decode_input(rt.alloc(), &mut input, &mut output, TEXT, LINES, limit).err();
+        let answer = tell_input(
+            rt.alloc(),
+            &mut input,
+            &mut output,
+            TEXT,
+            LINES,
+            false,
+            limit,
+        )
+        .err();
         let is_well = answer == wanted && output.into_inner().as_slice() == written.as_bytes();
         assert!(rt; is_well, "limit {limit}");
     }
@@ -47,7 +56,8 @@ fn too_large(rt: HostRuntime) {
 fn too_large_for_pages(rt: HostRuntime) {
     for (limit, wanted) in [(5, Some(CliFault::TooLarge)), (6, None)] {
         let mut input = Watched::new(b"0 111\n".as_slice());
-        let answer = print_input(rt.alloc(), &mut input, TEXT, limit).err();
+        let mut printers = PrinterPair::new(rt.alloc());
+        let answer = read_into(rt.alloc(), &mut input, TEXT, limit, &mut printers).err();
         assert!(rt; answer == wanted, "limit {limit}");
     }
 }

@@ -9,8 +9,8 @@ use pr_bus::Delays;
 use pr_capture::{Signals, Source, TraceFormat, TraceInput, write_vcd};
 use pr_dots::Shapes;
 use pr_jobs::{
-    CliFault, Ending, Watched, bus_as_over, bus_over, check_as_over, check_over, pages_as_over,
-    pages_over, raw_over,
+    CliFault, Ending, Start, Watched, bus_as_over, bus_over, check_as_over, check_over,
+    pages_as_over, pages_over, raw_over,
 };
 use pr_render::{Format, Part};
 use pr_report::Report;
@@ -236,6 +236,15 @@ pub fn typical(alloc: Global) -> Delays {
     }
 }
 
+/// A run with these printers present, typical delays, and status 0 before each statement.
+pub fn started(alloc: Global, present: Present) -> Start {
+    Start {
+        present,
+        delays: typical(alloc),
+        mode: StatusMode::Each,
+    }
+}
+
 /// The delays of a setting.
 fn delays_of(alloc: Global, setting: Setting) -> Result<Delays, AllocError> {
     Ok(Delays {
@@ -279,7 +288,6 @@ impl Call {
         requires input { has_failed input.old ≡ false }
         requires output { has_failed output.old ≡ false }
     {
-        let mode = StatusMode::Each;
         match self {
             Call::PageText(setting) => {
                 let delays = delays_of(alloc, setting)?;
@@ -290,19 +298,13 @@ impl Call {
                 bus_over(alloc, input, output, setting.present, delays, setting.mode)
             }
             Call::Pages(present, format) => {
-                pages_as_over(
-                    alloc,
-                    input,
-                    output,
-                    present,
-                    typical(alloc),
-                    mode,
-                    format,
-                    &Shapes::own(),
-                )
+                let start = started(alloc, present);
+                let end = pages_as_over(alloc, input, output, start, format, &Shapes::own())?;
+                Ok(end.ending())
             }
             Call::Bus(format) => {
-                bus_as_over(alloc, input, output, BOTH, typical(alloc), mode, format)
+                let start = started(alloc, BOTH);
+                Ok(bus_as_over(alloc, input, output, start, format)?.ending())
             }
             Call::Check => done(check_over(alloc, input, output)),
             Call::CheckAs(source, report) => {

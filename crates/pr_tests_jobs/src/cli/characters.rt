@@ -1,14 +1,13 @@
 //! Characters of other shapes than this project's own.
 
-use crate::cli::calls::{BOTH, HI, HI_BYTES, SVG, typical, usual};
+use crate::cli::calls::{BOTH, HI, HI_BYTES, SVG, started, usual};
 use crate::cli::limits::Endless;
 use crate::cli::slow::SlowReader;
-use pr_basic::StatusMode;
 use pr_capture::Source;
 use pr_characters::CharactersFault;
 use pr_dots::Shapes;
 use pr_jobs::{
-    CHARACTERS_LIMIT, CliFault, Ending, ShapesFault, Watched, pages_as_over, raw_over,
+    CHARACTERS_LIMIT, CliFault, RunEnd, ShapesFault, Watched, pages_as_over, raw_over,
     read_characters,
 };
 use pr_recording::reprint_over;
@@ -42,19 +41,11 @@ fn draws_bar(picture: &[u8]) -> bool {
 }
 
 /// The picture of a script's pages.
-fn pages_drawn(alloc: Global, shapes: &Shapes) -> (Result<Ending, CliFault>, Vec<u8>) {
+fn pages_drawn(alloc: Global, shapes: &Shapes) -> (Result<RunEnd, CliFault>, Vec<u8>) {
     let mut input = Watched::new(HI.as_bytes());
     let mut output = Watched::new(Vec::new(alloc));
-    let answer = pages_as_over(
-        alloc,
-        &mut input,
-        &mut output,
-        BOTH,
-        typical(alloc),
-        StatusMode::Each,
-        SVG,
-        shapes,
-    );
+    let start = started(alloc, BOTH);
+    let answer = pages_as_over(alloc, &mut input, &mut output, start, SVG, shapes);
     (answer, output.into_inner())
 }
 
@@ -79,7 +70,7 @@ fn recording_drawn(alloc: Global, shapes: &Shapes) -> (Result<Oddities, CliFault
 fn pages_in_other_shapes(rt: HostRuntime) {
     for (shapes, is_bar) in [(with_bar(), true), (Shapes::own(), false)] {
         let (answer, picture) = pages_drawn(rt.alloc(), &shapes);
-        assert!(&rt; answer == Ok(Ending::Done) && draws_bar(&picture) == is_bar);
+        assert!(&rt; answer == Ok(RunEnd::Done) && draws_bar(&picture) == is_bar);
     }
 }
 

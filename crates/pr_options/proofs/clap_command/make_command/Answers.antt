@@ -1,9 +1,10 @@
-use Rattle.std.proofs.Common.{ap, ap₂, ◌∙◌, codes, ◌≡◌, ◌||◌, Bool, false, true, refl}
+use Rattle.std.proofs.Common.{ap, ap₂, ◌∙◌, ◌≡◌, codes, true, Bool}
 use Rattle.clap.specs.Words.{App, app_of, new_app, with_subcommand}
 use Rattle.clap.specs.declared.Command.{Command}
 use Rattle.clap.specs.declared.Command.TheOpen.{Command-F}
 use Rattle.clap.specs.Simple.{Shape, app_of_fields, on_top}
 use Rattle.pr_options.specs.Subcommands.{IsLocal}
+use Rattle.pr_options.proofs.CommandLemmas.{both_local}
 use Rattle.pr_options.proofs.clap_command.make_command.Goals as goal
 
 abbrev versioned : Shape → Shape
@@ -26,10 +27,6 @@ returns-clause-app c =
     ∙ ap₂ with_subcommand (c.in_ok-two.ensures.shape c.in_ok-bus.ensures.local
     ∙ ap₂ with_subcommand (c.in_ok-one.ensures.shape c.in_ok-pages.ensures.local ∙ ap₂ with_subcommand program_is (ap top c.in_ok-pages.ensures.app))
     (ap top c.in_ok-bus.ensures.app)) (ap top c.in_ok-check.ensures.app)) (ap top c.in_ok-decode.ensures.app)) (ap top c.in_ok-raw.ensures.app)
-
--- neither of two has options for all
-both_local : (a b v : Bool) → v ≡ (a || b) → a ≡ false → b ≡ false → v ≡ false
-both_local a b v e h k = rw (e, h, k) refl
 
 -- whether a command has options for all, by its fields
 globals : Command-F Command → Bool

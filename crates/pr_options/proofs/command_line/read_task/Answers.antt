@@ -19,6 +19,7 @@ returns-in-Ok-try_get_matches_from-clause-bad c =
     let P : Met → Type 0 = λ m. IfErr c.task_of.result (λ f. (f ≡ fault.NoMemory) ⊎ (wanted_of m ≡ Some (Err f))) in
     bad_is words c.task_of.result
     (subst P (met_is _ words c.in-Ok-try_get_matches_from.matches c.in-Ok.ensures.app c.in-Ok-try_get_matches_from.ensures.matches) c.task_of.ensures.bad)
+    c.task_of.ensures.own
     (no_fault _ words c.in-Ok.ensures.app c.in-Ok-try_get_matches_from.ensures.kinds)
 
 pub returns-in-Ok-try_get_matches_from-clause-taken : goal.returns-in-Ok-try_get_matches_from-clause-taken

@@ -1,18 +1,16 @@
 use Rattle.std.proofs.Common.{List, ℕ, subst, sym}
 use Rattle.pr_bus.specs.Answers.{answered_frames}
-use Rattle.pr_bus.specs.DelaysLeft.{numbers_left}
 use Rattle.pr_basic.specs.declared.statement.Statement.{Statement}
 use Rattle.pr_basic.specs.Grammar.{IsScript}
 use Rattle.pr_receiver.specs.Heard.{heard_of}
 use Rattle.pr_system.specs.StepByStep.{stepped_through}
-use Rattle.pr_jobs.specs.Pages.{Start}
 use Rattle.pr_recording.specs.Logged.{AreHeard}
 use Rattle.pr_recording.proofs.RunAnswering.{run_given}
 use Rattle.pr_recording.proofs.run_bytes.heard_in_run.Goals as goal
 
 pub returns : goal.returns
 returns c =
-    let start : Start = record { present = c.args.present; delays = numbers_left c.args.delays; mode = c.args.mode } in
+    let start = c.args.start in
     let statements = c.deref-2.result.now in
     let running = c.in_ok-running.running in
     let P : List ℕ → Type 0 = λ bytes. IsScript bytes c.in_ok-statements.statements.items in

@@ -1,0 +1,11 @@
+pub mod AnswerLemmas
+pub mod BitLemmas
+pub mod ExactLemmas
+pub mod MadeLemmas
+pub mod NumberLemmas
+pub mod OrderLemmas
+pub mod RangeLemmas
+pub mod SignLemmas
+pub mod SpanLemmas
+pub mod SumLemmas
+pub mod WholeLemmas

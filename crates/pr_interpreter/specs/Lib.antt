@@ -1,0 +1,4 @@
+pub mod Machine
+pub mod NumberLaws
+pub mod Numbers
+pub mod Spans

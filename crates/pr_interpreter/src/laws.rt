@@ -1,0 +1,19 @@
+//! Laws of the definitions, with nothing to run.
+
+ghost use Rattle.pr_interpreter.specs.NumberLaws.{FormsAreKept, MagnitudesAreCertain, NegationIsCertain, OrdersAreCertain, ProductsAreCertain, QuotientsAreCertain, SumsAreCertain, WholeNumbersAreExact, WholesAreCertain};
+
+/// A law: whatever the machine may answer to a sum, a product or a quotient of values that two numbers
+/// enclose is in the number that is their sum, product or quotient; their order has what is true of the
+/// values, a whole number is that of each value, and
+/// an exact result that has the form of the machine's values is kept as it is.
+pub fn calculations_are_certain()
+    ensures sums { SumsAreCertain }
+    ensures products { ProductsAreCertain }
+    ensures quotients { QuotientsAreCertain }
+    ensures negation { NegationIsCertain }
+    ensures magnitudes { MagnitudesAreCertain }
+    ensures exact { WholeNumbersAreExact }
+    ensures orders { OrdersAreCertain }
+    ensures forms { FormsAreKept }
+    ensures wholes { WholesAreCertain }
+{}

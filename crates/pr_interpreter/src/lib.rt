@@ -1,0 +1,57 @@
+//! Programs in Commodore 64 BASIC, run for the output statements that they perform.
+//!
+//! A program is run, and the output statements that it performs, with the bytes of their lists, are a
+//! script. The machine's numbers are rounded, and nobody here can compare with one. So a number is what
+//! is certain of the machine's value, and the rule of everything here is **certain or refused**: a use of
+//! a number has an answer if every value that the machine may have gives that answer; otherwise the
+//! program is refused with its place.
+//!
+//! # What is here
+//!
+//! - `span` has the magnitudes that a value may have, and the span of what the machine may answer
+//!   ([`answer`]); `specs/Spans.antt` defines both.
+//! - `number` has numbers, a sign and a span, and their products and quotients; `sums`, `orders` and
+//!   `whole_numbers` have their sums, their comparisons and INT. `specs/Numbers.antt` defines them.
+//! - `laws` has what is proved of the definitions: what the machine may answer to a calculation
+//!   (`specs/Machine.antt`) is in the number that the calculation gives, for all values in its operands.
+//!
+//! # How the rest is to be built on it
+//!
+//! **Values.** A value is a number or a string of at most 255 bytes. A variable has a name of at most two
+//! significant characters and a kind: number, whole number (`%`) or string (`$`); arrays are apart.
+//!
+//! **Expressions.** An expression is a tree, each node with its place (the number of bytes before it).
+//! Its definition is a recursion over the tree: `value_of : State → Expression → Result Value Stop`, where
+//! a stop is a fault of BASIC (an error with its line, which ends the run) or a refusal (`not certain`, or
+//! what is refused by name) with its place. A node takes its operands' values from left to right, and the
+//! first stop counts. A number goes into an index, `TAB`, `CHR$` or `ON` by [`floor`], and into a text by its
+//! digits, which answer only if the whole span gives one answer.
+//!
+//! **Statements.** A state is the variables, the arrays, the loops and returns that are open (a stack), the
+//! place in DATA, the files, the column of the screen (known or not), and the place of the next statement.
+//! `Steps before after performed` is a relation: for each statement a rule says the state after it and the
+//! output statement that it performs, if any. No state has two successors. A run is the list of steps from
+//! the first state to one that has none: the program's end, END, STOP, a fault or a refusal.
+//!
+//! **`run_program`.** Its contract cites the relation: the list that it returns is what the steps of the run
+//! perform, in order, each with the line that it came from, and how the run ended is what the last state
+//! says; a refusal names the first place that the definition refuses; with a limit of steps, the list is
+//! that of so many steps. Two laws go above it: a program of the six statements alone, lines in order,
+//! performs what `read_script` reads of its text; and every machine that keeps to `specs/Machine.antt`
+//! performs the same list, which follows by induction from the laws of numbers here.
+#![tactic(auto)]
+
+mod fault;
+pub mod laws;
+mod number;
+mod orders;
+mod span;
+mod sums;
+mod whole_numbers;
+
+pub use fault::NumberFault;
+pub use number::{Number, Sign, product, quotient};
+pub use orders::{Order, order_of};
+pub use span::{Span, answer};
+pub use sums::sum;
+pub use whole_numbers::{Whole, floor};

@@ -1,0 +1,30 @@
+-- Trusted: how a run begins, and how it ends.
+use Rattle.std.specs.Prelude.{ℕ, Option, Some, None}
+use Rattle.pr_serial.specs.declared.Present.{Present}
+use Rattle.pr_bus.specs.declared.wires.Delays.{Delays}
+use Rattle.pr_channels.specs.declared.faults.Stop.{Stop}
+use Rattle.pr_basic.specs.declared.session.StatusMode.{StatusMode}
+use Rattle.pr_jobs.specs.declared.run.Ending.{Ending}
+use Rattle.pr_jobs.specs.declared.run.Ending.TheVariants.{Done, Stopped}
+use Rattle.pr_jobs.specs.declared.run.RunEnd.{RunEnd}
+use Rattle.pr_jobs.specs.declared.run.RunEnd.TheVariants as run
+use Rattle.pr_jobs.specs.declared.run.Start.{Start}
+
+-- a run with these printers present, these delays, and the status going on in this way
+abbrev pub start_of : Present → Delays → StatusMode → Start
+start_of present delays mode = record { present = present; delays = delays; mode = mode }
+
+-- a run is stopped exactly if there is a stop
+abbrev pub ending_of : Option (ℕ × Stop) → Ending
+ending_of None = Done
+ending_of (Some stop) = Stopped
+
+-- the same with the statement and the error
+abbrev pub run_end : Option (ℕ × Stop) → RunEnd
+run_end None = run.Done
+run_end (Some (statement, stop)) = run.Stopped statement stop
+
+-- whether a run that ends so is stopped
+abbrev pub ending_at : RunEnd → Ending
+ending_at run.Done = Done
+ending_at (run.Stopped statement stop) = Stopped

@@ -1,8 +1,0 @@
-use Rattle.std.proofs.Common.{ap₂, refl, ◌∙◌}
-use Rattle.clap.specs.Words.{with_rule}
-use Rattle.pr_options.proofs.clap_command.with_measures.Goals as goal
-
-pub returns-clause-app : goal.returns-clause-app
-returns-clause-app c =
-    c.in_ok-whole.ensures.shape c.value_option.ensures.local
-    ∙ ap₂ with_rule (c.in_ok-one.ensures.shape c.flag_option.ensures.local ∙ ap₂ with_rule refl c.flag_option.ensures.rule) c.value_option.ensures.rule

@@ -1,0 +1,64 @@
+// The paper below the dots: fanfold sheets of eleven inches with their holes, margins and perforations, and green bars if they are
+// wanted; and where the sheets of a picture lie on the desk, beside each other or one below the other.
+
+import { SHEET_TOP } from './sheets.js';
+
+const SHEET_WIDTH = 12600;         // nine and a half inches and a margin, in the picture's units
+export const SHEET_HEIGHT = 13860;      // eleven inches
+const EDGE = 630;                  // what is seen of the sheet before the first fold and of the one after the last; the strips with the holes
+const NAMESPACE = 'http://www.w3.org/2000/svg';
+
+/** How high the paper of a sheet is: whole sheets, and an edge of the paper above and below. */
+const heightOf = sheet => 2 * EDGE + SHEET_HEIGHT * Math.max(Math.ceil((sheet.height - 2 * EDGE) / SHEET_HEIGHT), 1);
+
+/**
+ * Where the sheets lie, one below the other where `isStacked`: `{ sheets, width, height, left, notes }`. Each sheet is
+ * `{ sheet, right, down, height }`, how far it lies to the right and further down than in the picture; so do the notes.
+ */
+export function arrange(picture, isStacked) {
+  const [first] = picture.sheets, placed = [];
+  let bottom = SHEET_TOP;
+  for (const sheet of picture.sheets) {
+    const height = heightOf(sheet), isBelow = isStacked && sheet !== first, down = isBelow ? bottom : 0;
+    placed.push({ sheet, right: isBelow ? first.x - sheet.x : 0, down, height });
+    bottom = Math.max(bottom, SHEET_TOP + down + height);
+  }
+  if (!placed.length) return { sheets: placed, left: 0, width: picture.width, height: picture.height, notes: 0 };
+  const under = picture.height - SHEET_TOP - Math.max(...picture.sheets.map(sheet => sheet.height)), width = isStacked || placed.length === 1 ? SHEET_WIDTH + 2 * EDGE : picture.width;
+  return { sheets: placed, left: width === picture.width ? 0 : first.x - EDGE, width, height: bottom + under, notes: bottom + under - picture.height };
+}
+
+/** The sheet at a place of the desk, or undefined. */
+export const sheetAt = ({ sheets }, x, y) => sheets.find(({ sheet, right, down, height }) => (
+  x >= sheet.x + right && x < sheet.x + right + SHEET_WIDTH && y >= SHEET_TOP + down && y < SHEET_TOP + down + height));
+
+/** An element of a picture with its attributes. */
+export function drawn(name, attributes, ...parts) {
+  const made = document.createElementNS(NAMESPACE, name);
+  for (const [attribute, value] of Object.entries(attributes)) made.setAttribute(attribute, value);
+  made.append(...parts);
+  return made;
+}
+
+/** The paper of one printer. */
+function paperOf({ sheet, right, down, height }, hasBars) {
+  const folds = Array.from({ length: Math.round((height - 2 * EDGE) / SHEET_HEIGHT) + 1 }, (_, fold) => `M0 ${EDGE + fold * SHEET_HEIGHT}h${SHEET_WIDTH}`);
+  const bars = drawn('rect', { x: 2 * EDGE, y: EDGE, width: SHEET_WIDTH - 4 * EDGE, height: height - 2 * EDGE, fill: 'url(#fanfold-bars)' });
+  return drawn('g', { transform: `translate(${sheet.x + right} ${SHEET_TOP + down})` },
+    drawn('rect', { class: 'sheet', width: SHEET_WIDTH, height }),
+    ...(hasBars ? [bars] : []),
+    drawn('rect', { width: SHEET_WIDTH, height, fill: 'url(#fanfold-holes)' }),
+    drawn('path', { class: 'fold', d: folds.join('') }));
+}
+
+/** The paper of a picture's sheets, as a picture that lies below it. */
+export function fanfold({ sheets }, hasBars) {
+  const holes = drawn('pattern', { id: 'fanfold-holes', width: SHEET_WIDTH, height: EDGE, patternUnits: 'userSpaceOnUse' },
+    drawn('circle', { cx: EDGE / 2, cy: EDGE / 2, r: 100 }), drawn('circle', { cx: SHEET_WIDTH - EDGE / 2, cy: EDGE / 2, r: 100 }),
+    drawn('path', { class: 'fold', d: `M${EDGE} 0v${EDGE}M${SHEET_WIDTH - EDGE} 0v${EDGE}` }));
+  const bars = drawn('pattern', { id: 'fanfold-bars', y: EDGE, width: SHEET_WIDTH, height: 2 * EDGE, patternUnits: 'userSpaceOnUse' },
+    drawn('rect', { class: 'bar-of-paper', width: SHEET_WIDTH, height: EDGE }));
+  const made = drawn('svg', { class: 'fanfold', preserveAspectRatio: 'none' }, drawn('defs', {}, holes, bars), ...sheets.map(sheet => paperOf(sheet, hasBars)));
+  made.setAttribute('aria-hidden', 'true');
+  return made;
+}

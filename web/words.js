@@ -1,0 +1,39 @@
+// The program's hints in the page's words: where a hint names an option of the command line, the page has a choice for it.
+
+/**
+ * What a hint says, and what the page says instead; a hint that comes to nothing is left out.
+ * @type {[RegExp, string][]}
+ */
+const WORDS = [
+  [/--present sets which of printers 4 and 5 are connected/, 'choose the printers that are connected under “Bus”'],
+  [/bad --names .*/, 'three different signals are needed'],
+  [/ \(--status kept\)/, ' (the status is kept)'],
+  [/name the signals of ATN, CLOCK and DATA with --names, such as --names .*/, 'choose the signals that are ATN, CLOCK and DATA'],
+  [/add the scopes in --names, such as .*/, 'choose the signals with their scopes'],
+  [/or choose others with --names/, 'or choose others'],
+  [/(try|remove|without) --invert,? for probes behind inverters, or other signals with --names/, 'try “inverted levels” for probes behind inverters, or other signals'],
+  [/try without --invert, or other signals with --names/, 'try it without “inverted levels”, or other signals'],
+  [/add --invert to read 0 as released/, 'choose “inverted levels” to read 0 as released'],
+  [/remove --invert/, 'choose no “inverted levels”'],
+  [/--from-time US starts the trace at microsecond US of the recording/, '“starts at” begins the trace at a microsecond of the recording'],
+  [/sample rate with --rate, such as --rate 4M,/, 'sample rate in “samples a second”,'],
+  [/without --rate/, 'without a rate'],
+  [/--from-time/, '“starts at”'],
+  [/use --from vcd for a dump, --from csv for a table/, 'read it as a Value Change Dump, or as a table of samples'],
+  [/use --from vcd/, 'read it as a Value Change Dump'],
+  [/for a table use --from csv, for a trace text no --from/, 'read a table as a table of samples, a trace as a trace'],
+  [/use --from csv/, 'read it as a table of samples'],
+  [/raw --set lower prints them/, 'choose that character set'],
+  [/with --set lower in that of the first byte/, 'with the lower/upper case set in that of the first byte'],
+  [/write the table with -O csv:label=channel/, 'write the table again with sigrok-cli -O csv:label=channel, or as a Value Change Dump'],
+  [/.*--from (prg|petcat|text).*/, ''],
+];
+
+/** A hint in the page's words, or nothing. */
+export const inPageWords = hint => WORDS.reduce((text, [words, instead]) => text.replace(words, instead), hint);
+
+/** Hints in the page's words. */
+export const pageHints = hints => hints.map(inPageWords).filter(hint => hint.trim());
+
+/** A sentence on a character that BASIC has not, which is shown as itself and not by its bytes. */
+export const withCharacter = (sentence, text) => sentence.replace(/found "(?:\\x[0-9A-F]{2})+"/, `found "${Array.from(text)[0] ?? ''}"`);
