@@ -4,9 +4,10 @@
 # make cases        makes the inputs and answers of cases/ anew; make test says if the program's answers differ from them
 # make edits        tries each wrong idea of tests/ideas and writes down what refuses it: hours; tools/edits CRATE of one crate
 # make bench        speed and peak memory beside `wc -l`, with the aim of each
-# make peer         small inputs with one byte replaced, in some 200,000 runs (two minutes); traces and pictures of runs, read by
-#                   others: sigrok's decoder of the bus (sigrok-cli and libsigrokdecode4), xmllint, rsvg-convert, qpdf, pdftoppm and
-#                   pngcheck (libxml2-utils, librsvg2-bin, netpbm, qpdf, poppler-utils, pngcheck); and the calls for C watched by valgrind and by cc's sanitizer of addresses
+# make peer         all cases by the library's calls for texts; small inputs with one byte replaced, in some 200,000 runs (two
+#                   minutes); traces and pictures of runs, read by others: sigrok's decoder of the bus (sigrok-cli and
+#                   libsigrokdecode4), xmllint, rsvg-convert, qpdf, pdftoppm and pngcheck (libxml2-utils, librsvg2-bin, netpbm,
+#                   qpdf, poppler-utils, pngcheck); and the calls for C watched by valgrind and by cc's sanitizer of addresses
 # make lib          proves and builds libprint1525.a and libprint1525.so, the library for C programs (docs/C.md)
 # make web          makes web/print1525.html, the page in a browser, with its WebAssembly module of proved crates (web/README.md says
 #                   how; it needs wasm-opt, Debian's package binaryen), and says whether the committed file is another one
@@ -116,6 +117,7 @@ bench: build $(TESTS)
 
 # Not a part of the gate.
 peer: build lib
+	@tests/answered $(PROGRAM) $(LIBRARY)
 	@tests/replaced $(PROGRAM)
 	@tests/watched $(LIBRARY)
 	@tests/peer $(PROGRAM)

@@ -771,6 +771,11 @@ void print1525_plain_answer(const uint8_t *words, size_t words_length, uint8_t e
                             size_t characters_length, uint8_t *output, size_t capacity, uint8_t *messages,
                             size_t messages_capacity, print1525_plain_end *end);
 
+/* The names of the files that words name, each with a byte in front and a byte 0 behind, or a byte 0 alone where there is
+ * none: that which is read, that which is written, and that of characters. */
+void print1525_plain_names(const uint8_t *words, size_t words_length, uint8_t *names, size_t capacity, uint8_t *messages,
+                           size_t messages_capacity, print1525_plain_end *end);
+
 /* What a call with numbers answers. */
 typedef struct {
     size_t code;   /* 0 done, 1 a run that a BASIC error stopped, 2 refused, 3 out of memory, 4 the buffer is too small */

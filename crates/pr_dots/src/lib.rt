@@ -1,4 +1,4 @@
-//! The dots that the needles strike.
+//! The dots that the hammer strikes.
 //!
 //! - `shapes` has this project's own dots of each character, in tables that `tools/shapes` makes, and `character_sets` the dots of the
 //!   characters that a printer has; `codes` says which place of a table a code has.

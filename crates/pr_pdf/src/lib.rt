@@ -1,4 +1,4 @@
-//! Papers as PDF documents (ISO 32000-1): each dot is a disc where a needle strikes.
+//! Papers as PDF documents (ISO 32000-1): each dot is a disc where the hammer strikes.
 //!
 //! - `adding` adds to a text. `marks` says which font and code a mark has.
 //! - `used` says which glyphs marks use.

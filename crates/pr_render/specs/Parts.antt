@@ -20,7 +20,7 @@ units_between = codes " "
 -- the rest of that tag, and what the picture shows
 unfoldable pub document_about : List ℕ
 document_about =
-    codes "\">\n<desc>Pages of VIC-1525 printers. Each dot is where a needle strikes.</desc>\n"
+    codes "\">\n<desc>Pages of VIC-1525 printers. Each dot is where the hammer strikes.</desc>\n"
 
 -- half an inch of continuous paper, with a hole at each edge and the lines at which the edges tear
 -- off; and the fold at the end of 11 inches

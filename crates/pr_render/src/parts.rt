@@ -44,7 +44,7 @@ pub fn units_between() -> &'static [u8]
 pub fn document_about() -> &'static [u8]
     ensures { result.now ≡ document_about }
 {
-    b"\">\n<desc>Pages of VIC-1525 printers. Each dot is where a needle strikes.</desc>\n"
+    b"\">\n<desc>Pages of VIC-1525 printers. Each dot is where the hammer strikes.</desc>\n"
 }
 
 /// Half an inch of continuous paper, with a hole in each edge and the lines at which the edges tear off; and the fold at the end of 11 inches.
