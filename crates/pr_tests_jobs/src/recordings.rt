@@ -1,4 +1,4 @@
-//! The limits of recordings, tried with small ones: the program's are 4,294,967,296 and 1,099,511,627,776 bytes.
+//! The limits of recordings, tried with small ones: the program's are 4,000,000,000 and 1,099,511,627,776 bytes.
 
 use pr_capture::{Signals, Source, TraceInput};
 use pr_jobs::{CliFault, Watched};
