@@ -761,8 +761,9 @@ PRINT1525_OWN_SIZE(print1525_region, 32);
  * The program as a function: words with a byte 0 between each two in, and what it writes and says out. */
 typedef struct {
     size_t status; /* the program's exit status: above `most` the output is not written; 4: its buffer is too small */
-    size_t fault;  /* one of enum print1525_fault, or 54: the words ask for nothing; 0 with status 0 */
-    size_t place, column;
+    size_t fault;  /* one of enum print1525_fault, or 54: the words ask for nothing; 0 where the program is done. With
+                    * status 4 it says how the run ended whose output has no room: 0, or 100 and the BASIC error */
+    size_t place, column; /* as in print1525_details; with status 4 and such an error its statement */
     size_t output, messages; /* how many bytes they have; messages without room are not written */
 } print1525_plain_end;
 

@@ -1,6 +1,7 @@
 // What the module is asked by the page's settings: the words of a command line, or the numbers in their place.
 
-const PRESENT = ['none', '4', '5', 'both'], STATUS = ['each', 'kept'], SETS = ['upper', 'lower'], SOURCES = ['text', 'vcd', 'csv'], FORMS = ['text', 'prg', 'petcat'];
+// The values of options, in the order of their numbers (tests/documents holds them equal to the program's).
+export const PRESENT = ['none', '4', '5', 'both'], STATUS = ['each', 'kept'], SETS = ['upper', 'lower'], SOURCES = ['text', 'vcd', 'csv'], FORMS = ['text', 'prg', 'petcat'];
 
 /** The number of a listing's form. */
 export const formNumber = form => FORMS.indexOf(form);
@@ -11,8 +12,11 @@ const runWords = ({ printers = 3, status = 0 }) => ['--present', PRESENT[printer
 /** The words for the pages of a run, of a listing in some form. */
 export const pagesWords = (run, as, form = 'text') => ['pages', '--from', form, ...runWords(run), '--as', as];
 
-/** The words for the trace of a run at delays: the numbers of the computer, of printer 4 and of printer 5. */
-export const busWords = (run, as) => ['bus', '--from', 'text', ...runWords(run), '--delays', Array.from(run.delays, list => list.join()).join('/'), '--as', as];
+/** The delays of the computer, of printer 4 and of printer 5 as the option has them, by their lists, in which there may be spaces. */
+export const delaysOf = lists => lists.map(list => list.replace(/\s/g, '')).join('/');
+
+/** The words for the trace of a run at delays. */
+export const busWords = (run, as) => ['bus', '--from', 'text', ...runWords(run), '--delays', run.delays, '--as', as];
 
 /** The words for the pages of a printer's bytes. */
 export const rawWords = ({ set }, as) => ['raw', '--set', SETS[set], '--as', as];

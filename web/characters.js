@@ -5,9 +5,6 @@ import { ask, print, state, tellFailed, tellOnce } from './page.js';
 import { store } from './kept.js';
 import { ready } from './controls.js';
 
-/** Whether a text begins as a file of characters does: with a set and a code, and a row of dots. */
-export const looksCharacters = head => /^(upper|lower) \d+\r?\n[.#]{6}\r?\n/.test(head);
-
 /** Draws with the characters of a file, or with the module's own (null), and says which. */
 function useCharacters(characters) {
   state.characters = characters;

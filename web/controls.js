@@ -7,24 +7,22 @@ import { $, all, button, decode, encode, fromBase64 } from './basics.js';
 import { ask, editor, fillReader, hasWebAssembly, notice, openModule, paper, print, readers, state, tellBriefly, tellFailed, wave } from './page.js';
 import { cover } from './telling.js';
 import { useBounds } from './wire.js';
+import { delaysOf } from './asked.js';
 import { keptSource, leaveSource, showFile, takeFile, takeFiles } from './files.js';
 import { keptCharacters } from './characters.js';
 import { showCards } from './cards.js';
 import { embedded, fillMenu, FIRST, isNewAddress, keepEarlier, listingChanged, openFromMenu, own, readAddress, save, saving, store, through } from './kept.js';
 
-/** No delay number: every delay is typical. */
-const TYPICAL = [[], [], []];
+/** The delays that are chosen, as the option has them; without lists every delay is typical. */
+export const chosenDelays = () => delaysOf(state.delays === 'lists' ? state.lists : ['', '', '']);
 
-/** The lists of delays as numbers, or null where one is none; says so beside them. */
-export function readLists() {
-  if (state.delays !== 'lists') return TYPICAL;
-  const names = ['the computer', 'printer 4', 'printer 5'], lists = state.lists.map(list => {
-    const parts = list.trim() ? list.split(',').map(part => part.trim()) : [];
-    return parts.every(part => /^\d{1,5}$/.test(part) && Number(part) <= 65535) ? parts.map(Number) : null;
-  });
-  const bad = lists.indexOf(null);
-  $('lists-fault').textContent = bad < 0 ? '' : `The list of ${names[bad]} must be numbers from 0 to 65535, separated by commas.`;
-  return bad < 0 ? lists : null;
+/** Whether the program takes the lists of delays; where it does not, the page says beside them which one is refused, and why. */
+export async function judgeLists() {
+  const delays = chosenDelays(), bad = state.delays === 'lists' ? await ask('delays', { lists: [...state.lists] }) : null;
+  if (delays !== chosenDelays()) return true;       // (others are judged by then)
+  const names = ['the computer', 'printer 4', 'printer 5'];
+  $('lists-fault').textContent = bad ? `The list of ${names[bad.index]} must be ${bad.rule}, separated by commas.` : '';
+  return !bad;
 }
 
 export function showChoices() {
@@ -50,7 +48,7 @@ $('options').addEventListener('input', () => {
   });
   showChoices();
   editor.draw();
-  readLists();
+  judgeLists().catch(tellFailed);
   leaveSource();
   listingChanged();
 });
@@ -167,7 +165,7 @@ for (const made of all('[data-save]')) {
   made.onclick = async () => {
     const what = made.dataset.save, [ending, type] = FILES[what];
     try {
-      const bytes = await ask('text', { what, delays: state.taken || TYPICAL, part: partOf(what) });
+      const bytes = await ask('text', { what, delays: state.taken || chosenDelays(), part: partOf(what) });
       if (bytes) download(bytes, `${shownName()}.${ending}`, type);
     } catch (error) {
       tellFailed(error);

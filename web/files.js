@@ -1,29 +1,21 @@
 // Files that are dropped or opened: listings in each form, traces, recordings and a printer's bytes.
 
-import { isTextual, looksPetcat, petcatOf, refusalOf } from './listing.js';
+import { petcatOf, refusalOf } from './listing.js';
 import { $, button, decode, encode, fromBase64, toBase64 } from './basics.js';
-import { ask, clearPaper, editor, FILE_LIMIT, notice, print, showPaper, state, tellFailed, tellOnce, wave } from './page.js';
+import { ask, clearPaper, editor, FILE_LIMIT, hasWebAssembly, notice, print, showPaper, state, tellFailed, tellOnce, wave } from './page.js';
 import { cover, showWire, verdictWords } from './telling.js';
 import { file, keepEarlier, listingChanged, nameTab } from './kept.js';
-import { looksCharacters, takeCharacters } from './characters.js';
+import { takeCharacters } from './characters.js';
 import { signalFields } from './signals.js';
 import { inPageWords, pageHints } from './words.js';
 import { ready, showChoices, showTab } from './controls.js';
 
 const KINDS = { script: 'a listing', petcat: 'petcat\'s text', prg: 'a saved program', text: 'a trace', vcd: 'a Value Change Dump', csv: 'a table of samples', raw: 'a printer\'s bytes' };
 
-/** What a file seems to be, by its first bytes and its name. */
-function kindOf(bytes, name) {
-  const head = new TextDecoder('latin1').decode(bytes.subarray(0, 4096)), lines = head.split('\n').map(line => line.trim()).filter(Boolean);
-  if (looksCharacters(head)) return 'characters';
-  if (/\.vcd$/i.test(name) || /\$(timescale|var|enddefinitions)\b/.test(head)) return 'vcd';
-  if (lines.length && /^\d+ [01]{3}$/.test(lines[0])) return 'text';
-  if (/\.csv$/i.test(name) || /^[^\n]*,\s*"?(atn|clock|clk|data)"?\s*(,|$)/im.test(head)) return 'csv';
-  if (((bytes[0] === 1 && bytes[1] === 8) || /\.prg$/i.test(name)) && !isTextual(bytes)) return 'prg';
-  if (/\.petcat$/i.test(name) || (isTextual(bytes) && looksPetcat(decode(bytes)))) return 'petcat';
-  const isText = !/[\x00-\x08\x0e-\x1f\x7f-\x9f]/.test(head);
-  if (/\.bas$/i.test(name) || (isText && /^[ \t]*\d*[ \t]*(open|cmd|print|close|rem)\b/im.test(head))) return 'script';
-  return bytes.some(byte => byte < 9 || (byte > 13 && byte < 32) || byte > 126) ? 'raw' : 'script';
+/** What a file seems to be: the module says it. A name that ends in .bas is a listing's, which the program knows by no ending. */
+async function kindOf(bytes, name) {
+  if (/\.bas$/i.test(name) || !hasWebAssembly()) return 'script';
+  return ask('kind', { bytes, name });
 }
 
 export let taking = 0;     // files that are read and not yet shown (the tests wait for them)
@@ -43,9 +35,9 @@ export function takeFiles(files) {
 const LARGE = 10e6;        // bytes: a file that seems to be a printer's bytes, and is longer, is asked about first
 
 /** Shows a file as what it seems to be; a large one that may be anything only when it is asked for. */
-function takeOrAsk(bytes, name) {
-  const kind = kindOf(bytes, name), isJunk = kind === 'raw' && bytes.length > LARGE;
-  if (!isJunk) return take(bytes, name, kind);
+function takeOrAsk(bytes, name, kind) {
+  if (kind === 'disk') return tellOnce('file', `${name} is a disk image: take the program out of it first, with VICE's c1541 for example.`);
+  if (kind !== 'raw' || bytes.length <= LARGE) return take(bytes, name, kind);
   const size = `${(bytes.length / 1e6).toFixed(0)} MB`, shows = button('Print it', () => { notice('file', ''); take(bytes, name, kind); });
   notice('file', `${name} has ${size} and is no text, recording or saved program. Is it what a printer gets?`, [shows, button('Leave it', () => notice('file', ''))]);
 }
@@ -55,12 +47,11 @@ export async function takeFile(file) {
   const turn = ++taken, { source } = state, before = editor.area.value;
   taking++;
   try {
-    const bytes = new Uint8Array(await file.arrayBuffer());
+    const bytes = new Uint8Array(await file.arrayBuffer()), why = refusalOf(bytes, file.name), kind = why ? '' : await kindOf(bytes, file.name);
     // By now a later file was dropped, something was typed, or the file on show was put away.
     if (turn !== taken || source !== state.source || before !== editor.area.value) return;
-    const why = refusalOf(bytes, file.name);
     tellOnce('file', why);
-    if (!why) await takeOrAsk(bytes, file.name);
+    if (!why) await takeOrAsk(bytes, file.name, kind);
   } catch (error) {
     tellOnce('file', `${file.name} cannot be read: ${error.message}`);
   } finally {

@@ -4,6 +4,7 @@ import { $, decode, encode, fromBase64, toBase64 } from './basics.js';
 import { EARLIER_LIMIT, editor, LINK_LIMIT, LISTING_LIMIT, LONG, notice, print, state, tellOnce, wave } from './page.js';
 import { leaveReads, leaveSource, take } from './files.js';
 import { showChoices } from './controls.js';
+import { delaysOf, PRESENT, STATUS } from './asked.js';
 
 export let saving = 0, saves = 0;
 
@@ -117,10 +118,10 @@ export async function through(stream, bytes) {
 /** The state as the part of an address after `#`: the choices by their letters, and the listing, deflated, in base64url; empty for a long one. */
 async function address() {
   if (editor.text.length > 10 * LINK_LIMIT) return '';
-  const { form, printers, status, delays, lists } = state, parts = [`p=${['none', '4', '5', 'both'][printers]}`];
+  const { form, printers, status, delays, lists } = state, parts = [`p=${PRESENT[printers]}`];
   if (form !== 'text') parts.push(`f=${form}`);
-  if (status) parts.push('s=kept');
-  if (delays === 'lists') parts.push(`d=${lists.map(list => list.replace(/\s/g, '')).join('/')}`);
+  if (status) parts.push(`s=${STATUS[status]}`);
+  if (delays === 'lists') parts.push(`d=${delaysOf(lists)}`);
   const bytes = await through(new CompressionStream('deflate-raw'), encode(editor.text));
   parts.push(`t=${toBase64(bytes).replace(/\+/g, '-').replace(/\//g, '_').replace(/=+$/, '')}`);
   return parts.join('&');
@@ -132,10 +133,10 @@ export async function readAddress(hash) {
   if (!parts.has('t')) return null;
   try {
     const text = decode(await through(new DecompressionStream('deflate-raw'), fromBase64(parts.get('t').replace(/-/g, '+').replace(/_/g, '/'))));
-    const printers = ['none', '4', '5', 'both'].indexOf(parts.get('p')), delays = decodeURIComponent(parts.get('d') || '');
+    const printers = PRESENT.indexOf(parts.get('p')), delays = decodeURIComponent(parts.get('d') || '');
     const isWord = /^[a-z]*$/.test(delays);      // (earlier pages had others)
     return {
-      text, form: parts.get('f') === 'petcat' ? 'petcat' : 'text', printers: printers < 0 ? 3 : printers, status: parts.get('s') === 'kept' ? 1 : 0,
+      text, form: parts.get('f') === 'petcat' ? 'petcat' : 'text', printers: printers < 0 ? 3 : printers, status: Math.max(STATUS.indexOf(parts.get('s')), 0),
       delays: isWord ? 'typical' : 'lists', lists: isWord ? ['', '', ''] : [...delays.split('/'), '', ''].slice(0, 3),
     };
   } catch {

@@ -1,5 +1,6 @@
-// Listings as people keep them: a saved program as petcat writes it, and what a file of a listing seems to be.
-// The module reads petcat's text; what is made here is shown only where the module prints the same of it.
+// A saved program as petcat writes it, for the editor, and files that are none of what the page takes. The module reads a program
+// and petcat's text; what is made here is shown only where the module prints the same of it. Its words and names are data for
+// that and for the colours of the editor: tests/documents holds them equal to those of pr_listing.
 
 const KEYWORDS = ('end for next data input# input dim read let goto run if restore gosub return rem stop on wait load save verify def ' +
   'poke print# print cont list clr cmd sys open close get new tab( to fn spc( then not step + - * / ^ and or > = < sgn int abs usr fre ' +
@@ -72,12 +73,6 @@ export function petcatOf(file) {
   return null;
 }
 
-/** Whether a text seems to be petcat's: it has its heading, or a name in braces in a string. */
-export const looksPetcat = text => /^\s*;.*==[0-9a-f]{4}==\s*$/im.test(text.slice(0, 400)) || /"[^"\n]*\{(?:\d+ )?(?:[a-z][a-z0-9@*+-]*|\$[0-9a-f]{2})\}/i.test(text);
-
-/** Whether bytes are a text's: control codes are tabs and line ends alone. */
-export const isTextual = bytes => bytes.every(byte => byte >= 32 || byte === 9 || byte === 10 || byte === 13);
-
 /**
  * How files begin that are none of a listing, a recording and a printer's bytes.
  * @type {[RegExp, string][]}
@@ -91,13 +86,10 @@ const OTHERS = [
   [/^\0asm/, 'a WebAssembly module'], [/^SQLite format 3\0/, 'a database'], [/^\xd0\xcf\x11\xe0/, 'a document'],
   [/^C64(S)? tape|^C64-TAPE-RAW/, 'a tape image'], [/^C64 CARTRIDGE/, 'a cartridge image'],
 ];
-const DISK_SIZES = [174848, 175531, 196608, 197376];
 
 /** Why a file is none of what the page takes, in words, or nothing. */
 export function refusalOf(bytes, name) {
   if (!bytes.length) return `${name} is empty.`;
   const head = String.fromCharCode(...bytes.subarray(0, 264)), [, what] = OTHERS.find(([begins]) => begins.test(head)) || [];
-  if (what) return `${name} is ${what}: drop a listing, a saved program, a trace, a recording or a printer's bytes.`;
-  const isDisk = DISK_SIZES.includes(bytes.length);
-  return isDisk ? `${name} is a disk image: take the program out of it first, with VICE's c1541 for example.` : '';
+  return what ? `${name} is ${what}: drop a listing, a saved program, a trace, a recording or a printer's bytes.` : '';
 }

@@ -3,7 +3,7 @@
 import { $, button, decode, encode } from './basics.js';
 import { Reader } from './reader.js';
 import { partsOf, wordsAt } from './reading.js';
-import { pageHints, withCharacter } from './words.js';
+import { inPageWords, pageHints, withCharacter } from './words.js';
 import { Editor } from './editor.js';
 import { Paper } from './paper.js';
 import { spaced, Wave } from './wave.js';
@@ -21,7 +21,7 @@ export const LONG = 200000;               // characters: a longer listing is pri
 const TYPED_PAUSE = 250;                  // milliseconds of that moment
 const TYPED_AFTER = 800;                  // milliseconds after a key until a refusal of its line is shown
 export const FILE_LIMIT = 2 ** 21;        // bytes of a file that is here after a reload
-export const LISTING_LIMIT = 16777216;    // bytes of a script, as the program has it
+export const LISTING_LIMIT = 16777216;    // bytes of a script, as the program has it (tests/documents holds it equal)
 
 /** The choices beside the listing, and what the paper and the wire show: the listing, or a file (`source`). */
 export const state = { form: 'text', printers: 3, status: 0, delays: 'typical', lists: ['', '', ''], source: null, characters: null, tabs: { pages: 'sheets', wire: 'wave' } };
@@ -379,14 +379,13 @@ function tellStatuses(answer, words) {
   const places = unanswered.slice(0, 4).map(index => isKnown ? `${index + 1} (line ${lines[index] + 1})` : index + 1).join(', ');
   const others = unanswered.length > 4 ? ` and ${spaced(unanswered.length - 4)} more` : '';
   if (unanswered.length) words('', `Status 128, no device answered: statement ${places}${others}`);
-  if (answer.isTyped && state.form === 'text') tellTyped(words);
+  if (answer.typed && state.form === 'text') tellTyped(answer.typed, words);
   editor.tell(signs, titles, note);
 }
 
-/** Where strings of a script have small letters or names in braces: what they print, and the reading that has them as typed. */
-function tellTyped(words) {
-  const hint = 'Small letters print as graphics (as capitals in the lower/upper case set), and a name in braces as its letters.';
-  words('', hint).append(' ', button('Read it as petcat\'s text', () => chooseForm('petcat')));
+/** Where strings of a script have small letters or names in braces: the program's hint, and the reading that has them as typed. */
+function tellTyped(hint, words) {
+  words('', `${capital(inPageWords(hint))}.`).append(' ', button('Read it as petcat\'s text', () => chooseForm('petcat')));
 }
 
 /** Shows the screen; where that moves the listing, once no key is pressed for a while. */

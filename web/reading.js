@@ -45,7 +45,7 @@ function partsOfString(text, form) {
   for (const found of text.matchAll(pattern)) {
     if (found.index > at) parts.push({ text: text.slice(at, found.index), kind: 'string' });
     const byte = form === 'petcat' ? byteOfName(found[1]) : null;
-    const words = form === 'petcat' ? (byte === null ? '' : wordsOfByte(byte)) : 'small letters are sent as they are: graphic signs, or capitals in the lower/upper case set';
+    const words = form === 'petcat' ? (byte === null ? '' : wordsOfByte(byte)) : 'small letters, which are sent as they are';
     parts.push({ text: found[0], kind: form === 'petcat' ? 'code' : 'typed', words });
     at = found.index + found[0].length;
   }

@@ -5,7 +5,7 @@ import { hexadecimal, spaced } from './wave.js';
 import { $, all, button, encode } from './basics.js';
 import { ask, AUTOMATIC, counted, editor, fillReader, nextText, print, readers, restartWorker, state, tellFailed, wanted, wave } from './page.js';
 import { framePointed, leavePointed } from './links.js';
-import { readLists } from './controls.js';
+import { chosenDelays, judgeLists } from './controls.js';
 
 export function cover(words, actions = []) {
   const box = $('wire-cover'), text = document.createElement('p');
@@ -56,11 +56,13 @@ function coverProgress() {
 
 async function trace(version) {
   if (version !== wanted || state.source) return;
-  const { printers, status } = state, delays = readLists(), script = encode(editor.text);
-  if (!delays) {
+  if (!await judgeLists().catch(tellFailed)) {
+    if (version !== wanted || state.source) return;
     showWire(null);
     return cover('A list of delays cannot be read, so there is no trace.');
   }
+  if (version !== wanted || state.source) return;
+  const { printers, status } = state, delays = chosenDelays(), script = encode(editor.text);
   const onProgress = script.length > AUTOMATIC ? coverProgress() : null;
   tracing = performance.now();
   try {

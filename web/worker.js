@@ -2,7 +2,7 @@
 // asked; the answer goes back under the job's number. What was printed last is kept for the texts and the clicks.
 
 import { loadPrint1525 } from './module.mjs';
-import { busWords, formNumber, pagesWords, rawWords, recordingNumbers, recordingWords } from './asked.js';
+import { busWords, delaysOf, FORMS, formNumber, pagesWords, rawWords, recordingNumbers, recordingWords, SOURCES } from './asked.js';
 import { marksMore, marksOf } from './sheets.js';
 import { edgeAt, figuresOf, figuresOfText, frameLines, Frames, lineStarts, textOfEdges, turnsOf, useBounds } from './wire.js';
 
@@ -70,6 +70,50 @@ function endOf(pages) {
 function explanationOf([, , sentence = '', ...hints], { line, column, basicLine }) {
   const where = `  line ${line}, column ${column}${basicLine === null ? '' : `, BASIC line ${basicLine}`}: `;
   return { sentence: sentence.startsWith(where) ? sentence.slice(where.length) : sentence.trim(), hints: withoutForm(hints).map(hint => hint.trim()).filter(Boolean) };
+}
+
+const FRONT = 2 ** 18;                                                 // bytes by which a file is judged: more than a disk image has
+
+/** The first bytes of a file, up to the end of a line where they are not all. */
+const frontOf = bytes => (bytes.length <= FRONT ? bytes : bytes.subarray(0, bytes.lastIndexOf(10, FRONT - 1) + 1 || FRONT));
+
+/** The number of the line to which the program reads an input, which it refuses there; Infinity where it reads it to its end. */
+const readTo = ({ status, place }) => (status <= 1 ? Infinity : place);
+
+/** Whether two answers are the same, but for their messages. */
+const areSame = (one, other) => ['status', 'fault', 'place', 'column'].every(name => one[name] === other[name]) && latin(one.output) === latin(other.output);
+
+/** What a hint of an answer reads the input as: the value of the option that it names, or nothing. */
+const hinted = ({ messages }) => /--from (prg|petcat|text|vcd|csv)/.exec(text(messages))?.[1] ?? '';
+
+/** Whether the program takes bytes for a text. (It says so of a text that is to be a saved program, which no text is.) */
+const isText = front => hinted(answer(pagesWords({}, 'list', 'prg'), front, true)) === 'text';
+
+/** Which recording a file is, as the program reads it by its name or by its first bytes; or nothing where a listing is read as far. */
+function recordingKind(front, file, listing) {
+  const read = words => answer(['decode', ...words], front, true), named = read([file]), found = read([]);
+  const said = readTo(found) > readTo(named) ? found : named, source = SOURCES.find(source => areSame(read(['--from', source]), said));
+  if (readTo(said) !== listing) return readTo(said) > listing ? source : '';
+  // A table whose columns have other names, by its first line or by the name of its file.
+  const isTable = source !== 'text' && isText(front) && !text(said.messages).includes('a listing');
+  return isTable || !areSame(named, found) ? source : '';
+}
+
+/** Which form of a listing a file is, as the program reads it by its name and says in its hints; or nothing where it is none. */
+function listingKind(front, file, read) {
+  const said = read([file]), named = FORMS.find(form => areSame(read(['--from', form]), said));
+  if (named !== 'text' && hinted(said) !== 'text') return named;
+  const plain = read(['--from', 'text']), form = hinted(plain), petcat = readTo(read(['--from', 'petcat']));
+  if (form === 'prg') return form;
+  // (small letters alone may be meant as they are; braces in a string that petcat's text can have are names)
+  if (form === 'petcat' && isText(front) && (petcat > readTo(plain) || (petcat === readTo(plain) && petcat > 1 && front.includes(123)))) return form;
+  const isListing = readTo(plain) > 1 || text(answer(['check', '--from', 'text'], front, true).messages).includes('a listing');
+  return isListing ? 'script' : '';
+}
+
+/** Whether an editor can show bytes as they are. */
+function isUtf8(bytes) {
+  try { return Boolean(new TextDecoder('utf-8', { fatal: true }).decode(bytes)); } catch { return false; }
 }
 
 /** The place of a script's first fault, or null. */
@@ -176,6 +220,31 @@ const jobs = {
     return numbers;
   },
 
+  /**
+   * What a file seems to be. The program has the rules: how it reads the file by its name and its first bytes, and which option its
+   * hints name; a file is what it reads furthest.
+   */
+  kind({ bytes, name }) {
+    const front = frontOf(bytes), file = `./${name.replace(/^.*\//, '')}`, drawing = rawWords({ set: 0 }, 'svg');
+    const shapes = print1525.answer({ words: [...drawing, '--characters', 'own'], characters: bytes });
+    // (its first line and the first row of dots are a file of characters)
+    if (readTo(shapes) > 2) return 'characters';
+    const read = words => answer(['pages', ...words], front, true), listing = Math.max(...FORMS.map(form => readTo(read(['--from', form]))));
+    const kind = recordingKind(front, file, listing) || listingKind(front, file, read);
+    if (kind) return kind;
+    const told = text(answer(rawWords({ set: 0 }, 'list'), front, true).messages);
+    return told.includes('a disk') ? 'disk' : isText(front) && isUtf8(front) ? 'script' : 'raw';
+  },
+
+  /** Which of three lists of delays the program refuses, and what each has to be, in the words of its help; or null. */
+  delays({ lists }) {
+    const judge = given => answer(['bus', '--delays', delaysOf(given)], new Uint8Array(0), true), refusal = judge(lists);
+    if (!refusal.status) return null;
+    const index = lists.findIndex((_, own) => judge(lists.map((list, other) => (other === own ? list : ''))).status > 0);
+    const [, rule = ''] = /each with (numbers [^[]*?)\s*(?:\[|$)/.exec(answerOf(refusal).more.map(line => line.trim()).join(' ')) || [];
+    return { index: Math.max(index, 0), rule };
+  },
+
   /** Draws with the characters of a file from now on, or with the usual ones. */
   characters({ characters: own }) { characters = own; },
 
@@ -190,7 +259,7 @@ const jobs = {
     const pages = answer(words('svg'), script, true);
     /** @type {any} */
     const told = answerOf(pages);
-    if (pages.status <= 1) Object.assign(told, { svg: picture('script', words, script, pages, run), isTyped: [told.words, ...told.more].some(line => line.includes('--from petcat')) });
+    if (pages.status <= 1) Object.assign(told, { svg: picture('script', words, script, pages, run), typed: [told.words, ...told.more].find(line => line.includes('--from petcat'))?.trim() ?? '' });
     told.milliseconds = performance.now() - began;
     if (pages.status === 1) Object.assign(told, { statement: pages.place, told: withoutForm([told.words, ...told.more]) });
     if (pages.status === 2) {
