@@ -129,7 +129,7 @@ fn pictures_of_a_changed_character(rt: HostRuntime) {
     let shapes = with_bar();
     let page = paper(&rt, &[(0, &[cell(0, 65, false)])]);
     let bitmap = png(alloc, &shapes, &page, 0).expect(&rt, "memory");
-    let bitmap = lines(alloc, &bitmap).expect(&rt, "memory");
+    let bitmap = lines(&rt, &bitmap).expect(&rt, "memory");
     // bit 0, bit 6 and below: the bar is two pixels wide, the dot on the right is at the pixels 10 and 11
     for (line, left, right) in [(0, 63, 207), (13, 63, 255), (14, 255, 255)] {
         let seen = (pixels(&bitmap, line, 0), pixels(&bitmap, line, 1));
