@@ -23,7 +23,10 @@ PAGE = {"PRESENT": "present", "STATUS": "mode", "SETS": "set", "SOURCES": "recor
 ARRAYS = {"printers": "present", "modes": "mode", "sets": "set", "formats": "page", "traces": "trace"}
 RUST_NUMBERS = {"four": "4", "five": "5"}
 # The functions that read a value, and a number that stands for it.
-NUMBERED = {"form_for": ("read_form", "from"), "format_for": ("read_format", "page"), "source_for": ("read_source", "recording")}
+NUMBERED = {"form_for": ("read_form", "from"), "format_for": ("read_format", "page"), "source_for": ("read_source", "recording"), "check_for": ("read_report", "words")}
+# The only files with lists of values of an option: those above, and the formats that draw characters (`drawn` compares these).
+LISTED = {"include/print1525.h", "examples/python/print1525.py", "web/asked.js", "web/worker.js"}
+LIST = re.compile(r"""[\[({]\s*((?:(?:'[\w -]+'|"[\w -]+")\s*,\s*)+(?:'[\w -]+'|"[\w -]+"))\s*,?\s*[\])}]""")
 # How the page calls what ended a byte.
 ENDS = {"Acknowledged": "acknowledged", "Unacknowledged": "not acknowledged", "Attention": "ended by ATN", "ClockTimeout": "CLOCK released too long", "Cut": "cut"}
 # Options of other programs: of those in examples/, and of web/pack.mjs.
@@ -90,6 +93,29 @@ def settings():
     return wrong + numbers(numbered)
 
 
+def drawn():
+    """The formats that draw characters, and the page's buttons for printers and the status."""
+    said = re.search(r"--characters goes with --as ([^\"]*)\"", text_of("crates/pr_options/src/command_line.rt")).group(1)
+    wrong = differ("DRAWN of web/worker.js and pr_options", lists_in(text_of("web/worker.js"), "DRAWN"), re.split(r", | or ", said))
+    asked, page = text_of("web/asked.js"), text_of("web/page.html")
+    for name, given, words in (("printers", "PRESENT", {"both": "4 and 5"}), ("status", "STATUS", {"each": "cleared"})):
+        wanted = {(str(number), words.get(value, value)) for number, value in enumerate(lists_in(asked, given))}
+        buttons = set(re.findall(rf'name="{name}" value="(\d)"><span>([^<]*)</span>', page))
+        wrong += differ(f"web/page.html, {name}, and web/asked.js", sorted(buttons), sorted(wanted))
+    return wrong
+
+
+def lists(paths):
+    """Lists of two values or more of an option, where no other list is known."""
+    every, wrong = [set(it) for it in values().values()], []
+    for path in paths:
+        if not path.startswith("crates/") and path not in LISTED:
+            for found in LIST.finditer(text_of(path)):
+                items = re.findall(r"""['"]([^'"]+)['"]""", found.group(1))
+                wrong += [f"{path}: a list of an option's values: {items}"] if any(set(items) <= it for it in every) else []
+    return wrong
+
+
 def numbers(numbered):
     """The numbers of settings in pr_exports: each is the value that the option reads under the header's name."""
     reads, counts, wrong = text_of("crates/pr_options/src/option_values.rt"), text_of("crates/pr_exports/src/settings.rt"), []
@@ -97,7 +123,8 @@ def numbers(numbered):
         by_value = dict(re.findall(r'"(\w+)" => Some\((.*)\),', function(reads, reader)))
         by_number = re.findall(r"(\d+) => Some\(([A-Z].*)\),", function(counts, name))
         given = [(int(number), meant) for number, meant in by_number]
-        wanted = [(number, by_value[value]) for number, value in enumerate(numbered[setting]) if value in by_value]
+        by_value.setdefault("list", by_value.get("frames"))
+        wanted = [(number, by_value[value]) for number, value in enumerate(numbered[setting]) if by_value.get(value)]
         wrong += differ(f"pr_exports, {name}, and the header", given, wanted)
     return wrong
 
@@ -152,4 +179,4 @@ def options(strings):
 
 def wrong(strings):
     """What differs, in words; `strings` are those of the code, each its file, line, what is before it and its text."""
-    return [*settings(), *listings(), *wave(), *hints(), *options(strings)]
+    return [*settings(), *drawn(), *lists(sorted({path for path, *_ in strings})), *listings(), *wave(), *hints(), *options(strings)]
