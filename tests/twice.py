@@ -162,7 +162,7 @@ def wave():
 def hints():
     """The page's own words for hints: each of them is for words that a crate says."""
     said = re.sub(r"\s*\\\n\s*", " ", "\n".join(text_of(f"crates/{it}") for it in (
-        "pr_cli/src/told.rt", "pr_explain/src/faults.rt", "pr_explain/src/trace_text.rt", "pr_explain/src/names.rt", "pr_explain/src/stops.rt",
+        "pr_cli/src/told.rt", "pr_explain/src/faults.rt", "pr_explain/src/scripts.rt", "pr_explain/src/trace_text.rt", "pr_explain/src/names.rt", "pr_explain/src/stops.rt",
         "pr_report/src/oddities.rt", "pr_options/src/command_line.rt")))
     said = said.replace("bad --{0}", "bad --names x")
     table = re.search(r"const WORDS = \[(.*?)^\];", text_of("web/words.js"), re.S | re.M).group(1)
