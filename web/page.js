@@ -272,6 +272,8 @@ export function showPaper(svg) {
   if (isNew) paper.show('');
   $('no-sheet').hidden = !isNew && (!paper.picture || paper.picture.sheets.length > 0);
   $('no-sheet').textContent = emptyWords();
+  // (the words are at the left edge, wherever the sheets before were seen)
+  if (!$('no-sheet').hidden) $('sheets').scrollTo(0, 0);
   paper.room.hidden = !paper.picture || !(paper.picture.sheets.length || paper.picture.notes);
   for (const what of ['lines', 'list']) readers[what].stale = nextText();
   fillReader(state.tabs.pages);

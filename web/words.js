@@ -26,6 +26,7 @@ const WORDS = [
   [/use --from text/, 'read it as a trace'],
   [/pages prints it, bus writes its trace/, 'read it as a listing'],
   [/; --from petcat reads both as typed/, ''],
+  [/the letter \S+, as UTF-8 has it, is/, 'this letter is'],
   [/raw --set lower prints them/, 'choose that character set'],
   [/with --set lower in that of the first byte/, 'with the lower/upper case set in that of the first byte'],
   [/write the table with -O csv:label=channel/, 'write the table again with sigrok-cli -O csv:label=channel, or as a Value Change Dump'],

@@ -84,18 +84,31 @@ const readTo = ({ status, place }) => (status <= 1 ? Infinity : place);
 const areSame = (one, other) => ['status', 'fault', 'place', 'column'].every(name => one[name] === other[name]) && latin(one.output) === latin(other.output);
 
 /** What a hint of an answer reads the input as: the value of the option that it names, or nothing. */
-const hinted = ({ messages }) => /--from (prg|petcat|text|vcd|csv)/.exec(text(messages))?.[1] ?? '';
+const hinted = ({ messages }) => /^  (?:this|strings) .*--from (\w+)/m.exec(text(messages))?.[1] ?? '';
+
+/** Whether a hint of an answer says that the input looks like something. */
+const looksLike = ({ messages }, what) => new RegExp(`^  this looks like ${what}`, 'm').test(text(messages));
+
+/** What a subcommand says of an input for some words: asked once for the same words. */
+function reading(command, front) {
+  const said = new Map();
+  return words => {
+    const key = words.join(' ');
+    if (!said.has(key)) said.set(key, answer([command, ...words], front, true));
+    return said.get(key);
+  };
+}
 
 /** Whether the program takes bytes for a text. (It says so of a text that is to be a saved program, which no text is.) */
 const isText = front => hinted(answer(pagesWords({}, 'list', 'prg'), front, true)) === 'text';
 
 /** Which recording a file is, as the program reads it by its name or by its first bytes; or nothing where a listing is read as far. */
 function recordingKind(front, file, listing) {
-  const read = words => answer(['decode', ...words], front, true), named = read([file]), found = read([]);
+  const read = reading('decode', front), named = read([file]), found = read([]);
   const said = readTo(found) > readTo(named) ? found : named, source = SOURCES.find(source => areSame(read(['--from', source]), said));
   if (readTo(said) !== listing) return readTo(said) > listing ? source : '';
   // A table whose columns have other names, by its first line or by the name of its file.
-  const isTable = source !== 'text' && isText(front) && !text(said.messages).includes('a listing');
+  const isTable = source !== 'text' && isText(front) && !looksLike(said, 'a listing');
   return isTable || !areSame(named, found) ? source : '';
 }
 
@@ -107,7 +120,7 @@ function listingKind(front, file, read) {
   if (form === 'prg') return form;
   // (small letters alone may be meant as they are; braces in a string that petcat's text can have are names)
   if (form === 'petcat' && isText(front) && (petcat > readTo(plain) || (petcat === readTo(plain) && petcat > 1 && front.includes(123)))) return form;
-  const isListing = readTo(plain) > 1 || text(answer(['check', '--from', 'text'], front, true).messages).includes('a listing');
+  const isListing = readTo(plain) > 1 || looksLike(answer(['check', '--from', 'text'], front, true), 'a listing');
   return isListing ? 'script' : '';
 }
 
@@ -229,11 +242,11 @@ const jobs = {
     const shapes = print1525.answer({ words: [...drawing, '--characters', 'own'], characters: bytes });
     // (its first line and the first row of dots are a file of characters)
     if (readTo(shapes) > 2) return 'characters';
-    const read = words => answer(['pages', ...words], front, true), listing = Math.max(...FORMS.map(form => readTo(read(['--from', form]))));
+    const read = reading('pages', front), listing = Math.max(...FORMS.map(form => readTo(read(['--from', form]))));
     const kind = recordingKind(front, file, listing) || listingKind(front, file, read);
     if (kind) return kind;
-    const told = text(answer(rawWords({ set: 0 }, 'list'), front, true).messages);
-    return told.includes('a disk') ? 'disk' : isText(front) && isUtf8(front) ? 'script' : 'raw';
+    const isDisk = looksLike(answer(rawWords({ set: 0 }, 'list'), front, true), 'an image of a disk');
+    return isDisk ? 'disk' : isText(front) && isUtf8(front) ? 'script' : 'raw';
   },
 
   /** Which of three lists of delays the program refuses, and what each has to be, in the words of its help; or null. */

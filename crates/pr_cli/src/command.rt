@@ -5,7 +5,8 @@ ghost use Rattle.std.specs.Prelude.{◌≡◌};
 use crate::answers::{Manner, answer_task, tell};
 use crate::meant::meant;
 use crate::refusals::{refuse, refuse_task, refuse_word};
-use crate::statuses::End;
+use crate::statuses::{End, is_answered};
+use crate::told::{ending_hint, show_hint};
 use pr_jobs::CliFault;
 use pr_options::{explains, read_task};
 use std::alloc::{AllocError, Global};
@@ -94,7 +95,12 @@ fn answer_words(
                 is_watched: terminals.error,
                 is_seen: terminals.output,
             };
-            Ok(answer_task(rt, task, manner))
+            let hint = ending_hint(texts.as_slice(), &task);
+            let status = answer_task(rt, task, manner);
+            if is_explained && is_answered(status) {
+                show_hint(rt, hint);
+            }
+            Ok(status)
         }
         Err(fault) => Ok(refuse_task(rt, texts.as_slice(), fault, is_explained)?.status()),
     }

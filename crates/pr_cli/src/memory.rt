@@ -7,7 +7,8 @@ use crate::answers::{answer_given, tell};
 use crate::meant::meant;
 use crate::outside::Outside;
 use crate::refusals::refuse_task;
-use crate::statuses::End;
+use crate::statuses::{End, is_answered};
+use crate::told::{ending_hint, show_hint};
 use pr_jobs::CliFault;
 use pr_options::{explains, read_task};
 use std::alloc::{AllocError, Global};
@@ -156,7 +157,14 @@ fn answer_words(
     let texts = meant(alloc, words)?;
     let is_explained = is_explained || explains(texts.as_slice());
     match read_task(alloc, texts.as_slice()) {
-        Ok(task) => Ok(answer_given(memory, task, is_explained, input, characters)),
+        Ok(task) => {
+            let hint = ending_hint(texts.as_slice(), &task);
+            let (end, output) = answer_given(memory, task, is_explained, input, characters);
+            if is_explained && is_answered(end.status()) {
+                show_hint(memory, hint);
+            }
+            Ok((end, output))
+        }
         Err(fault) => {
             let end = refuse_task(memory, texts.as_slice(), fault, is_explained)?;
             let printed = match (end, memory.output.try_replace(Vec::new(alloc))) {

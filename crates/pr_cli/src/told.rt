@@ -1,7 +1,7 @@
 //! What more there is to say of a job's input, on standard error.
 
 use pr_basic::{ScriptFault, StatusMode, cut_line};
-use pr_capture::{Source, TraceInput};
+use pr_capture::{Source, TraceFormat, TraceInput};
 use pr_explain::{
     explain_line, explain_reading, explain_script, explain_stop, explain_trace, remark_on,
 };
@@ -10,9 +10,10 @@ use pr_listing::{
     ListingFault, ListingForm, TextFault, has_typed_strings, looks_like_disk, looks_like_text,
     looks_saved,
 };
-use pr_options::Job;
+use pr_options::{CheckOutput, DecodeOutput, Job, PagesOutput, Task};
 use pr_recording::Heard;
-use pr_report::{Oddities, push_oddities};
+use pr_render::Format;
+use pr_report::{Oddities, Report, push_oddities};
 use pr_serial::Present;
 use std::alloc::{AllocError, Global};
 
@@ -59,6 +60,62 @@ const BOTH_SETS: &str =
 const BOTH_SETS_LOWER: &str =
     "the character set changes after the first byte: raw prints all bytes in one set, \
      with --set lower in that of the first byte";
+
+/// What is said of an output whose name has an ending that says no format.
+const OTHER_ENDING: &str =
+    "no format has the ending of the output's name, so the output is in the default format: \
+     --as FORMAT chooses another";
+
+/// The endings that this project's own texts of the default formats have.
+const OWN_ENDINGS: [&str; 4] = [".page", ".trace", ".frames", ".txt"];
+
+/// What is said of the name of a task's output: nothing where the words or its ending say the format.
+pub fn ending_hint(words: &[&str], task: &Task<'_>) -> Option<&'static str> {
+    match task.output {
+        Some(name) if is_default(&task.job) && !say_format(words) && has_other_ending(name) => {
+            Some(OTHER_ENDING)
+        }
+        _ => None,
+    }
+}
+
+/// Whether a job writes the format that it has where nothing says one. No ending says that format.
+fn is_default(job: &Job<'_>) -> bool {
+    match job {
+        Job::Pages(_, _, _, _, output) => *output == PagesOutput::Pages(Format::List),
+        Job::Bus(_, _, _, _, format) => *format == TraceFormat::Text,
+        Job::Check(_, output) => *output == CheckOutput::Report(Report::Frames),
+        Job::Decode { output, .. } => matches!(output, DecodeOutput::Readings(_)),
+        Job::Raw { format, .. } => *format == Format::List,
+    }
+}
+
+/// Whether one of the words is the option that says a format.
+fn say_format(words: &[&str]) -> bool {
+    for word in words {
+        if *word == "--as" || word.starts_with("--as=") {
+            return true;
+        }
+    }
+    false
+}
+
+/// Whether the name of a file has an ending that none of this project's own texts has.
+fn has_other_ending(name: &str) -> bool {
+    for ending in OWN_ENDINGS {
+        if name.ends_with(ending) {
+            return false;
+        }
+    }
+    let file = match name.rsplit_once('/') {
+        Some((_, file)) => file,
+        None => name,
+    };
+    match file.rsplit_once('.') {
+        Some((front, ending)) => !front.is_empty() && !ending.is_empty(),
+        None => false,
+    }
+}
 
 /// Reports what the bytes of a printer do not say, if there is anything, in one line on standard error.
 pub fn tell_heard(rt: &impl Eprint, heard: Heard) {
@@ -175,12 +232,27 @@ fn script_hint(
         Err(CliFault::Script(_)) if form == ListingForm::Text && looks_saved(script) => {
             Some(SAVED_PROGRAM)
         }
-        Err(CliFault::Script(_)) if form == ListingForm::Text && may_be_petcat(script) => {
+        Err(CliFault::Script(fault))
+            if form == ListingForm::Text && may_be_petcat(script) && !is_letter(script, fault) => {
             Some(PETCAT_TEXT)
         }
         Ok(_) if form == ListingForm::Text && is_typed(script) => Some(TYPED_STRINGS),
         _ => None,
     }
+}
+
+/// Whether a script is refused for a letter of another language in a string, or another byte that petcat's text has
+/// neither: the first byte of its line that is none of ASCII's visible ones is above them.
+fn is_letter(script: &[u8], fault: ScriptFault) -> bool {
+    let ScriptFault::BadByte(number) = fault else {
+        return false;
+    };
+    for byte in line_numbered(script, number) {
+        if !matches!(*byte, b'\t' | b' '..=b'~') {
+            return *byte > b'~';
+        }
+    }
+    false
 }
 
 /// Whether a script that is refused may be petcat's text: its heading is a line that begins with `;`.
@@ -229,7 +301,7 @@ pub fn tell_listing(rt: &impl Eprint, bytes: &[u8], fault: TextFault) {
 }
 
 /// Writes a hint on standard error, if there is one.
-fn show_hint(rt: &impl Eprint, hint: Option<&'static str>) {
+pub fn show_hint(rt: &impl Eprint, hint: Option<&'static str>) {
     if let Some(hint) = hint {
         let _ = rt.eprintln(format_args!("  {hint}"));
     }

@@ -9,6 +9,8 @@ use crate::names::{
     separator_of,
 };
 use crate::texts::{Cut, line_with, without_end};
+use crate::words::begins_listing;
+use pr_base::digit_count;
 use pr_capture::{CaptureFault, Signals, Source, TraceInput, Wire};
 use pr_jobs::CliFault;
 use pr_wire::{NoMemory, TraceFault};
@@ -23,6 +25,12 @@ const LIKE_SIGROK: &str =
 
 /// What a message says of a line with a separator of fields.
 const LIKE_TABLE: &str = "this looks like a table: use --from csv";
+
+/// What a message says of a line that begins as those of a listing do.
+const LIKE_LISTING: &str = "this looks like a listing: pages prints it, bus writes its trace";
+
+/// What a message says of a line of a trace text.
+const LIKE_TRACE: &str = "this looks like a trace text: use --from text";
 
 /// What a message says of a table in which sigrok-cli calls each signal `logic`.
 const UNITS: &str =
@@ -125,7 +133,10 @@ pub fn push_fault(
         (CliFault::Capture(CaptureFault::NoSignal(_, wire)), Source::Csv) => {
             push_columns(text, line, wire, signals)
         }
-        (CliFault::Capture(fault), Source::Vcd) => { write!(text, "  {}\n", rule_of_dumps(fault)) }
+        (CliFault::Capture(fault), Source::Vcd) => {
+            let rule = no_dump_hint(bytes, fault).unwrap_or(rule_of_dumps(fault));
+            write!(text, "  {rule}\n")
+        }
         (CliFault::Capture(CaptureFault::NoTime(_)), Source::Csv) => {
             write!(text, "  {}\n", rule_of_times(line))
         }
@@ -168,6 +179,9 @@ fn push_columns(
     }
     if line.starts_with(b"$") {
         return write!(text, "  {LIKE_DUMP}\n");
+    }
+    if let Some(hint) = no_table_hint(line) {
+        return write!(text, "  {hint}\n");
     }
     let Some(separator) = separator_of(line) else {
         return write!(
@@ -278,12 +292,40 @@ fn push_text_rule(text: &mut String, line: &[u8]) -> Result<(), NoMemory> {
     }
 }
 
+/// What a line looks like that is to name the columns of a table, where it is one of a trace text or of a listing.
+fn no_table_hint(line: &[u8]) -> Option<&'static str> {
+    if is_of_trace(line) {
+        Some(LIKE_TRACE)
+    } else if begins_listing(line) {
+        Some(LIKE_LISTING)
+    } else {
+        None
+    }
+}
+
+/// What a dump without definitions looks like, where its first line is one of a trace text.
+fn no_dump_hint(bytes: &[u8], fault: CaptureFault) -> Option<&'static str> {
+    match fault {
+        CaptureFault::NoDefinitions(_) if is_of_trace(line_with(bytes, 1)) => Some(LIKE_TRACE),
+        _ => None,
+    }
+}
+
+/// Whether a line is one of a trace text: a time, a space and a level of each line.
+fn is_of_trace(line: &[u8]) -> bool {
+    let line = without_end(line);
+    let time = digit_count(line);
+    time > 0 && matches!(&line[time..], [b' ', b'0' | b'1', b'0' | b'1', b'0' | b'1'])
+}
+
 /// Which format a line looks like that is not one of a trace text.
 fn hint_of(line: &[u8]) -> Option<&'static str> {
     if line.starts_with(b"$") {
         Some(LIKE_DUMP)
     } else if line.starts_with(b"META samplerate:") {
         Some(LIKE_SIGROK)
+    } else if begins_listing(line) {
+        Some(LIKE_LISTING)
     } else if separator_of(line).is_some() {
         Some(LIKE_TABLE)
     } else {

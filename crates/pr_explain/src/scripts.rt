@@ -173,6 +173,9 @@ fn push_place(
         Problem::Expected(wanted) => push_expected(text, wanted, word_in(line))?,
         Problem::Limit(limit) => write!(text, ": {limit}\n")?,
     }
+    if cut_before(line.before).is_in_string {
+        push_letter(text, line.rest)?;
+    }
     if let Some(advice) = advice_at(line.before, line.rest, fault) {
         write!(text, "  {advice}\n")?;
     }
@@ -200,6 +203,38 @@ fn word_in(line: CutLine<'_>) -> &[u8] {
         word_at(line.rest).len
     };
     &line.rest[..len]
+}
+
+/// Adds that the letter in front is none of the C64, by its bytes, where it is none of ASCII.
+fn push_letter(text: &mut String, rest: &[u8]) -> Result<(), NoMemory> {
+    let letter = letter_in(rest);
+    match letter {
+        [127..=255] => write!(
+            text,
+            "  the byte {} is no character of the C64 as typed\n",
+            Escaped(letter)
+        ),
+        [127..=255, ..] => write!(
+            text,
+            "  the letter {}, as UTF-8 has it, is no character of the C64 as typed\n",
+            Escaped(letter)
+        ),
+        _ => Ok(()),
+    }
+}
+
+/// The letter in front as UTF-8 has it, or else the byte; nothing at the end.
+fn letter_in(rest: &[u8]) -> &[u8] {
+    let len = match rest {
+        [0xc2..=0xdf, _, ..] => 2,
+        [0xe0..=0xef, _, _, ..] => 3,
+        [0xf0..=0xf4, _, _, _, ..] => 4,
+        _ => return &rest[..rest.len().min(1)],
+    };
+    match str::from_utf8(&rest[..len]) {
+        Ok(_) => &rest[..len],
+        Err(_) => &rest[..1],
+    }
 }
 
 /// Adds how to write a word: without spaces, as a string if it is a number to print, or in another

@@ -2,6 +2,7 @@
 
 ghost use Rattle.std.specs.Prelude.{◌≤◌, length, IfSome};
 
+use pr_base::digit_count;
 use pr_basic::lexeme_at;
 
 /// The most letters and digits of a word that is no word of BASIC (profile).
@@ -53,6 +54,11 @@ impl Word {
         }
     }
 
+    /// Whether it is a word of BASIC that this profile does not have.
+    fn is_foreign(self) -> bool {
+        matches!(self.kind, WordKind::Foreign(_))
+    }
+
     /// Whether a statement begins with it.
     pub fn begins_statement(self) -> bool {
         matches!(self.kind, WordKind::Keyword(word) if word != "CHR$")
@@ -78,6 +84,24 @@ pub fn word_at(rest: &[u8]) -> Word
         None => 0,
     };
     Word { kind, len }
+}
+
+/// Whether a line begins as one of a listing does: with a word that begins a statement, or with a line's number and any word
+/// of BASIC. A separator of fields after the word makes it the name of a column. A byte order mark may come before.
+pub fn begins_listing(line: &[u8]) -> bool {
+    let line = match line {
+        [0xef, 0xbb, 0xbf, marked @ ..] => after_blanks(marked),
+        plain => after_blanks(plain),
+    };
+    let digits = digit_count(line);
+    let rest = after_blanks(&line[digits..]);
+    let word = word_at(rest);
+    let is_basic = word.begins_statement() || (digits > 0 && word.is_foreign());
+    match &rest[word.len..] {
+        [b',' | b';' | b'\t', ..] => false,
+        [next, ..] => is_basic && !next.is_ascii_alphabetic(),
+        [] => is_basic,
+    }
 }
 
 /// Whether there is a number in front.
