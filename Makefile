@@ -175,7 +175,7 @@ manual:
 $(LLVM_MODULES) &: $(SOURCES) tools/crates.py tools/llvm.py tools/port/modules
 	@tools/port/modules $(LLVM) $(PART_CRATES) print1525
 
-PORT_TOOLS := $(LLVM_MODULES) tools/llvm.py $(wildcard tools/port/*) $(wildcard include/*.[ch])
+PORT_TOOLS := $(LLVM_MODULES) tools/llvm.py $(wildcard tools/port/* tools/port/mac/*) $(wildcard include/*.[ch])
 
 $(PORT)/universal/made: $(PORT)/arm64-macos/made $(PORT)/x86_64-macos/made
 	@tools/port/build.py universal $(PORT)/arm64-macos $(PORT)/x86_64-macos $(@D) && touch $@

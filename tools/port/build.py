@@ -5,6 +5,7 @@ modules MODULES/CRATE.ll:
     FOLDER/lib/libprint1525.a           and the shared library: libprint1525.so.V (Linux), libprint1525.1.dylib (macOS) or
                                         print1525.dll with print1525.def and its import libraries (Windows)
     FOLDER/bin/print1525 or .exe        but for macOS, of which nothing here can run a program
+    FOLDER.objects/                     the objects of all that, which tests/platforms links once more
 
        build.py universal ONE OTHER FOLDER: makes the libraries of two folders for macOS, of one processor each, libraries of both
 
@@ -14,7 +15,6 @@ import os
 import re
 import shutil
 import sys
-import tempfile
 
 HERE = os.path.dirname(os.path.abspath(__file__))
 sys.path[:0] = [HERE, os.path.dirname(HERE)]
@@ -42,8 +42,8 @@ def tool(name):
     return found[0] if found else llvm.stop(f"wants {name} (Debian's packages lld and llvm)")
 
 
-def with_slashes(path):
-    """A program's own folder does not show in what is made."""
+def without_place():
+    """The word by which the folder of this repository does not show in what is made."""
     return f"-ffile-prefix-map={crates.ROOT}=."
 
 
@@ -113,17 +113,17 @@ def program_module(platform, modules):
     return text
 
 
-def program(platform, modules, heap, folder, work, more=()):
-    """The program: its module, the heap, and what it calls of its system; with further words of the linker for tests. It wants no library
-    that a system may lack."""
+def program(platform, work, folder, more=()):
+    """The program of a folder of objects: its module, the heap, and what it calls of its system; with further words of the linker for
+    tests. It wants no library that a system may lack."""
     os.makedirs(f"{folder}/bin", exist_ok=True)
-    made = platforms.compile_module(program_module(platform, modules), platform, f"{work}/program.o")
-    words = [*platform.compiler, *C_WORDS[1:], with_slashes(HERE), "-static", "-s", "-Wl,--gc-sections", *more]
+    words = [*platform.compiler, *C_WORDS[1:], without_place(), "-static", "-s", "-Wl,--gc-sections", *more]
+    parts = [f"{HERE}/{platform.system}.c", f"{work}/program.o", f"{work}/heap.o"]
     if platform.system == "windows":
-        words += ["-Wl,--no-insert-timestamp", "-Wl,--stack,8388608", f"{HERE}/windows.c", made, heap, "-lshell32"]
+        words += ["-Wl,--no-insert-timestamp", "-Wl,--stack,8388608", *parts, "-lshell32"]
         llvm.run([*words, "-o", f"{folder}/bin/print1525.exe"])
     else:
-        llvm.run([*words, "-Wl,--build-id=none", f"{HERE}/linux.c", made, heap, "-o", f"{folder}/bin/print1525"])
+        llvm.run([*words, "-Wl,--build-id=none", *parts, "-o", f"{folder}/bin/print1525"])
 
 
 def universal(one, other, folder):
@@ -136,14 +136,17 @@ def universal(one, other, folder):
 
 
 def build(platform, modules, folder):
-    shutil.rmtree(folder, ignore_errors=True)
+    work = f"{folder}.objects"
+    for it in (folder, work):
+        shutil.rmtree(it, ignore_errors=True)
     os.makedirs(f"{folder}/lib")
-    with tempfile.TemporaryDirectory() as work:
-        parts = objects(platform, modules, work)
-        archive(platform, parts, f"{folder}/lib")
-        SHARED[platform.system](platform, parts, f"{folder}/lib", work)
-        if platform.has_program:
-            program(platform, modules, parts[0], folder, work)
+    os.makedirs(work)
+    parts = objects(platform, modules, work)
+    archive(platform, parts, f"{folder}/lib")
+    SHARED[platform.system](platform, parts, f"{folder}/lib", work)
+    if platform.has_program:
+        platforms.compile_module(program_module(platform, modules), platform, f"{work}/program.o")
+        program(platform, work, folder)
 
 
 def main(words):

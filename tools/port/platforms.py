@@ -121,15 +121,10 @@ def for_platform(text, platform):
 
 def with_names(text, roots):
     """A module whose exports have the library's names; those that the header does not declare are none any more."""
-    exports = re.findall(r"^define void @print1525_(\w+)\(", text, re.M)
-    if not exports:
+    if not re.search(r"^define void @print1525_", text, re.M):
         llvm.stop("a module has no export")
-    for it in exports:
-        if it in roots:
-            text = re.sub(rf"@print1525_{it}\(", f"@print1525_plain_{it}(", text)
-        else:
-            text = re.sub(rf"^define void @print1525_{it}\(", f"define internal void @print1525_{it}(", text, flags=re.M)
-    return text
+    text = re.sub(r"@print1525_(\w+)\(", lambda found: f"@print1525_plain_{found[1]}(" if found[1] in roots else found[0], text)
+    return re.sub(r"^define void @print1525_(?!plain_)", "define internal void @print1525_", text, flags=re.M)
 
 
 def imports(text):

@@ -1,0 +1,8 @@
+/* What the library as one C file needs of C's library for strings where none is here. */
+#ifndef MINI_STRING_H
+#define MINI_STRING_H
+#include <stddef.h>
+void *memcpy(void *to, const void *from, size_t size);
+void *memmove(void *to, const void *from, size_t size);
+void *memset(void *to, int byte, size_t size);
+#endif
