@@ -265,10 +265,14 @@ abbrev pub KeepsTrace : CheckOutput → Option (List ℕ) → Option (List ℕ) 
 KeepsTrace (checked.Report r) old new result = WritesNoReport r old new result
 KeepsTrace checked.Json old new result = Unit {0}
 
+-- the same for an answer of a run, which is no other than such an answer
+abbrev pub KeepsRun : (located : Bool) → Option (List ℕ) → Option (List ℕ) → Result Answer CliFault → Type 0
+KeepsRun located old new result = IsRan located (WritesNoEdge old new) (WritesNoEdge old new) result
+
 -- a refusal leaves the writer's bytes as they were, unless the job's subcommand writes while it reads
-abbrev pub KeepsOutput : Job → Option (List ℕ) → Option (List ℕ) → Result Answer CliFault → Type 0
-KeepsOutput (Pages form present delays mode output) old new result = WritesNothing old new result
-KeepsOutput (Bus form present delays mode f) old new result = WritesNoEdge old new result
-KeepsOutput (Check input output) old new result = IsDone (KeepsTrace output old new) result
-KeepsOutput (Decode is_found input output) old new result = Unit {0}
-KeepsOutput (Raw lower f) old new result = WritesNothing old new result
+abbrev pub KeepsOutput : (located : Bool) → Job → Option (List ℕ) → Option (List ℕ) → Result Answer CliFault → Type 0
+KeepsOutput located (Pages form present delays mode output) old new result = WritesNothing old new result
+KeepsOutput located (Bus form present delays mode f) old new result = KeepsRun located old new result
+KeepsOutput located (Check input output) old new result = IsDone (KeepsTrace output old new) result
+KeepsOutput located (Decode is_found input output) old new result = Unit {0}
+KeepsOutput located (Raw lower f) old new result = WritesNothing old new result

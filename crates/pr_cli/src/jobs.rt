@@ -5,7 +5,7 @@ ghost use Rattle.pr_jobs.specs.Bus.{AnswersBus, WritesNoEdge};
 ghost use Rattle.pr_jobs.specs.Pages.{AnswersPages, IsPagesFault, IsRunFault, ReadsToEnd, WritesNothing};
 ghost use Rattle.pr_jobs.specs.Report.{IsReportFault, ReadsAll, WritesNoReport};
 ghost use Rattle.pr_input.specs.Watched.{has_failed, is_flushed, wrapped};
-ghost use Rattle.pr_cli.specs.Jobs.{AnswersFrames, AnswersJob, AnswersPrinted, AnswersRecording, AnswersRun, AnswersTrace, AnswersTraced, IsJobFault, IsPrintFault, IsRecordingFault, KeepsOutput, KeepsTrace, ReadsInput, ReadsRecording, ReadsTrace, found_job, restarted_job};
+ghost use Rattle.pr_cli.specs.Jobs.{AnswersFrames, AnswersJob, AnswersPrinted, AnswersRecording, AnswersRun, AnswersTrace, AnswersTraced, IsJobFault, IsPrintFault, IsRecordingFault, KeepsOutput, KeepsRun, KeepsTrace, ReadsInput, ReadsRecording, ReadsTrace, found_job, restarted_job};
 
 use pr_capture::{Source, TraceFormat, TraceInput, found_source};
 use pr_dots::Shapes;
@@ -116,7 +116,8 @@ pub fn do_job<R: Read, W: Write>(
     ensures at_end { ReadsInput job.entry (R.remaining (wrapped input.new)) result }
     ensures flushed { OnOk result (is_flushed output.new ≡ true) }
     // when it refuses, and what that leaves
-    ensures nothing { KeepsOutput job.entry (W.contents (wrapped output.old)) (W.contents (wrapped output.new)) result }
+    ensures nothing { KeepsOutput is_located job.entry
+        (W.contents (wrapped output.old)) (W.contents (wrapped output.new)) result }
     ensures own { IfErr result (IsJobFault job.entry) }
     ensures read_failed { IsErrOf result CliFault.ReadFailed ↔ (has_failed input.new ≡ true) }
     ensures write_failed { IsErrOf result CliFault.WriteFailed ↔ (has_failed output.new ≡ true) }
@@ -282,7 +283,7 @@ fn trace_run<R: Read, W: Write>(
     ensures at_end { ReadsToEnd (R.remaining (wrapped input.new)) result }
     ensures flushed { OnOk result (is_flushed output.new ≡ true) }
     // when it refuses, and what that leaves
-    ensures nothing { WritesNoEdge (W.contents (wrapped output.old)) (W.contents (wrapped output.new)) result }
+    ensures nothing { KeepsRun is_located (W.contents (wrapped output.old)) (W.contents (wrapped output.new)) result }
     ensures memory { IfErr result IsRunFault }
     ensures read_failed { IsErrOf result CliFault.ReadFailed ↔ (has_failed input.new ≡ true) }
     ensures write_failed { IsErrOf result CliFault.WriteFailed ↔ (has_failed output.new ≡ true) }

@@ -172,6 +172,15 @@ pub begun_text : (f : TraceFormat) (w : TraceWriter) (edges first : List Edge) (
     → text_so_far f first ≡ text ++ edges_in (format_of w) (last_of w) edges
 begun_text f w edges first text same is a b = rw (same, is, a, b) refl
 
+-- a writer and what is written when the first edges are: what comes before them, and their text
+pub first_written : VcdAddsUp → (f : TraceFormat) (v w : TraceWriter) (edges first : List Edge) (head : List ℕ) (old mid now : Option (List ℕ)) → first ≡ edges → head ≡ head_in f → format_of v ≡ f → last_of v ≡ None
+    → Appends old mid head → Appends mid now (edges_in (format_of v) (last_of v) edges) → format_of w ≡ format_of v → last_of w ≡ last_in (format_of v) (last_of v) edges
+    → HasWritten f first w × Appends old now (text_so_far f first)
+first_written law f v w edges first head old mid now same is a b h k c d = (
+  written_more law f v w [] edges first same (written_none f v a b) c d,
+  appends_more old mid now head (edges_in (format_of v) (last_of v) edges) (text_so_far f first) (begun_text f v edges first head same is a b) h k,
+)
+
 -- what follows all edges
 pub ended_text : (f : TraceFormat) (w : TraceWriter) (edges : List Edge) (text : List ℕ) → HasWritten f edges w → text ≡ end_in (format_of w) (last_of w)
     → trace_in f edges ≡ text_so_far f edges ++ text

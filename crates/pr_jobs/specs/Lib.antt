@@ -7,6 +7,7 @@ pub mod Tables
 pub mod Faults
 pub mod FrameText
 pub mod Check
+pub mod Does
 pub mod Characters
 pub mod Raw
 pub mod Printed

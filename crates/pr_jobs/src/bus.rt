@@ -7,6 +7,7 @@ ghost use Rattle.pr_bus.specs.DelaysLeft.{numbers_left};
 ghost use Rattle.pr_system.specs.RunningState.{begun, next_effect, stepped_by, trace_before};
 ghost use Rattle.pr_system.specs.StepByStep.{stepped_through};
 ghost use Rattle.pr_jobs.specs.Bus.{AnswersBus, AnswersBusAs, WritesNoEdge};
+ghost use Rattle.pr_jobs.specs.Does.{AreFresh, DoesJob};
 ghost use Rattle.pr_jobs.specs.Pages.{IsRunFault, ReadsToEnd};
 ghost use Rattle.pr_jobs.specs.Runs.{run_end, start_of};
 ghost use Rattle.pr_jobs.specs.Traced.{AddsEdges, GivesText, GivesTrace, WritesOn, edges_in, format_of, last_in, last_of};
@@ -54,19 +55,15 @@ pub fn bus_as_over<R: Read, W: Write>(
     format: TraceFormat,
 ) -> Result<RunEnd, CliFault>
     // the caller's part
-    requires input { has_failed input.old ≡ false }
-    requires output { has_failed output.old ≡ false }
+    requires fresh { AreFresh input.old output.old }
     // what it gives
     ensures bus { IfSome (R.remaining (wrapped input.old)) (λ script.
         AnswersBusAs start format script
         (W.contents (wrapped output.old)) (W.contents (wrapped output.new)) result) }
     ensures at_end { ReadsToEnd (R.remaining (wrapped input.new)) result }
-    ensures flushed { OnOk result (is_flushed output.new ≡ true) }
     // when it refuses, and what that leaves
     ensures nothing { WritesNoEdge (W.contents (wrapped output.old)) (W.contents (wrapped output.new)) result }
-    ensures memory { IfErr result IsRunFault }
-    ensures read_failed { IsErrOf result CliFault.ReadFailed ↔ (has_failed input.new ≡ true) }
-    ensures write_failed { IsErrOf result CliFault.WriteFailed ↔ (has_failed output.new ≡ true) }
+    ensures does { DoesJob IsRunFault input.new output.new result }
 {
     steps_make_the_run();
     let script = read_whole(alloc, input, SCRIPT_LIMIT)?;

@@ -4,6 +4,7 @@ ghost use Rattle.std.specs.Prelude.{◌≡◌, ◌≤◌, ◌+◌, None, length,
 ghost use Rattle.pr_basic.specs.Limits.{statement_limit};
 ghost use Rattle.pr_dots.specs.Shapes.{own_shapes};
 ghost use Rattle.pr_system.specs.StepByStep.{stepped_through};
+ghost use Rattle.pr_jobs.specs.Does.{AreFresh, DoesJob};
 ghost use Rattle.pr_jobs.specs.Outcomes.{GivesOutcome};
 ghost use Rattle.pr_jobs.specs.Pages.{AnswersPages, AnswersPagesAs, IsPagesFault, IsRunFault, ReadsToEnd, WritesNothing};
 ghost use Rattle.pr_jobs.specs.Runs.{start_of};
@@ -88,19 +89,15 @@ pub fn pages_as_over<R: Read, W: Write>(
     shapes: &Shapes,
 ) -> Result<RunEnd, CliFault>
     // the caller's part
-    requires input { has_failed input.old ≡ false }
-    requires output { has_failed output.old ≡ false }
+    requires fresh { AreFresh input.old output.old }
     // what it gives
     ensures pages { IfSome (R.remaining (wrapped input.old)) (λ script.
         AnswersPagesAs shapes.now start format script
         (W.contents (wrapped output.old)) (W.contents (wrapped output.new)) result) }
     ensures at_end { ReadsToEnd (R.remaining (wrapped input.new)) result }
-    ensures flushed { OnOk result (is_flushed output.new ≡ true) }
     // when it refuses, and what that leaves
     ensures nothing { WritesNothing (W.contents (wrapped output.old)) (W.contents (wrapped output.new)) result }
-    ensures memory { IfErr result (IsPagesFault format) }
-    ensures read_failed { IsErrOf result CliFault.ReadFailed ↔ (has_failed input.new ≡ true) }
-    ensures write_failed { IsErrOf result CliFault.WriteFailed ↔ (has_failed output.new ≡ true) }
+    ensures does { DoesJob (IsPagesFault format) input.new output.new result }
 {
     let script = read_whole(alloc, input, SCRIPT_LIMIT)?;
     let present = start.present;

@@ -2,10 +2,11 @@
 
 ghost use Rattle.std.specs.Prelude.{◌≡◌, ◌+◌, ◌^◌, ◌≤◌, ◌↔◌, length, false, true, IfSome, IfErr, OnOk, IsErrOf};
 ghost use Rattle.pr_page.specs.Taken.{number_taken};
+ghost use Rattle.pr_jobs.specs.Does.{AreFresh, DoesJob};
 ghost use Rattle.pr_jobs.specs.Pages.{ReadsToEnd, WritesNothing};
 ghost use Rattle.pr_jobs.specs.Printed.{GivesPaper, HasReadAll, IsReadingFault, PrintsOn};
 ghost use Rattle.pr_jobs.specs.Raw.{AnswersRaw, IsRawFault, printed_on, raw_limit};
-ghost use Rattle.pr_input.specs.Watched.{has_failed, is_flushed, wrapped};
+ghost use Rattle.pr_input.specs.Watched.{has_failed, wrapped};
 
 use crate::fault::CliFault;
 use crate::format::text_in_format;
@@ -48,18 +49,14 @@ pub fn raw_over<R: Read, W: Write>(
     shapes: &Shapes,
 ) -> Result<(), CliFault>
     // the caller's part
-    requires input { has_failed input.old ≡ false }
-    requires output { has_failed output.old ≡ false }
+    requires fresh { AreFresh input.old output.old }
     // what it gives
     ensures raw { IfSome (R.remaining (wrapped input.old)) (λ bytes.
         AnswersRaw shapes.now lower format bytes (W.contents (wrapped output.old)) (W.contents (wrapped output.new)) result) }
     ensures at_end { ReadsToEnd (R.remaining (wrapped input.new)) result }
-    ensures flushed { OnOk result (is_flushed output.new ≡ true) }
     // when it refuses, and what that leaves
     ensures nothing { WritesNothing (W.contents (wrapped output.old)) (W.contents (wrapped output.new)) result }
-    ensures own { IfErr result IsRawFault }
-    ensures read_failed { IsErrOf result CliFault.ReadFailed ↔ (has_failed input.new ≡ true) }
-    ensures write_failed { IsErrOf result CliFault.WriteFailed ↔ (has_failed output.new ≡ true) }
+    ensures does { DoesJob IsRawFault input.new output.new result }
 {
     let paper = print_input(alloc, input, lower, RAW_LIMIT)?;
     let four_alone = Present {

@@ -3,6 +3,7 @@
 ghost use Rattle.std.specs.Prelude.{◌≡◌, ◌+◌, ◌^◌, ◌<◌, ◌≤◌, ◌↔◌, length, false, true, None, Some, IfErr, IfOk, IfSome, IsErrOf, OnErr, OnOk};
 ghost use Rattle.pr_report.specs.declared.report.Report.{Report};
 ghost use Rattle.pr_jobs.specs.Check.{trace_limit};
+ghost use Rattle.pr_jobs.specs.Does.{AreFresh, DoesJob};
 ghost use Rattle.pr_jobs.specs.Report.{AnswersReport, IsReportFault, ReadsAll, WritesNoReport, IsNoReading};
 ghost use Rattle.pr_jobs.specs.Inputs.{edges_read, lines_ahead};
 ghost use Rattle.pr_jobs.specs.Reported.{EndsReported, GivesReport, HasReadAll, IsRefused, WritesText, edges_counted};
@@ -50,18 +51,14 @@ pub fn check_as_over<R: Read, W: Write>(
     report: Report,
 ) -> Result<(), CliFault>
     // the caller's part
-    requires input { has_failed input.old ≡ false }
-    requires output { has_failed output.old ≡ false }
+    requires fresh { AreFresh input.old output.old }
     // what it gives
     ensures check { IfSome (R.remaining (wrapped input.old)) (λ text.
         AnswersReport trace.entry report text (W.contents (wrapped output.old)) (W.contents (wrapped output.new)) result) }
     ensures at_end { ReadsAll report (R.remaining (wrapped input.new)) result }
-    ensures flushed { OnOk result (is_flushed output.new ≡ true) }
     // when it refuses, and what that leaves
     ensures nothing { WritesNoReport report (W.contents (wrapped output.old)) (W.contents (wrapped output.new)) result }
-    ensures own { IfErr result IsReportFault }
-    ensures read_failed { IsErrOf result CliFault.ReadFailed ↔ (has_failed input.new ≡ true) }
-    ensures write_failed { IsErrOf result CliFault.WriteFailed ↔ (has_failed output.new ≡ true) }
+    ensures does { DoesJob IsReportFault input.new output.new result }
 {
     let text = report_input(alloc, input, trace, report, CHECK_LIMIT)?;
     let text = unless_withheld(report, text)?;
