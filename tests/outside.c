@@ -1,18 +1,28 @@
-/* Faults of the outside in a program of tools/port, linked with -Wl,--wrap=malloc,--wrap=realloc,--wrap=print1525_os_read and
- * --wrap=print1525_os_write: FAULT_ALLOC=N, FAULT_READ=N or FAULT_WRITE=N in the environment has the Nth such call fail (a write to standard
- * error does not count), and FAULT_MARK=F makes the file F then. tests/faults.c does the same for the program of this system. */
+/* Faults of the outside in a program of tools/port, linked with -Wl,--wrap= of main, malloc, calloc, realloc, print1525_os_read and
+ * print1525_os_write: FAULT_ALLOC=N, FAULT_READ=N or FAULT_WRITE=N in the environment has the Nth such call fail (a write to
+ * standard error does not count, nor what comes before main), and FAULT_MARK=F makes the file F then. tests/faults.c does the same
+ * for the program of this system. */
 #include <stdint.h>
 #include <stdio.h>
 #include <stdlib.h>
 
+int __real_main(int count, char **words);
 void *__real_malloc(size_t size);
+void *__real_calloc(size_t count, size_t size);
 void *__real_realloc(void *old, size_t size);
 intptr_t __real_print1525_os_read(int file, void *to, size_t size);
 intptr_t __real_print1525_os_write(int file, const void *from, size_t size);
 void rattle_set_errno(int error);
 
+static int has_begun;
+
+int __wrap_main(int count, char **words) {
+    has_begun = 1;
+    return __real_main(count, words);
+}
+
 static int fails(const char *name, long *count, int error) {
-    const char *text = getenv(name), *mark = getenv("FAULT_MARK");
+    const char *text = has_begun ? getenv(name) : NULL, *mark = has_begun ? getenv("FAULT_MARK") : NULL;
     FILE *made;
     if (!text || ++*count != atol(text)) return 0;
     if (mark && (made = fopen(mark, "w"))) fclose(made);
@@ -23,6 +33,11 @@ static int fails(const char *name, long *count, int error) {
 static long allocations, reads, writes;
 
 void *__wrap_malloc(size_t size) { return fails("FAULT_ALLOC", &allocations, 12) ? NULL : __real_malloc(size); }
+
+void *__wrap_calloc(size_t count, size_t size) {
+    return fails("FAULT_ALLOC", &allocations, 12) ? NULL : __real_calloc(count, size);
+}
+
 void *__wrap_realloc(void *old, size_t size) { return fails("FAULT_ALLOC", &allocations, 12) ? NULL : __real_realloc(old, size); }
 
 intptr_t __wrap_print1525_os_read(int file, void *to, size_t size) {

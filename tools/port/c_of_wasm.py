@@ -300,7 +300,7 @@ class Translation:
             self.translate_control(name, *rest)
         elif name.split(".")[0] in ("local", "global"):
             self.translate_variable(name, *rest)
-        else:
+        elif name != "nop":
             self.translate_value(name, *rest)
 
     def translate_control(self, name, *rest):

@@ -53,12 +53,18 @@ static int fail_of(DWORD error) {
     default: return fail(EIO);
     }
 }
+/* What was taken of memory; without any the program ends as it does where it is refused some itself. */
+static void *taken(void *memory) {
+    static const char text[] = "print1525: out of memory\n";
+    if (memory) return memory;
+    _write(2, text, sizeof text - 1);
+    _exit(3);
+}
 /* UTF-16 as UTF-8; a half of a pair alone as three bytes, which are no UTF-8, so that the program refuses the word. */
 static char *narrow(const wchar_t *wide) {
     const size_t length = wcslen(wide);
-    unsigned char *text = malloc(3 * length + 1), *at = text;
+    unsigned char *text = taken(malloc(3 * length + 1)), *at = text;
     size_t i;
-    if (!text) abort();
     for (i = 0; i < length; i++) {
         uint32_t c = wide[i];
         if (c >= 0xD800 && c < 0xDC00 && wide[i + 1] >= 0xDC00 && wide[i + 1] < 0xE000) c = 0x10000 + ((c - 0xD800) << 10) + (wide[++i] - 0xDC00u);
@@ -85,15 +91,13 @@ static void turn_round(char *word) {
 /* Whether a word has the names of signals, which may have a \\ of their own. */
 static int is_names(int i) { return !strncmp(words[i], "--names=", 8) || (i > 0 && !strcmp(words[i - 1], "--names")); }
 /* The entries of the environment, one after another up to an empty one. */
-static int read_environment(void) {
-    wchar_t *all = GetEnvironmentStringsW(), *at;
+static void read_environment(void) {
+    wchar_t *all = taken(GetEnvironmentStringsW()), *at;
     int i = 0;
-    if (!all) return 0;
     for (at = all; *at; at += wcslen(at) + 1) entry_count++;
-    if (!(entries = calloc((size_t)entry_count + 1, sizeof *entries))) return 0;
+    entries = taken(calloc((size_t)entry_count + 1, sizeof *entries));
     for (at = all; *at; at += wcslen(at) + 1) entries[i++] = narrow(at);
     FreeEnvironmentStringsW(all);
-    return 1;
 }
 /* Ctrl-C, and what else a console interrupts by, ends the program with the status that shells have for it on Linux. */
 static BOOL WINAPI interrupted(DWORD event) {
@@ -103,14 +107,16 @@ static BOOL WINAPI interrupted(DWORD event) {
 }
 /* Standard streams are bytes. */
 int main(void) {
-    wchar_t **given = CommandLineToArgvW(GetCommandLineW(), &count);
+    wchar_t **given;
     int i;
-    if (!given || !read_environment() || !(words = calloc((size_t)count + 1, sizeof *words))) return 3;
+    for (i = 0; i < 3; i++) _setmode(i, _O_BINARY);
+    given = taken(CommandLineToArgvW(GetCommandLineW(), &count));
+    read_environment();
+    words = taken(calloc((size_t)count + 1, sizeof *words));
     for (i = 0; i < count; i++) {
         words[i] = narrow(given[i]);
         if (!is_names(i)) turn_round(words[i]);
     }
-    for (i = 0; i < 3; i++) _setmode(i, _O_BINARY);
     SetConsoleOutputCP(CP_UTF8);
     SetConsoleCtrlHandler(interrupted, TRUE);
     return print1525_program();
