@@ -3,13 +3,14 @@ use Rattle.std.proofs.Common.{◌≡◌, ℕ, ◌==◌, Bool, true, false, not, 
 use Rattle.pr_wire.specs.declared.Edge.{Edge}
 use Rattle.pr_wire.specs.declared.Frame as wire
 use Rattle.pr_wire.specs.Levels.{edge_at, start}
-use Rattle.pr_wire.specs.Pieces.{AreLawful, Between, Ending, EoiAnswer, FrameTimes, IsFrame, IsPiece, IsSecond, Piece, SecondFrame, after_ending, after_piece, answer_edges, call_edge, edges_of, ending_edges, frame_edges, frame_sent, frames_of, has_pulse, piece_edges, piece_frames, second_edges, second_frames}
+use Rattle.pr_wire.specs.Pieces.{AreLawful, Between, Ending, EoiAnswer, FrameTimes, IsFrame, IsPiece, IsSecond, Piece, SecondFrame, after_ending, after_piece, answer_edges, call_edge, edges_of, ending_edges, frame_edges, frame_sent, frames_of, has_pulse, byte_sent, piece_edges, piece_frames, second_edges, second_frames}
 use Rattle.pr_wire.specs.Pieces.Between.{Held, Loose, Resting}
 use Rattle.pr_wire.specs.Pieces.Piece.{Attention, DataByte, Dropped, Unanswered}
 use Rattle.pr_wire.specs.Table.{same}
 use Rattle.pr_decode.specs.declared.reading.Reading.{Reading}
 use Rattle.pr_decode.specs.declared.reading.Reading.TheVariants as read
-use Rattle.pr_decode.specs.Laws.{TracesSayTheirPieces, TracesSayWhatTheySpell}
+use Rattle.pr_decode.specs.Frames.{acknowledged_frames}
+use Rattle.pr_decode.specs.Laws.{TracesAreAcknowledged, TracesSayTheirPieces, TracesSayWhatTheySpell}
 use Rattle.pr_decode.specs.PieceReadings.{frame_read, frames_in, is_answered, piece_read, pieces_read, pulse_read, second_read}
 use Rattle.pr_decode.specs.Readings.{readings, readings_of}
 use Rattle.pr_decode.specs.ClockPhases.{ClockPhase, begun, calls, goes_on, longer}
@@ -244,3 +245,27 @@ pieces-said (p ∷ ps) =
 -- they are those that it spells
 pub traces-spell : TracesSayWhatTheySpell
 traces-spell edges frames (pieces, c, h) = ap frames_in (traces-say edges pieces c) ∙ (pieces-said pieces ∙ sym h)
+
+-- a frame of a piece is acknowledged
+one-acknowledged : (x : Bool) (look : ℕ) (f : FrameTimes) (rs : List Reading) → acknowledged_frames rs ≡ frames_in rs
+    → acknowledged_frames (frame_read x look f ∷ rs) ≡ frames_in (frame_read x look f ∷ rs)
+one-acknowledged x look f rs h = ap (λ (fs : List wire.Frame). sent ∷ fs) h
+  where
+    sent : wire.Frame
+    sent = record { attention = not x; byte = byte_sent f; eoi = is_answered (pulse_read f.pulse) }
+
+-- all frames of pieces are
+all-acknowledged : (ps : List Piece) → acknowledged_frames (pieces_read ps) ≡ frames_in (pieces_read ps)
+all-acknowledged [] = refl
+all-acknowledged (Unanswered a release ∷ ps) = all-acknowledged ps
+all-acknowledged (Attention a answer look first None end ∷ ps) = one-acknowledged false look first (pieces_read ps) (all-acknowledged ps)
+all-acknowledged (Attention a answer look first (Some m) end ∷ ps) =
+    one-acknowledged false look first (frame_read false m.look m.sent ∷ pieces_read ps)
+    (one-acknowledged false m.look m.sent (pieces_read ps) (all-acknowledged ps))
+all-acknowledged (DataByte look sent ∷ ps) = one-acknowledged true look sent (pieces_read ps) (all-acknowledged ps)
+all-acknowledged (Dropped look ∷ ps) = all-acknowledged ps
+
+-- so they are those that it spells
+pub traces-acknowledged : TracesAreAcknowledged
+traces-acknowledged edges frames (pieces, c, h) =
+    ap acknowledged_frames (traces-say edges pieces c) ∙ (all-acknowledged pieces ∙ (pieces-said pieces ∙ sym h))

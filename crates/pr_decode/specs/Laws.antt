@@ -5,6 +5,7 @@ use Rattle.pr_wire.specs.declared.Edge.{Edge}
 use Rattle.pr_wire.specs.declared.Frame.{Frame}
 use Rattle.pr_wire.specs.Pieces.{IsCut, Piece, Spells}
 use Rattle.pr_decode.specs.declared.reading.Reading.{Reading}
+use Rattle.pr_decode.specs.Frames.{acknowledged_frames}
 use Rattle.pr_decode.specs.Outlines.{openings, outline}
 use Rattle.pr_decode.specs.PieceReadings.{frames_in, pieces_read}
 use Rattle.pr_decode.specs.Readings.{readings_of, settled_of}
@@ -37,3 +38,8 @@ TracesSayTheirPieces =
 abbrev pub TracesSayWhatTheySpell : Type 0
 TracesSayWhatTheySpell =
     (edges : List Edge) (frames : List Frame) → Spells edges frames → frames_in (readings_of edges) ≡ frames
+
+-- listeners have taken them all
+abbrev pub TracesAreAcknowledged : Type 0
+TracesAreAcknowledged =
+    (edges : List Edge) (frames : List Frame) → Spells edges frames → acknowledged_frames (readings_of edges) ≡ frames

@@ -7,7 +7,7 @@
 //! - `reading` has the types of what a recording says of its bytes.
 //! - `clock_phase` is the time in which CLOCK stays as it is, by its first edge, its last and the changes
 //!   of DATA in it, four at most. `decoder` keeps the phase that has not ended and the byte that has begun.
-//! - `laws` has the laws of the definitions.
+//! - `frame` gives the frame of a byte that was acknowledged. `laws` has the laws of the definitions.
 //!
 //! `specs/ClockPhases.antt` and `specs/Readings.antt` define the readings over whole phases,
 //! `specs/PieceReadings.antt` what that is on lawful traces. A decoder keeps no history (`HasReadings`):
@@ -18,10 +18,12 @@
 
 mod clock_phase;
 mod decoder;
+mod frame;
 mod laws;
 mod reading;
 
 pub use clock_phase::{ClockPhase, DataTransitions};
 pub use decoder::{Decoder, GoesBack};
+pub use frame::acknowledged_frame;
 pub use laws::{moments_decide, readings_add_up, traces_are_read};
 pub use reading::{FrameEnd, Halves, IncompleteEnd, Opening, Pulse, Reading, Transfer};

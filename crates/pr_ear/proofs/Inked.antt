@@ -1,5 +1,5 @@
 -- Dots in the bitmap of a region.
-use Rattle.std.proofs.Common.{◌≡◌, ◌≢◌, ℕ, zero, suc, ◌+◌, ◌-◌, ◌*◌, ◌/◌, ◌%◌, ◌<◌, ◌≤◌, Bool, true, false, List, [], ◌∷◌, ◌++◌, length, drop, map, inl, inr, refl, sym, ap, ◌∙◌, arith, append-nil, length-append}
+use Rattle.std.proofs.Common.{◌≡◌, ◌≢◌, ℕ, zero, suc, ◌+◌, ◌-◌, ◌*◌, ◌/◌, ◌%◌, ◌<◌, ◌≤◌, Bool, true, false, List, [], ◌∷◌, ◌++◌, length, drop, map, inl, inr, refl, sym, ap, ◌∙◌, arith, append-nil, length-append, map-id}
 use Rattle.std.specs.Prelude.{◌==◌, ◌&&◌, ◌||◌, flat_map, replicate, slice_index_or, slice_set, if◌then◌else◌}
 use Rattle.std.specs.List.{list_any, range_with_len}
 use Rattle.std.proofs.Math.Nat.{mul-le-mul_right, add-mul, mul_comm}
@@ -9,6 +9,7 @@ use Rattle.std.proofs.lemmas.Bool.Decides.{eqb_tells, nat_tests}
 use Rattle.std.proofs.lemmas.Grind.{common_steps, flat_map-append}
 use Rattle.std.proofs.lemmas.List.{drop-set-lt, get_or-replicate, get_or-set_other, get_or-set_same, get_or_append_left, length-drop, length-replicate, length-set}
 use Rattle.std.proofs.lemmas.List.Folds.{flat_map-map}
+use Rattle.std.proofs.lemmas.List.FromFn.{map-range_with_len_more}
 use Rattle.std.proofs.lemmas.Nat.{div-mul-add, mod-mul-add}
 use Rattle.pr_page.specs.Marks.{in_row, marks_on}
 use Rattle.pr_page.specs.declared.paper.Paper.{Paper}
@@ -19,16 +20,6 @@ use Rattle.pr_dots.specs.declared.character_sets.Shapes.{Shapes}
 use Rattle.pr_ear.specs.Drawing.{ShowsRegion, dots_of_marks, mark_dots, paper, pixels_in}
 use Rattle.pr_ear.specs.Inking.{has_pixel, inked, inked_dot, inked_dots, place_in}
 use Rattle.pr_ear.specs.declared.drawing.Region.{Region}
-
--- one number more
-range-more : (a n : ℕ) → range_with_len a (n + 1) ≡ range_with_len a n ++ (a + n) ∷ []
-range-more a zero =
-    let e : a ≡ a + 0 = omega arith in
-    ap (λ n. n ∷ []) e
-range-more a (suc n) =
-    let e : suc n + 1 ≡ suc (n + 1) = omega arith in
-    let f : a + 1 + n ≡ a + suc n = omega arith in
-    rw (e, ← f) (ap (λ ns. a ∷ ns) (range-more (a + 1) n))
 
 -- no dots
 pub no_dots : (r : Region) (out : List ℕ) → inked_dots r [] out ≡ out
@@ -47,8 +38,9 @@ pub bit-more : (r : Region) (x y value bit : ℕ) (before now after : List ℕ)
     → after ≡ inked_dots r (bit_dots x y value bit) now
     → after ≡ inked_dots r (flat_map (bit_dots x y value) (range_with_len 0 (bit + 1))) before
 bit-more r x y value bit before now after so_far one =
-    let zero-first : 0 + bit ≡ bit = omega arith in
-    let bits : range_with_len 0 (bit + 1) ≡ range_with_len 0 bit ++ bit ∷ [] = rw (range-more 0 bit, zero-first) refl in
+    let same : (n : ℕ) → map (λ k. k) (range_with_len 0 n) ≡ range_with_len 0 n = λ n. map-id (range_with_len 0 n) in
+    let bits : range_with_len 0 (bit + 1) ≡ range_with_len 0 bit ++ bit ∷ [] =
+    sym (same (bit + 1)) ∙ (map-range_with_len_more (λ k. k) 0 bit bit (omega arith) ∙ ap (λ ns. ns ++ bit ∷ []) (same bit)) in
     let dots : flat_map (bit_dots x y value) (range_with_len 0 (bit + 1))
     ≡ flat_map (bit_dots x y value) (range_with_len 0 bit) ++ flat_map (bit_dots x y value) (bit ∷ []) =
     ap (flat_map (bit_dots x y value)) bits ∙ flat_map-append (bit_dots x y value) (range_with_len 0 bit) (bit ∷ []) in

@@ -10,8 +10,6 @@ use Rattle.pr_page.specs.Before.{with_before}
 use Rattle.pr_page.specs.declared.input.Input.{Input}
 use Rattle.pr_page.specs.declared.input.Input.TheVariants as input
 use Rattle.pr_wire.specs.declared.Frame.{Frame}
-use Rattle.pr_wire.specs.Pieces.{FrameTimes, Piece, byte_sent}
-use Rattle.pr_wire.specs.Pieces.Piece.{Attention, DataByte, Dropped, Unanswered}
 use Rattle.pr_receiver.specs.Heard.{heard_of, input_of, is_called, is_command, is_listen, is_listening, is_unlisten}
 use Rattle.pr_receiver.specs.Kept.{kept_of}
 use Rattle.pr_receiver.specs.declared.listener.Listener.{Listener}
@@ -21,8 +19,8 @@ use Rattle.pr_decode.specs.declared.reading.IncompleteEnd.TheVariants as glitch
 use Rattle.pr_decode.specs.declared.reading.Reading.{Reading}
 use Rattle.pr_decode.specs.declared.reading.Reading.TheVariants as read
 use Rattle.pr_decode.specs.Readings.{is_settled}
-use Rattle.pr_decode.specs.Laws.{TracesSayTheirPieces, TracesSayWhatTheySpell}
-use Rattle.pr_decode.specs.PieceReadings.{frame_read, frames_in, is_answered, pieces_read, pulse_read}
+use Rattle.pr_decode.specs.Frames.{acknowledged_frame, acknowledged_frames}
+use Rattle.pr_decode.specs.Laws.{TracesAreAcknowledged}
 use Rattle.pr_ear.specs.declared.WireEdge.{WireEdge}
 use Rattle.pr_ear.specs.declared.receiving.Received.{Received}
 use Rattle.pr_ear.specs.declared.receiving.Received.TheVariants.{Byte, Select, Listen, Unlisten}
@@ -30,7 +28,7 @@ use Rattle.pr_ear.specs.declared.receiving.WireReceiver.{WireReceiver}
 use Rattle.pr_ear.specs.DecoderTaken.{HasDecoded}
 use Rattle.pr_ear.specs.Decoding.{StandsBefore, last_moment, said_by, settled_by}
 use Rattle.pr_ear.specs.Hearing.{bit_of, edge_of, number_of, IsDevice}
-use Rattle.pr_ear.specs.Receiving.{acknowledged_frame, acknowledged_frames, printed_for, printed_of, received_by, received_from, received_of, ReceiversHearLawfulTraces, ReceiversHearWhatIsPrinted, TellsReceived}
+use Rattle.pr_ear.specs.Receiving.{printed_for, printed_of, received_by, received_from, received_of, ReceiversHearLawfulTraces, ReceiversHearWhatIsPrinted, TellsReceived}
 use Rattle.pr_ear.specs.ReceiverTaken.{frame_in, listener_by, received_with, HasReceived}
 use Rattle.pr_ear.proofs.Standings.{with_before-append}
 use Rattle.pr_ear.proofs.Stored.{bit-back}
@@ -178,32 +176,10 @@ frames-printed device (p ∷ ps) =
 pub what-is-printed : ReceiversHearWhatIsPrinted
 what-is-printed = λ device edges. frames-printed device (with_before [] (acknowledged_frames (said_by edges)))
 
--- a frame of a piece of a lawful trace is acknowledged
-one-piece : (atn : Bool) (look : ℕ) (f : FrameTimes) (rs : List Reading) → acknowledged_frames rs ≡ frames_in rs
-    → acknowledged_frames (frame_read atn look f ∷ rs) ≡ frames_in (frame_read atn look f ∷ rs)
-one-piece atn look f rs h = ap (λ (fs : List Frame). sent ∷ fs) h
-  where
-    sent : Frame
-    sent = record { attention = not atn; byte = byte_sent f; eoi = is_answered (pulse_read f.pulse) }
-
--- all frames of pieces are
-all-acknowledged : (ps : List Piece) → acknowledged_frames (pieces_read ps) ≡ frames_in (pieces_read ps)
-all-acknowledged [] = refl
-all-acknowledged (Unanswered atn release ∷ ps) = all-acknowledged ps
-all-acknowledged (Attention atn answer look first None end ∷ ps) = one-piece false look first (pieces_read ps) (all-acknowledged ps)
-all-acknowledged (Attention atn answer look first (Some m) end ∷ ps) =
-    one-piece false look first (frame_read false m.look m.sent ∷ pieces_read ps)
-    (one-piece false m.look m.sent (pieces_read ps) (all-acknowledged ps))
-all-acknowledged (DataByte look sent ∷ ps) = one-piece true look sent (pieces_read ps) (all-acknowledged ps)
-all-acknowledged (Dropped look ∷ ps) = all-acknowledged ps
-
--- so they are those that the trace spells
-pub what-is-heard : TracesSayTheirPieces → TracesSayWhatTheySpell → ReceiversHearLawfulTraces
-what-is-heard pieces spelled = λ device edges numbers h.
-    let all = map edge_of edges in
-    let said = pieces all h.2.0 h.2.1 in
-    let frames : acknowledged_frames (said_by edges) ≡ h.0 =
-    ap acknowledged_frames said ∙ all-acknowledged h.2.0 ∙ sym (ap frames_in said) ∙ spelled all h.0 h.2 in
+-- those of a lawful trace are those that it spells
+pub what-is-heard : TracesAreAcknowledged → ReceiversHearLawfulTraces
+what-is-heard law = λ device edges numbers h.
+    let frames : acknowledged_frames (said_by edges) ≡ h.0 = law (map edge_of edges) h.0 h.2 in
     h.3 ∙ ap (λ is. map number_of is) (sym (what-is-printed device edges ∙ ap (heard_of device) frames))
 
 -- an edge that goes back is reported as that

@@ -3,6 +3,7 @@
 use Rattle.std.specs.Prelude.{◌≡◌, ℕ, ◌-◌, ◌≤◌, not, ◌&&◌, ◌==◌, min, if◌then◌else◌, List, ◌++◌, Option, Some, None}
 use Rattle.std.specs.Option.{option_to_list}
 use Rattle.pr_wire.specs.declared.Frame.{Frame}
+use Rattle.pr_decode.specs.Frames.{acknowledged_frame, acknowledged_frames}
 use Rattle.pr_decode.specs.declared.reading.Reading.{Reading}
 use Rattle.pr_receiver.specs.Heard.{is_listen, is_unlisten}
 use Rattle.pr_receiver.specs.Kept.{kept_of}
@@ -12,7 +13,7 @@ use Rattle.pr_ear.specs.declared.receiving.Received.{Received}
 use Rattle.pr_ear.specs.declared.receiving.Received.TheVariants.{Byte, Select, Listen, Unlisten}
 use Rattle.pr_ear.specs.declared.receiving.WireReceiver.{WireReceiver}
 use Rattle.pr_ear.specs.DecoderTaken.{HasDecoded}
-use Rattle.pr_ear.specs.Receiving.{acknowledged_frame, acknowledged_frames, is_secondary, received_from}
+use Rattle.pr_ear.specs.Receiving.{is_secondary, received_from}
 
 -- what numbers mean that a device keeps of frames; all numbers are those of some device
 abbrev pub listener_by : (device listens called : ℕ) → Listener

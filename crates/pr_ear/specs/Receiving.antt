@@ -9,10 +9,8 @@ use Rattle.pr_page.specs.declared.input.Input.TheVariants as input
 use Rattle.pr_wire.specs.declared.Frame.{Frame}
 use Rattle.pr_receiver.specs.Heard.{heard_of, is_called, is_listen, is_listening, is_unlisten}
 use Rattle.pr_decode.specs.declared.decoder.GoesBack.{GoesBack}
-use Rattle.pr_decode.specs.declared.reading.FrameEnd.TheVariants.{Acknowledged, Unacknowledged, Cut}
 use Rattle.pr_decode.specs.declared.reading.Reading.{Reading}
-use Rattle.pr_decode.specs.declared.reading.Reading.TheVariants as read
-use Rattle.pr_decode.specs.PieceReadings.{is_answered}
+use Rattle.pr_decode.specs.Frames.{acknowledged_frames}
 use Rattle.pr_ear.specs.declared.Answer.{Answer}
 use Rattle.pr_ear.specs.declared.WireEdge.{WireEdge}
 use Rattle.pr_ear.specs.declared.receiving.Received.{Received}
@@ -20,18 +18,6 @@ use Rattle.pr_ear.specs.declared.receiving.Received.TheVariants.{Byte, Select, L
 use Rattle.pr_ear.specs.declared.receiving.WireReceived.{WireReceived}
 use Rattle.pr_ear.specs.Decoding.{StandsBefore, last_moment, said_by}
 use Rattle.pr_ear.specs.Hearing.{AreHeard, bit_of, number_of}
-
--- the frame of a reading that is a whole byte, acknowledged; no listener has taken any other
-abbrev pub acknowledged_frame : Reading → Option Frame
-acknowledged_frame (read.Frame t (Acknowledged time)) =
-    Some (record { attention = t.opening.command; byte = t.byte; eoi = is_answered t.opening.pulse })
-acknowledged_frame (read.Frame t (Unacknowledged time)) = None
-acknowledged_frame (read.Frame t Cut) = None
-acknowledged_frame (read.IncompleteByte t end) = None
-
--- the frames of readings, in order
-abbrev pub acknowledged_frames : List Reading → List Frame
-acknowledged_frames readings = filter_map acknowledged_frame readings
 
 -- the frame is a secondary address: a command of 96 to 127
 abbrev pub is_secondary : Frame → Bool

@@ -6,7 +6,7 @@ ghost use Rattle.pr_decode.specs.declared.decoder.GoesBack.{GoesBack};
 ghost use Rattle.pr_ear.specs.declared.WireEdge.{WireEdge};
 ghost use Rattle.pr_ear.specs.declared.receiving.Received.{Received};
 ghost use Rattle.pr_ear.specs.Hearing.{IsDevice, begin_answer_of};
-ghost use Rattle.pr_ear.specs.Receiving.{ReceiversHearLawfulTraces, ReceiversHearWhatIsPrinted, TellsReceived, acknowledged_frame, came_answer, came_with, received_numbers, receiver_answer_of};
+ghost use Rattle.pr_ear.specs.Receiving.{ReceiversHearLawfulTraces, ReceiversHearWhatIsPrinted, TellsReceived, came_answer, came_with, received_numbers, receiver_answer_of};
 ghost use Rattle.pr_ear.specs.ReceiverLeft.{ReceiverLeaves};
 ghost use Rattle.pr_ear.specs.ReceiverTaken.{HasReceived, Hears, listener_by, received_at};
 
@@ -15,7 +15,7 @@ use crate::decoding::{begin_decoder, decode_edge};
 use crate::numbers::bit;
 use crate::{Answer, LAST_DEVICE, NoSuchDevice, WireEdge, begun, is_device, plain, refused};
 use pr_base::{LISTEN, SECONDARY, UNLISTEN};
-use pr_decode::{FrameEnd, GoesBack, Reading, readings_add_up, traces_are_read};
+use pr_decode::{GoesBack, Reading, acknowledged_frame, readings_add_up, traces_are_read};
 use pr_receiver::Listener;
 use pr_wire::Frame;
 
@@ -63,21 +63,6 @@ pub struct WireReceived {
     pub eoi: u8,
 }
 
-/// The frame that a reading says, where it is a whole byte that was acknowledged.
-fn frame_for(reading: Reading) -> Option<Frame>
-    ensures { result ≡ acknowledged_frame reading }
-{
-    match reading {
-        Reading::Frame(transfer, FrameEnd::Acknowledged(_)) => Some(Frame {
-            attention: transfer.opening.command,
-            byte: transfer.byte,
-            eoi: transfer.opening.pulse.is_some(),
-        }),
-        Reading::Frame(_, FrameEnd::Unacknowledged(_) | FrameEnd::Cut) => None,
-        Reading::IncompleteByte(_, _) => None,
-    }
-}
-
 /// What a frame has for a device, by what the device keeps of the frames before it.
 fn comes_with(listener: &Listener, frame: Frame) -> Option<Received>
     requires { listener.now.device ≤ 30 }
@@ -106,7 +91,7 @@ fn hear(listener: &mut Listener, reading: Option<Reading>) -> Option<Received>
     requires { listener.old.device ≤ 30 }
     ensures { Hears reading result listener.old listener.new }
 {
-    let frame = frame_for(reading?)?;
+    let frame = acknowledged_frame(reading?)?;
     let received = comes_with(listener, frame);
     listener.hear(frame);
     received

@@ -1,6 +1,6 @@
 use Rattle.std.proofs.Common.{[], ◌++◌, ◌∷◌, map, refl}
 use Rattle.pr_ear.specs.Hearing.{edge_of}
-use Rattle.pr_ear.specs.Receiving.{acknowledged_frames}
+use Rattle.pr_decode.specs.Frames.{acknowledged_frames}
 use Rattle.pr_ear.proofs.Receivers.{next-given, received-next, received-on, still-back}
 use Rattle.pr_ear.proofs.receiving.receive_edge.Goals as goal
 

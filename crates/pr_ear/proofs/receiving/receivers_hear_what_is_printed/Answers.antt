@@ -5,4 +5,4 @@ pub returns-clause-printed : goal.returns-clause-printed
 returns-clause-printed c = what-is-printed
 
 pub returns-clause-lawful : goal.returns-clause-lawful
-returns-clause-lawful c = what-is-heard c.traces_are_read.ensures.moments c.traces_are_read.ensures.spelled
+returns-clause-lawful c = what-is-heard c.traces_are_read.ensures.acknowledged
