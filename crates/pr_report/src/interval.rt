@@ -77,7 +77,7 @@ impl Row {
 
 /// How long DATA is pulled at most in answer to end-or-identify: two listeners pull it as one, of which the
 /// first begins as early as the profile has it, and the second ends as late.
-fn longest_answer() -> u64
+pub fn longest_answer() -> u64
     ensures { result ≡ longest_answer }
 {
     let (earliest, _, latest) = pr_wire::bounds(Kind::Ye);
@@ -86,7 +86,7 @@ fn longest_answer() -> u64
 }
 
 /// The byte of a reading, as far as it came.
-pub(crate) fn transfer_of(reading: &Reading) -> Transfer
+pub fn transfer_of(reading: &Reading) -> Transfer
     ensures { result ≡ transfer_of reading.now }
 {
     match reading {
@@ -223,7 +223,7 @@ impl Interval {
 
     /// Its greatest length by the profile, in microseconds: that of the delay that bounds it, but for the
     /// length of an answer that of two listeners' answers, since these join.
-    fn profile_greatest(self) -> u64
+    pub fn profile_greatest(self) -> u64
         ensures { result ≡ profile_greatest self }
     {
         let (_, _, greatest) = pr_wire::bounds(self.row().kind);
@@ -257,7 +257,7 @@ impl Interval {
     }
 
     /// Adds a word, and after it these bounds.
-    pub fn push_bounds(
+    pub(crate) fn push_bounds(
         self,
         text: &mut Vec<u8>,
         word: &[u8],

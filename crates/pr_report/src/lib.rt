@@ -49,6 +49,7 @@ mod verdict;
 pub use context::{Context, Preceding, Talker};
 pub use detail::{Bounds, Detail};
 pub use frame_timer::FrameTimer;
+pub use interval::{INTERVALS, Interval, longest_answer, transfer_of};
 pub use json_line::{push_json_reading, push_json_verdict};
 pub use laws::{
     frames_are_told, lawful_traces_are_told, lawful_traces_are_within, lines_add_up,
