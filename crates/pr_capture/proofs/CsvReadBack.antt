@@ -16,13 +16,12 @@ use Rattle.pr_capture.specs.declared.csv.Moment.{Moment}
 use Rattle.pr_capture.specs.declared.csv.Scale.TheVariants.{Timed}
 use Rattle.pr_capture.specs.declared.fault.Wire.TheVariants.{Atn, Clock, Data}
 use Rattle.pr_capture.specs.declared.signals.Signals.{Signals}
-use Rattle.pr_capture.specs.Csv.{clock_name, column_in, column_of, csv_contents, fields_of, first_contents, first_moment, is_in_front, is_silent, layout_by, layout_in, layout_of, moment_at, opened, row_contents, row_of, sample_of, separator_of}
+use Rattle.pr_capture.specs.Csv.{clock_name, column_in, column_of, csv_contents, fields_of, first_contents, first_moment, is_in_front, is_inner, is_silent, layout_by, layout_in, layout_of, moment_at, opened, row_contents, row_of, sample_of, separator_of}
 use Rattle.pr_capture.specs.Numbers.{number_from, number_of_first, onward, with_zeros}
 use Rattle.pr_capture.specs.TableTimes.{bare_unit, instant_in, micros_of, no_remarks, start_of, time_unit}
 use Rattle.pr_capture.specs.CsvLaws.{InOrder, csv_names, csv_of, csv_row, csv_rows, digits_of, level_byte, separator_byte, time_field, time_name, Separator, TimeUnit}
 use Rattle.pr_capture.specs.CsvLaws.Separator.{Comma, Semicolon, Tab}
 use Rattle.pr_capture.specs.CsvLaws.TimeUnit.{Seconds, Milliseconds, Microseconds, Nanoseconds, Picoseconds}
-use Rattle.pr_capture.specs.CsvSteps.{is_inner}
 use Rattle.pr_capture.specs.Recording.{◌>>=◌, second_name, with_samples, without_front}
 use Rattle.pr_capture.specs.Samples.{changes_after, edges_of, last_at_each}
 use Rattle.pr_capture.specs.VcdReadingLaws.{IsAsWritten, RunsOn}

@@ -15,9 +15,9 @@ use Rattle.pr_capture.specs.declared.fault.CaptureFault.{CaptureFault}
 use Rattle.pr_capture.specs.declared.fault.CaptureFault.TheVariants.{NoSignal}
 use Rattle.pr_capture.specs.declared.fault.Wire.TheVariants.{Atn}
 use Rattle.pr_capture.specs.declared.signals.Signals.{Signals}
-use Rattle.pr_capture.specs.Csv.{csv_contents}
+use Rattle.pr_capture.specs.Csv.{csv_contents, is_inner}
 use Rattle.pr_capture.specs.CsvReads.{EndsText, FaultsIn, ReadsMore}
-use Rattle.pr_capture.specs.CsvSteps.{is_inner, contents_from, AnswersEnd, HasReadTable, HoldsMore, KnowsLast}
+use Rattle.pr_capture.specs.CsvSteps.{contents_from, AnswersEnd, HasReadTable, HoldsMore, KnowsLast}
 use Rattle.pr_capture.specs.Recording.{ended, refused, with_samples, CaptureContents}
 use Rattle.pr_capture.specs.Samples.{listed}
 

@@ -29,10 +29,10 @@ use Rattle.pr_capture.specs.declared.times.Instant.{Instant}
 use Rattle.pr_capture.specs.declared.fault.CaptureFault.TheVariants.{BadLevel, Floating, Unknown}
 use Rattle.pr_capture.specs.declared.fault.Wire.{Wire}
 use Rattle.pr_capture.specs.declared.fault.Wire.TheVariants.{Atn, Clock, Data}
-use Rattle.pr_capture.specs.Csv.{behind_point, csv_contents, field_at, fields_of, instant_of_number, instant_of_row, is_silent, level_of, level_or, moment_at, moment_next, moment_of, row_contents, row_of, sample_of}
+use Rattle.pr_capture.specs.Csv.{behind_point, csv_contents, field_at, fields_of, instant_of_number, instant_of_row, is_inner, is_silent, level_of, level_or, moment_at, moment_next, moment_of, row_contents, row_of, sample_of}
 use Rattle.pr_capture.specs.CsvReads.{ReadsMore, SkipsRows, TakesRepeats}
 use Rattle.pr_capture.specs.Gathers.{AllHave}
-use Rattle.pr_capture.specs.CsvSteps.{are_behind, contents_from, decimals_len, digits_ahead, field_len, is_inner, is_plain, line_number, row_at, row_if, tail_at, tail_behind, tail_by, with_len, HasLevels, HasReadTable, IsFront, IsPlainTime, IsRepeat, IsRowOf, IsTimeAhead, KnowsLevels, PlainComesFirst, TimeComesFirst}
+use Rattle.pr_capture.specs.CsvSteps.{are_behind, contents_from, decimals_len, digits_ahead, field_len, is_plain, line_number, row_at, row_if, tail_at, tail_behind, tail_by, with_len, HasLevels, HasReadTable, IsFront, IsPlainTime, IsRepeat, IsRowOf, IsTimeAhead, KnowsLevels, PlainComesFirst, TimeComesFirst}
 use Rattle.pr_capture.specs.Numbers.{behind_digits, digits_in, number_from, number_of, onward}
 use Rattle.pr_capture.specs.TableTimes.{count_in, instant_in, instant_of, micros_of, sample_in, time_at_rate, times_in}
 use Rattle.pr_capture.specs.Words.{is_space}

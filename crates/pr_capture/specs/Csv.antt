@@ -26,6 +26,10 @@ use Rattle.pr_capture.specs.TableTimes.{bare_unit, from_start, has_numbers, inst
 
 -- Lines and fields.
 
+-- a byte does not end a line
+abbrev pub is_inner : ℕ → Bool
+is_inner b = not (b == 10)
+
 -- without the white space in front
 abbrev pub without_space : List ℕ → List ℕ
 without_space [] = []

@@ -19,7 +19,7 @@ use Rattle.pr_capture.specs.declared.csv.CsvReader.{CsvReader}
 use Rattle.pr_capture.specs.declared.remarks.Remarks.{Remarks}
 use Rattle.pr_capture.specs.declared.fault.CaptureFault.{CaptureFault}
 use Rattle.pr_capture.specs.declared.signals.Signals.{Signals}
-use Rattle.pr_capture.specs.Csv.{csv_contents, field_at, fields_of, first_contents, is_silent, line_contents, row_contents, row_of, sample_of}
+use Rattle.pr_capture.specs.Csv.{csv_contents, field_at, fields_of, first_contents, is_inner, is_silent, line_contents, row_contents, row_of, sample_of}
 use Rattle.pr_capture.specs.declared.times.Instant.{Instant}
 use Rattle.pr_capture.specs.declared.times.PlainTime.{PlainTime}
 use Rattle.pr_capture.specs.declared.numbers.Digits.{Digits}
@@ -37,10 +37,6 @@ field_len sep quoted (b ∷ bs) = if b == sep && not quoted then 0 else 1 + fiel
 abbrev pub fields_left : (separator : ℕ) → Option (List ℕ) → List (List ℕ)
 fields_left sep None = []
 fields_left sep (Some l) = fields_of sep false l
-
--- a byte does not end a line
-abbrev pub is_inner : ℕ → Bool
-is_inner b = not (b == 10)
 
 -- what lines say from a place on
 abbrev pub contents_from : Signals → RowPlace → (number : ℕ) → List (List ℕ) → CaptureContents

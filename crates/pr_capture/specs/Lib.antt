@@ -8,6 +8,7 @@ pub mod Recording
 pub mod Numbers
 pub mod TableTimes
 pub mod Csv
+pub mod Found
 pub mod CsvSteps
 pub mod CsvReads
 pub mod Words

@@ -6,9 +6,9 @@
 
 ghost use Rattle.std.specs.Prelude.{◌≡◌, ◌+◌, ◌^◌, ◌<◌, ◌≤◌, ◌∷◌, [], false, true, None, Err, IfErr, IfOk, Ok, drop, length, option_copied, take, IfSome, Some};
 ghost use Rattle.std.specs.List.{list_all, prefix_len};
-ghost use Rattle.pr_capture.specs.Csv.{behind_point, clock_name, column_in, column_of, columns_in, field_at, fields_of, first_moment, has_times, is_archive, is_in_front, is_separator, is_silent, is_twice, is_wide, layout_beside, layout_by, layout_of, level_of, level_or, moment_at, moment_next, moment_of, opened, rate_beside, row_of, sample_of, separator_of, without_space, without_zeros};
+ghost use Rattle.pr_capture.specs.Csv.{behind_point, clock_name, column_in, column_of, columns_in, field_at, fields_of, first_moment, has_times, is_archive, is_in_front, is_inner, is_separator, is_silent, is_twice, is_wide, layout_beside, layout_by, layout_of, level_of, level_or, moment_at, moment_next, moment_of, opened, rate_beside, row_of, sample_of, separator_of, without_space, without_zeros};
 ghost use Rattle.pr_capture.specs.CsvReads.{EndsText, FaultsIn, ReadsMore, RefusesTable, SkipsRows, TakesRepeats};
-ghost use Rattle.pr_capture.specs.CsvSteps.{field_len, fields_left, is_inner, line_number, moment_after, with_len, AreTimed, AnswersEnd, HasNoRows, HasReadTable, HoldsMore, IsRowOf, NamesAreRefused, NamesLeadTo, ReadsLine};
+ghost use Rattle.pr_capture.specs.CsvSteps.{field_len, fields_left, line_number, moment_after, with_len, AreTimed, AnswersEnd, HasNoRows, HasReadTable, HoldsMore, IsRowOf, NamesAreRefused, NamesLeadTo, ReadsLine};
 ghost use Rattle.pr_capture.specs.TableTimes.{time_at_rate};
 ghost use Rattle.pr_capture.specs.declared.fault.CaptureFault.TheVariants.{NoMemory};
 
@@ -91,7 +91,7 @@ fn is_in_front(line: &[u8]) -> bool
 }
 
 /// Whether a byte can separate fields.
-fn is_separator(b: u8) -> bool
+pub fn is_separator(b: u8) -> bool
     ensures { result ≡ is_separator b }
 {
     b == b',' || b == b';' || b == b'\t'
@@ -568,14 +568,14 @@ fn row_of(
 }
 
 /// Whether a text has 16 bits a letter.
-fn is_wide(line: &[u8]) -> bool
+pub fn is_wide(line: &[u8]) -> bool
     ensures { result ≡ is_wide line.now }
 {
     is_word(first_of(line, 2), &[255, 254]) || is_word(first_of(line, 2), &[254, 255])
 }
 
 /// Whether this is a zip archive.
-fn is_archive(line: &[u8]) -> bool
+pub fn is_archive(line: &[u8]) -> bool
     ensures { result ≡ is_archive line.now }
 {
     is_word(first_of(line, 4), &[b'P', b'K', 3, 4])
@@ -670,7 +670,7 @@ impl RowPlace {
 }
 
 /// How many bytes come before the end of the first line.
-fn line_len(text: &[u8]) -> usize
+pub fn line_len(text: &[u8]) -> usize
     ensures len { result ≡ prefix_len is_inner text.now }
     ensures within { result ≤ length text.now }
 {

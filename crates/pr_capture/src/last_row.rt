@@ -4,7 +4,8 @@
 ghost use Rattle.std.specs.Prelude.{◌≡◌, ◌+◌, ◌*◌, ◌<◌, ◌≤◌, ◌∷◌, ◌++◌, [], Bool, None, IfSome, Some, IsTrue, length, take, true};
 ghost use Rattle.std.specs.List.{list_all};
 ghost use Rattle.std.specs.Str.{bytes_eq};
-ghost use Rattle.pr_capture.specs.CsvSteps.{IsRepeat, IsRowOf, IsRun, KnowsLast, KnowsLevels, are_behind, copies, is_inner, row_if, tail_at};
+ghost use Rattle.pr_capture.specs.Csv.{is_inner};
+ghost use Rattle.pr_capture.specs.CsvSteps.{IsRepeat, IsRowOf, IsRun, KnowsLast, KnowsLevels, are_behind, copies, row_if, tail_at};
 
 use crate::csv::{Columns, Layout, Moment, Row, RowPlace, Scale, field_len};
 use crate::entries::is_word;

@@ -1,8 +1,8 @@
 //! Traces of the serial bus in the formats of other tools: Value Change Dumps, and tables of comma
 //! separated values.
 //!
-//! - `format` names the formats, `signals` the wires' names and levels, `fault` why a recording cannot be
-//!   read.
+//! - `format` names the formats, and `found` finds one by the first bytes of a recording; `signals` has the wires'
+//!   names and levels, `fault` why a recording cannot be read.
 //! - `vcd` writes a Value Change Dump. [`VcdWriter`] keeps the last edge alone.
 //! - `csv` reads a table that comes in blocks, line by line. [`CsvReader`] keeps the line that has begun, and
 //!   the last row: `last_row` reads a row that goes on as that one does without looking at its fields.
@@ -26,6 +26,7 @@ mod edge_detector;
 mod entries;
 mod fault;
 mod format;
+mod found;
 mod header;
 mod known;
 mod last_row;
@@ -43,6 +44,7 @@ pub use csv::CsvReader;
 pub use edge_detector::EdgeDetector;
 pub use fault::{CaptureFault, Wire};
 pub use format::{Source, TraceFormat, TraceInput};
+pub use found::found_source;
 pub use laws::{csv_is_read_back, given_edges_come_first, given_samples_come_first};
 pub use remarks::read_rate;
 pub use signals::Signals;

@@ -24,7 +24,7 @@ use Rattle.pr_options.specs.declared.outputs.DecodeOutput.{DecodeOutput}
 use Rattle.pr_options.specs.declared.outputs.DecodeOutput.TheVariants as reading
 use Rattle.pr_options.specs.declared.outputs.PagesOutput.{PagesOutput}
 use Rattle.pr_options.specs.declared.outputs.PagesOutput.TheVariants as output
-use Rattle.pr_options.specs.Found.{found_source}
+use Rattle.pr_capture.specs.Found.{found_source}
 use Rattle.pr_jobs.specs.declared.fault.CliFault.{CliFault}
 use Rattle.pr_jobs.specs.declared.run.Ending.{Ending}
 use Rattle.pr_jobs.specs.declared.run.Ending.TheVariants.{Done}

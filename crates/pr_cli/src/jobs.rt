@@ -7,13 +7,13 @@ ghost use Rattle.pr_jobs.specs.Report.{IsReportFault, ReadsAll, WritesNoReport};
 ghost use Rattle.pr_input.specs.Watched.{has_failed, is_flushed, wrapped};
 ghost use Rattle.pr_cli.specs.Jobs.{AnswersFrames, AnswersJob, AnswersPrinted, AnswersRecording, AnswersRun, AnswersTrace, AnswersTraced, IsJobFault, IsPrintFault, IsRecordingFault, KeepsOutput, KeepsTrace, ReadsInput, ReadsRecording, ReadsTrace, found_job, restarted_job};
 
-use pr_capture::{Source, TraceFormat, TraceInput};
+use pr_capture::{Source, TraceFormat, TraceInput, found_source};
 use pr_dots::Shapes;
 use pr_jobs::{
     CliFault, Ending, RunEnd, Start, Watched, bus_as_over, bus_over, check_as_over, check_over,
     pages_as_over, pages_over, raw_over,
 };
-use pr_options::{CheckOutput, DecodeOutput, Job, PagesOutput, found_source};
+use pr_options::{CheckOutput, DecodeOutput, Job, PagesOutput};
 use pr_recording::{
     Heard, Wording, bytes_over, check_json_over, decode_json_over, decode_over, reprint_over,
     run_bytes_over,

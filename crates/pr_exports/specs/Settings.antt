@@ -9,7 +9,7 @@ use Rattle.pr_dots.specs.Shapes.{own_shapes}
 use Rattle.pr_dots.specs.declared.character_sets.Shapes.{Shapes}
 use Rattle.pr_listing.specs.declared.form.ListingForm.{ListingForm}
 use Rattle.pr_listing.specs.declared.form.ListingForm.TheVariants as listing
-use Rattle.pr_options.specs.Found.{found_source}
+use Rattle.pr_capture.specs.Found.{found_source}
 use Rattle.pr_channels.specs.declared.faults.Stop.TheVariants as stop
 use Rattle.pr_render.specs.declared.format.Format.{Format}
 use Rattle.pr_render.specs.declared.format.Device.{Device}

@@ -1,16 +1,16 @@
 //! What the numbers and bytes that a caller passes mean.
 
 ghost use Rattle.std.specs.Prelude.{◌≡◌, take};
-ghost use Rattle.pr_options.specs.Found.{found_source};
+ghost use Rattle.pr_capture.specs.Found.{found_source};
 ghost use Rattle.pr_exports.specs.Settings.{AsksShapes, IsInput, check_of, detail_of, device_of, form_of, format_of, mode_of, presence, rate_of, sheet_of, shown_of, source_of, stop_of, wording_of};
 
 use pr_basic::StatusMode;
-use pr_capture::{Signals, Source, TraceInput};
+use pr_capture::{Signals, Source, TraceInput, found_source};
 use pr_channels::Stop;
 use pr_characters::{CharactersFault, read_shapes};
 use pr_dots::Shapes;
 use pr_listing::ListingForm;
-use pr_options::{CheckOutput, found_source};
+use pr_options::CheckOutput;
 use pr_recording::Wording;
 use pr_render::{Device, Format, Part};
 use pr_report::{Bounds, Detail, Report};

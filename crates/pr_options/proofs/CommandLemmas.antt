@@ -16,10 +16,9 @@ use Rattle.clap.specs.declared.parser.matches.Found.{Found}
 use Rattle.clap.specs.declared.parser.matches.MatchedArg.{MatchedArg}
 use Rattle.clap.specs.declared.parser.matches.ValueSource.{ValueSource}
 use Rattle.pr_options.specs.CommandLine.{print1525, rule, subcommand}
-use Rattle.pr_options.specs.Found.{bad_value, value_given}
 use Rattle.pr_options.specs.Given.{has_ending, is_named, is_of_words, value_in}
 use Rattle.pr_options.specs.Steps.{Met}
-use Rattle.pr_options.specs.Values.{option_of}
+use Rattle.pr_options.specs.Values.{bad_value, option_of, value_given}
 use Rattle.pr_options.specs.declared.command_line.JobFault.{JobFault}
 use Rattle.pr_options.specs.Rows.{command_name, options_of}
 use Rattle.pr_options.specs.Subcommands.{alone, endings_view, with_files, with_options}

@@ -6,7 +6,6 @@ pub mod Given
 pub mod CommandLine
 pub mod Subcommands
 pub mod Jobs
-pub mod Found
 pub mod Faults
 pub mod Values
 pub mod Steps

@@ -8,9 +8,8 @@ ghost use Rattle.pr_options.specs.CommandLine.{print1525};
 ghost use Rattle.pr_options.specs.CommandLaws.{NamesOurs};
 ghost use Rattle.pr_options.specs.Jobs.{IsRefused, asked, input_view, job_view, task_view, wanted, wanted_bus, wanted_check, wanted_decode, wanted_input, wanted_pages, wanted_raw, wanted_run};
 ghost use Rattle.pr_options.specs.Steps.{IsFaultIn, IsOfClap, IsOwn, job_result, run_view, wanted_of};
-ghost use Rattle.pr_options.specs.Found.{bad_value, begins_as_dump, begins_as_table, behind_meta, found_source, front, has_meta, has_separator, is_inner, is_no_text, is_separator, value_given};
 ghost use Rattle.pr_options.specs.Given.{value_in};
-ghost use Rattle.pr_options.specs.Values.{good_values_of, option_of, values_of};
+ghost use Rattle.pr_options.specs.Values.{bad_value, good_values_of, option_of, value_given, values_of};
 
 use crate::clap_command::make_command;
 use crate::delays::{DelayFault, read_delays};
@@ -49,7 +48,7 @@ pub enum Job<'a> {
     Check(TraceInput<'a>, CheckOutput),
     /// Read any recording and write what it says.
     Decode {
-        /// The first bytes of the recording show its format, as [`found_source`] reads them; the format
+        /// The first bytes of the recording show its format, as [`pr_capture::found_source`] reads them; the format
         /// in `input` is the one where they show none.
         is_found: bool,
         /// How it is read.
@@ -247,115 +246,6 @@ fn value_of<'a>(matches: &ArgMatches<'a>, opt: Opt) -> Option<&'a str>
         Some((_name, options)) => Some(value_in(options, opt)),
         None => None,
     }
-}
-
-/// Returns the format that the first bytes of a recording show, or else `source`: a dump begins with
-/// `$`, also after the line `META samplerate: ..` that sigrok-cli puts in front; a table with `;`, `#`
-/// or that line, or it has a comma, a semicolon or a tab in its first line. UTF-16 text and zip archives
-/// are taken as tables, whose reader refuses them by name. It takes no memory.
-pub fn found_source(source: Source, bytes: &[u8]) -> Source
-    ensures { result ≡ found_source source bytes.now }
-{
-    if begins_as_dump(bytes) {
-        Source::Vcd
-    } else if begins_as_table(bytes) {
-        Source::Csv
-    } else {
-        source
-    }
-}
-
-/// Whether the first line is the one that sigrok-cli puts in front of what it writes.
-fn has_meta(bytes: &[u8]) -> bool
-    ensures { result ≡ has_meta bytes.now }
-{
-    bytes.starts_with(b"META samplerate:")
-}
-
-/// How many bytes come before the first line's end.
-fn line_len(bytes: &[u8]) -> usize
-    ensures len { result ≡ prefix_len is_inner bytes.now }
-    ensures within { result ≤ length bytes.now }
-{
-    for (i, b) in bytes.iter().enumerate() {
-        if *b == b'\n' {
-            return i;
-        }
-    }
-    bytes.len()
-}
-
-/// The bytes without sigrok-cli's line, if that is in front.
-fn behind_meta(bytes: &[u8]) -> &[u8]
-    ensures { result.now ≡ behind_meta bytes.now }
-{
-    if has_meta(bytes) {
-        &bytes[line_len(bytes)..]
-    } else {
-        bytes
-    }
-}
-
-/// The first byte that is no blank, after sigrok-cli's line, if that is in front.
-fn front(bytes: &[u8]) -> Option<u8>
-    ensures { result ≡ front bytes.now }
-{
-    let rest = behind_meta(bytes);
-    rest.iter().copied().find(|b| !b.is_ascii_whitespace())
-}
-
-/// Whether the first byte that is no blank is a `$`.
-fn begins_as_dump(bytes: &[u8]) -> bool
-    ensures { result ≡ begins_as_dump bytes.now }
-{
-    matches!(front(bytes), Some(b'$'))
-}
-
-/// Whether these are the first bytes of text of 16 bits a letter, or of a zip archive.
-fn is_no_text(bytes: &[u8]) -> bool
-    ensures { result ≡ is_no_text bytes.now }
-{
-    bytes.starts_with(&[255, 254])
-        || bytes.starts_with(&[254, 255])
-        || bytes.starts_with(&[b'P', b'K', 3, 4])
-}
-
-/// Whether the first byte that is no blank is a `;` or a `#`, or the first line is sigrok-cli's or has a
-/// separator; or whether this is no text.
-fn begins_as_table(bytes: &[u8]) -> bool
-    ensures { result ≡ begins_as_table bytes.now }
-{
-    is_no_text(bytes)
-        || has_meta(bytes)
-        || matches!(front(bytes), Some(b';' | b'#'))
-        || has_separator(bytes)
-}
-
-/// Whether a byte separates the fields of a table.
-fn is_separator(b: u8) -> bool
-    ensures { result ≡ is_separator b }
-{
-    b == b',' || b == b';' || b == b'\t'
-}
-
-/// Whether a comma, a semicolon or a tab comes before the first line's end.
-fn has_separator(bytes: &[u8]) -> bool
-    ensures { result ≡ has_separator bytes.now }
-{
-    match separator_or_end(bytes) {
-        Some(b) => is_separator(b),
-        None => false,
-    }
-}
-
-/// The first separator or line's end.
-fn separator_or_end(bytes: &[u8]) -> Option<u8>
-    ensures { result ≡ find (λ b. is_separator b || b == 10) bytes.now }
-{
-    bytes
-        .iter()
-        .copied()
-        .find(|b| is_separator(*b) || *b == b'\n')
 }
 
 /// Returns whether a word is `--explain`, which asks for more on a refusal or an error; also on a

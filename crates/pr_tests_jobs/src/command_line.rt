@@ -2,11 +2,11 @@
 
 use pr_basic::StatusMode;
 use pr_bus::Delays;
-use pr_capture::Source;
+use pr_capture::{Source, found_source};
 use pr_cli::read_job;
 use pr_options::{
-    DecodeOutput, DelayFault, Job, JobFault, Opt, PagesOutput, bad_value, explains, found_source,
-    read_delays, read_task,
+    DecodeOutput, DelayFault, Job, JobFault, Opt, PagesOutput, bad_value, explains, read_delays,
+    read_task,
 };
 use pr_render::{Device, Format};
 use pr_report::{Bounds, Detail};

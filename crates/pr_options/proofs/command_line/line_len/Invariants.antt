@@ -1,8 +1,0 @@
-use Rattle.std.proofs.Common.{◌≡◌, ◌+◌, drop}
-use Rattle.std.specs.List.{prefix_len}
-use Rattle.pr_options.specs.Found.{is_inner}
-use Rattle.pr_options.proofs.command_line.line_len.Given as goal
-
--- no line ends so far
-abbrev pub invariant-loop-i : goal.invariant-loop-i
-invariant-loop-i l = prefix_len is_inner l.bytes ≡ l.i + prefix_len is_inner (drop l.i l.bytes)
