@@ -12,11 +12,11 @@ use Rattle.pr_jobs.specs.declared.fault.CliFault.TheVariants.{Script}
 use Rattle.pr_jobs.specs.Check.{trace_limit}
 use Rattle.pr_render.specs.declared.format.Format.{Format}
 use Rattle.pr_capture.specs.declared.format.TraceInput.{TraceInput}
-use Rattle.pr_recording.specs.Decoded.{AnswersDecode}
+use Rattle.pr_recording.specs.Decoded.{AnswersDecode, readings_up_to}
 use Rattle.pr_decode.specs.declared.reading.Reading.{Reading}
 use Rattle.pr_report.specs.Intervals.{intervals}
 use Rattle.pr_dots.specs.declared.character_sets.Shapes.{Shapes}
-use Rattle.pr_recording.specs.Pages.{AnswersPages, readings_up_to}
+use Rattle.pr_recording.specs.Pages.{AnswersPages}
 use Rattle.pr_report.specs.declared.oddities.Oddities.{Oddities}
 use Rattle.pr_recording.specs.declared.wording.Wording.{Wording}
 use Rattle.pr_report.specs.declared.detail.Detail.{Detail}

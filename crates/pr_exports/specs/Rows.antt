@@ -4,8 +4,7 @@ use Rattle.std.specs.Prelude.{◌≡◌, ℕ, List, [], ◌∷◌, Option}
 use Rattle.pr_wire.specs.declared.Edge.{Edge}
 use Rattle.pr_base.specs.Lines.{lines_of}
 use Rattle.pr_jobs.specs.declared.fault.CliFault.{CliFault}
-use Rattle.pr_recording.specs.Decoded.{back_in, stop_at}
-use Rattle.pr_recording.specs.Pages.{readings_up_to}
+use Rattle.pr_recording.specs.Decoded.{back_in, readings_up_to, stop_at}
 use Rattle.pr_exports.specs.declared.rows.Ended.{Ended}
 
 -- the end of edges whose input has this fault, if it has one

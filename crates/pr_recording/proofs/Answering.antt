@@ -13,16 +13,18 @@ use Rattle.pr_capture.specs.declared.fault.CaptureFault.TheVariants as capture
 use Rattle.pr_capture.specs.declared.format.Source.{Source}
 use Rattle.pr_capture.specs.declared.format.TraceInput.{TraceInput}
 use Rattle.pr_input.specs.PartlyWritten.{AppendsFront}
+use Rattle.pr_input.specs.declared.watched.Watched.{Watched}
 use Rattle.pr_jobs.specs.Inputs.{EachTextSaysEdges, HasReadEdges, ReadEdgesComeFirst, SaysFirst, edges_read, fault_read}
 use Rattle.pr_jobs.specs.EdgesTaken.{HasTakenAll, HasTakenBefore}
 use Rattle.pr_jobs.specs.Report.{IsNoReading, IsOwnFault, IsReportFault, SaysWhole, edges_checked}
 use Rattle.pr_jobs.specs.Report as report
 use Rattle.pr_jobs.specs.Check.{trace_limit}
+use Rattle.pr_jobs.specs.Does.{TellsFailures}
 use Rattle.pr_decode.specs.Readings.{readings_of}
 use Rattle.pr_report.specs.Oddities.{oddities_of}
 use Rattle.pr_report.specs.declared.oddities.Oddities.{Oddities}
 use Rattle.pr_report.specs.declared.report.Report.TheVariants.{Story}
-use Rattle.pr_jobs.specs.InputReads.{IsTooLong, ReadsEdges}
+use Rattle.pr_jobs.specs.InputReads.{IsTooLong, ReadsEdges, StopsWell}
 use Rattle.pr_basic.specs.declared.fault.ScriptFault.{ScriptFault}
 use Rattle.pr_jobs.specs.declared.fault.PictureFault.{PictureFault}
 use Rattle.pr_jobs.specs.declared.fault.CliFault.{CliFault}
@@ -360,7 +362,7 @@ last_refusal w limit checked start left old now input r n e h ends =
     let P : Option CliFault → Type 0 = λ v. IfSome v (Refuses checked) in
     subst P (sym follows.refused) (refuses checked input.source k.edges k.fault k.own)
 
-pub at_last : (w : Wording) (limit : ℕ) (checked : Bool) (start left old now new : Option (List ℕ)) (input : TraceInput) (r : InputReader) (n : DecodeReport) (e : Ended) (v : Result Oddities CliFault)
+at_last : (w : Wording) (limit : ℕ) (checked : Bool) (start left old now new : Option (List ℕ)) (input : TraceInput) (r : InputReader) (n : DecodeReport) (e : Ended) (v : Result Oddities CliFault)
     → HasTakenBefore limit start left input r (HasWritten input.source w old now n) → (fault_read r ≡ None → IsAtEnd left) → EndsNarrated input checked r n e → WritesEnd e now new v → AnswersLast w limit checked start left old new input e v
 at_last w limit checked start left old now new input r n e v h stops ends writes =
     let k = ends w h.taken.written limit start left input h.given h.read h.taken.narrated in
@@ -383,6 +385,14 @@ at_last w limit checked start left old now new input r n e v h stops ends writes
       leaves = leaves_end input w limit (length text) checked edges h.taken.written own e old now new v says.short k o h.taken.wrote writes;
       odd = odd_end input w checked edges h.taken.written own e now new v k writes;
     }
+
+-- the same where the last block was read then
+pub at_last_block : (w : Wording) (limit : ℕ) (checked : Bool) (start a left old now new : Option (List ℕ)) (input : TraceInput) (r s : InputReader) (n : DecodeReport) (e : Ended) (v : Result Oddities CliFault) (going : Bool)
+    → HasTakenAll limit start a input r (HasWritten input.source w old now n) → ReadsEdges a left r s → going ≡ false → StopsWell going left s → EndsNarrated input checked s n e → WritesEnd e now new v
+    → AnswersLast w limit checked start left old new input e v
+at_last_block w limit checked start a left old now new input r s n e v going h reads ended stopped ends writes =
+    let stops : StopsWell false left s = rw ended at stopped in
+    at_last w limit checked start left old now new input s n e v (told_before w limit start a left old now input r s n h reads) stops ends writes
 
 -- a fault of reading is one of a recording
 pub reading_fault : (checked : Bool) (v : Result Oddities CliFault) (f : CliFault) → IsErrAnd v (λ x. x ≡ f) → IsNoReading f → IfErr v (IsRefusal checked)
@@ -467,13 +477,17 @@ pub own_checked : (v : Result Oddities CliFault) → IfErr v (IsRefusal true) �
 own_checked (Ok odd) h = tt
 own_checked (Err f) h = h
 
-pub ok_without : (v : Result Oddities CliFault) (P : Type 0) → OnOk v P → OnOk (without_odd v) P
+ok_without : (v : Result Oddities CliFault) (P : Type 0) → OnOk v P → OnOk (without_odd v) P
 ok_without (Ok odd) P h = h
 ok_without (Err f) P h = tt
 
-pub err_without : (v : Result Oddities CliFault) (f : CliFault) (b : Type 0) → (IsErrOf v f ↔ b) → (IsErrOf (without_odd v) f ↔ b)
+err_without : (v : Result Oddities CliFault) (f : CliFault) (b : Type 0) → (IsErrOf v f ↔ b) → (IsErrOf (without_odd v) f ↔ b)
 err_without (Ok odd) f b k = (λ h. absurd (cc (h)), λ h. absurd (cc (k.1 h)))
 err_without (Err x) f b k = (
   λ h. k.0 (let q : x ≡ f = cc (h) in ap (λ (y : CliFault). Err y) q),
   λ h. let q : x ≡ f = cc (k.1 h) in ap (λ (y : CliFault). Err y) q,
 )
+
+-- and so does what every job tells
+pub tells_without : {R W : Type 0} (input : Watched R) (output : Watched W) (v : Result Oddities CliFault) → TellsFailures input output v → TellsFailures input output (without_odd v)
+tells_without input output v h = (ok_without v _ h.0, err_without v ReadFailed _ h.1, err_without v WriteFailed _ h.2)

@@ -19,10 +19,9 @@ use Rattle.pr_recording.specs.declared.byte_log.HeardBytes.{HeardBytes}
 use Rattle.pr_recording.specs.declared.device_log.Ear.{Ear}
 use Rattle.pr_recording.specs.declared.tape.TapeEnd.{TapeEnd}
 use Rattle.pr_recording.specs.Bytes.{AnswersBytes, LeavesBytes, bytes_of, number_of}
-use Rattle.pr_recording.specs.Decoded.{back_in, stop_at}
+use Rattle.pr_recording.specs.Decoded.{back_in, readings_up_to, stop_at}
 use Rattle.pr_recording.specs.Logged.{AreHeard, HasHeard, HearsMore}
 use Rattle.pr_recording.specs.Narrated.{IsStop}
-use Rattle.pr_recording.specs.Pages.{readings_up_to}
 use Rattle.pr_recording.specs.PrintedPages.{heard_in}
 use Rattle.pr_recording.specs.Taped.{ReadsInto, ReadsWhole}
 use Rattle.pr_recording.specs.Writes.{WritesHeard}

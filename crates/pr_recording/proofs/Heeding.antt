@@ -15,10 +15,9 @@ use Rattle.pr_recording.specs.declared.reading_log.ReadingLog.{ReadingLog}
 use Rattle.pr_recording.specs.declared.decode_report.Ended.{Ended}
 use Rattle.pr_recording.specs.declared.decode_report.DecodeReport.{DecodeReport}
 use Rattle.pr_recording.specs.declared.tape.TapeEnd.{TapeEnd}
-use Rattle.pr_recording.specs.Decoded.{back_in, last_lines, readings_text, stop_at, told_of}
+use Rattle.pr_recording.specs.Decoded.{back_in, last_lines, readings_text, readings_up_to, stop_at, told_of}
 use Rattle.pr_recording.specs.Judged.{HasJudged, JudgesMore}
 use Rattle.pr_recording.specs.Narrated.{AccountsMore, EndsEdges, HasAccounted, HasNarrated, NarratesMore, refused_by}
-use Rattle.pr_recording.specs.Pages.{readings_up_to}
 use Rattle.pr_recording.specs.Taped.{EndsTape, IsEnd, TapesMore}
 
 -- all edges more are judged, and taken up to where time goes back

@@ -19,9 +19,9 @@ use Rattle.pr_recording.specs.declared.printer_pair.BusPrinters.{BusPrinters}
 use Rattle.pr_recording.specs.declared.printer_pair.PrintedPages.{PrintedPages}
 use Rattle.pr_recording.specs.declared.tape.TapeEnd.{TapeEnd}
 use Rattle.pr_recording.specs.Adds.{Adds}
-use Rattle.pr_recording.specs.Decoded.{back_in, stop_at}
+use Rattle.pr_recording.specs.Decoded.{back_in, readings_up_to, stop_at}
 use Rattle.pr_recording.specs.Narrated.{IsStop}
-use Rattle.pr_recording.specs.Pages.{AnswersPages, IsPagesOf, IsReprintFault, LeavesPages, print_limit, readings_up_to}
+use Rattle.pr_recording.specs.Pages.{AnswersPages, IsPagesOf, IsReprintFault, LeavesPages, print_limit}
 use Rattle.pr_recording.specs.PrintedPages.{ArePapers}
 use Rattle.pr_recording.specs.Taking.{HasReprinted}
 use Rattle.pr_recording.specs.Taped.{ReadsInto, ReadsWhole}

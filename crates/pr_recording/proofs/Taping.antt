@@ -17,8 +17,7 @@ use Rattle.pr_jobs.specs.declared.fault.CliFault.{CliFault}
 use Rattle.pr_recording.specs.declared.tape.Head.{Head}
 use Rattle.pr_recording.specs.declared.tape.Tape.{Tape}
 use Rattle.pr_recording.specs.declared.tape.TapeEnd.{TapeEnd}
-use Rattle.pr_recording.specs.Decoded.{back_in, in_front, stop_at}
-use Rattle.pr_recording.specs.Pages.{readings_up_to}
+use Rattle.pr_recording.specs.Decoded.{back_in, in_front, readings_up_to, stop_at}
 use Rattle.pr_recording.specs.Taped.{BeginsBack, CutsLast, EndsTape, HasPlayed, HasTaped, IsEnd, ReadsMore, TapesMore, time_of}
 use Rattle.pr_recording.proofs.Backs.{back_stays, front_back, front_stays, goes_back, many_on, times_many}
 

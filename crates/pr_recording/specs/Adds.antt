@@ -1,4 +1,5 @@
--- Linking words, for proofs: what is known of readings, as more of them come. No reader needs to believe them.
+-- Linking words, for proofs: what is known of readings, as more of them come, with its laws. They stand here since a ghost item
+-- of the code can cite nothing of proofs/. No reader needs to believe them: the prover has proved them.
 use Rattle.std.proofs.Common.{ℕ, ◌+◌, ◌≤◌, List, [], ◌++◌, sym, subst, append-nil, append_assoc, arith}
 use Rattle.pr_decode.specs.declared.reading.Reading.{Reading}
 

@@ -18,8 +18,7 @@ use Rattle.pr_jobs.specs.Report.{Says}
 use Rattle.pr_jobs.specs.declared.fault.CliFault.{CliFault}
 use Rattle.pr_jobs.specs.declared.fault.CliFault.TheVariants.{Script, Trace, Wave, Capture, Picture, TooLarge, NoMemory, ReadFailed, WriteFailed}
 use Rattle.pr_recording.specs.declared.byte_log.Heard.{Heard}
-use Rattle.pr_recording.specs.Decoded.{back_in, stop_at}
-use Rattle.pr_recording.specs.Pages.{readings_up_to}
+use Rattle.pr_recording.specs.Decoded.{back_in, readings_up_to, stop_at}
 use Rattle.pr_recording.specs.PrintedPages.{heard_in}
 
 -- the number of a printer

@@ -46,6 +46,11 @@ abbrev pub stop_at : (back : Option ℕ) → (own : Option CliFault) → Option 
 stop_at None own = own
 stop_at (Some n) own = Some (Wave (wave.Order n))
 
+-- what it says: the readings of all its edges, or where it stops those that its edges settle up to there
+abbrev pub readings_up_to : (stop : Option CliFault) → List Edge → List Reading
+readings_up_to None edges = readings_of edges
+readings_up_to (Some fault) edges = settled_of (in_front (back_in edges) edges)
+
 -- What is written.
 
 -- the text of readings
@@ -63,9 +68,9 @@ last_lines Json input fault edges rs = json_verdict fault
 -- for a whole recording both, with the fault that `check` finds; for any other the text of what its edges settle up to where it stops
 abbrev pub told_of : Wording → TraceInput → (stop : Option CliFault) → List Edge → List ℕ
 told_of w input None edges =
-    readings_text w (readings_of edges)
+    readings_text w (readings_up_to None edges)
     ++ last_lines w input (fault_of (edges_checked input.source edges)) edges (readings_of edges)
-told_of w input (Some fault) edges = readings_text w (settled_of (in_front (back_in edges) edges))
+told_of w input (Some fault) edges = readings_text w (readings_up_to (Some fault) edges)
 
 -- what the writer holds with each answer, by the limit and the length of the input, why it stops, and the text for it
 abbrev pub Leaves :

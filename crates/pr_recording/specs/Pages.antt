@@ -4,7 +4,7 @@ use Rattle.std.specs.Prelude.{◌≡◌, ℕ, ◌<◌, ◌≤◌, List, [], leng
 use Rattle.std.specs.Io.KnownBytes.{Appends, IsAtEnd, Keeps}
 use Rattle.pr_wire.specs.declared.Edge.{Edge}
 use Rattle.pr_decode.specs.declared.reading.Reading.{Reading}
-use Rattle.pr_decode.specs.Readings.{readings_of, settled_of}
+use Rattle.pr_decode.specs.Readings.{readings_of}
 use Rattle.pr_recording.specs.declared.printer_pair.PrintedPages.{PrintedPages}
 use Rattle.pr_recording.specs.PrintedPages.{ArePapers}
 use Rattle.pr_report.specs.Oddities.{oddities_of}
@@ -19,17 +19,12 @@ use Rattle.pr_jobs.specs.Report.{Says}
 use Rattle.pr_jobs.specs.declared.fault.CliFault.{CliFault}
 use Rattle.pr_jobs.specs.declared.fault.PictureFault.{PictureFault}
 use Rattle.pr_jobs.specs.declared.fault.CliFault.TheVariants.{Script, Trace, Wave, Capture, Picture, TooLarge, NoMemory, ReadFailed, WriteFailed}
-use Rattle.pr_recording.specs.Decoded.{IsDecodeFault, back_in, in_front, stop_at}
+use Rattle.pr_recording.specs.Decoded.{IsDecodeFault, back_in, readings_up_to, stop_at}
 
 -- the most bytes of a recording that is printed: a printer takes at most 2 ^ 32 inputs, and no byte
 -- of a recording makes more than one
 abbrev pub print_limit : ℕ
 print_limit = 4000000000
-
--- the readings that are printed: all of a whole recording, or those that its edges settle up to where it stops
-abbrev pub readings_up_to : (stop : Option CliFault) → List Edge → List Reading
-readings_up_to None edges = readings_of edges
-readings_up_to (Some fault) edges = settled_of (in_front (back_in edges) edges)
 
 -- an outcome with these papers and nothing else
 abbrev pub papers_alone : PrintedPages → Outcome

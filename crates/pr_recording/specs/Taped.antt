@@ -18,8 +18,7 @@ use Rattle.pr_jobs.specs.declared.input_reader.InputReader.{InputReader}
 use Rattle.pr_recording.specs.declared.tape.Head.{Head}
 use Rattle.pr_recording.specs.declared.tape.Tape.{Tape}
 use Rattle.pr_recording.specs.declared.tape.TapeEnd.{TapeEnd}
-use Rattle.pr_recording.specs.Decoded.{back_in, in_front, stop_at}
-use Rattle.pr_recording.specs.Pages.{readings_up_to}
+use Rattle.pr_recording.specs.Decoded.{back_in, in_front, readings_up_to, stop_at}
 
 -- the moment of the last of edges, if there is one
 abbrev pub time_after : (last : ℕ) → List Edge → ℕ

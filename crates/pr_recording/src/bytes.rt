@@ -1,6 +1,7 @@
 //! A recording in any format in, the bytes that one printer hears in it out.
 
 ghost use Rattle.std.specs.Prelude.{◌≡◌, ◌≤◌, ◌↔◌, false, true, IfErr, IfSome, IsErrOf, OnOk};
+ghost use Rattle.pr_jobs.specs.Does.{AreFresh, DoesJob};
 ghost use Rattle.pr_input.specs.Watched.{has_failed, is_flushed, wrapped};
 ghost use Rattle.pr_recording.specs.Bytes.{AnswersBytes, HasReadBytes, number_of};
 ghost use Rattle.pr_recording.specs.Decoded.{IsDecodeFault};
@@ -50,17 +51,13 @@ pub fn bytes_over<R: Read, W: Write>(
     device: Device,
 ) -> Result<(Heard, Oddities), CliFault>
     // the caller's part
-    requires input { has_failed input.old ≡ false }
-    requires output { has_failed output.old ≡ false }
+    requires fresh { AreFresh input.old output.old }
     // what it gives
     ensures bytes { IfSome (R.remaining (wrapped input.old)) (λ text.
         AnswersBytes trace.entry device text (W.contents (wrapped output.old)) (W.contents (wrapped output.new)) result) }
     ensures at_end { HasReadBytes (R.remaining (wrapped input.new)) result }
-    ensures flushed { OnOk result (is_flushed output.new ≡ true) }
     // when it refuses, and what that leaves
-    ensures own { IfErr result IsDecodeFault }
-    ensures read_failed { IsErrOf result CliFault.ReadFailed ↔ (has_failed input.new ≡ true) }
-    ensures write_failed { IsErrOf result CliFault.WriteFailed ↔ (has_failed output.new ≡ true) }
+    ensures does { DoesJob IsDecodeFault input.new output.new result }
 {
     read_edges_come_first();
     let mut log = DeviceLog::new(alloc, number_of(device));

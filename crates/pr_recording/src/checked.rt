@@ -1,7 +1,8 @@
 //! A trace in any format in, its readings as JSON out, and whether it is lawful.
 
-ghost use Rattle.std.specs.Prelude.{◌≡◌, ◌↔◌, false, true, IfErr, IfSome, IsErrOf, OnOk};
-ghost use Rattle.pr_input.specs.Watched.{has_failed, is_flushed, wrapped};
+ghost use Rattle.std.specs.Prelude.{IfSome};
+ghost use Rattle.pr_jobs.specs.Does.{AreFresh, DoesJob};
+ghost use Rattle.pr_input.specs.Watched.{wrapped};
 ghost use Rattle.pr_report.specs.declared.report.Report.TheVariants.{Story};
 ghost use Rattle.pr_jobs.specs.Report.{IsReportFault, ReadsAll};
 ghost use Rattle.pr_recording.specs.Checked.{AnswersJson};
@@ -36,17 +37,13 @@ pub fn check_json_over<R: Read, W: Write>(
     trace: TraceInput<'_>,
 ) -> Result<(), CliFault>
     // the caller's part
-    requires input { has_failed input.old ≡ false }
-    requires output { has_failed output.old ≡ false }
+    requires fresh { AreFresh input.old output.old }
     // what it gives
     ensures check { IfSome (R.remaining (wrapped input.old)) (λ text.
         AnswersJson trace.entry text (W.contents (wrapped output.old)) (W.contents (wrapped output.new)) result) }
     ensures at_end { ReadsAll Story (R.remaining (wrapped input.new)) result }
-    ensures flushed { OnOk result (is_flushed output.new ≡ true) }
     // when it refuses, and what that leaves
-    ensures own { IfErr result IsReportFault }
-    ensures read_failed { IsErrOf result CliFault.ReadFailed ↔ (has_failed input.new ≡ true) }
-    ensures write_failed { IsErrOf result CliFault.WriteFailed ↔ (has_failed output.new ≡ true) }
+    ensures does { DoesJob IsReportFault input.new output.new result }
 {
     without_odd(tell_input(
         alloc,

@@ -3,6 +3,7 @@
 ghost use Rattle.std.specs.Prelude.{◌≡◌, ◌≢◌, ◌+◌, ◌*◌, ◌^◌, ◌<◌, ◌≤◌, ◌↔◌, length, false, true, None, IfErr, IfOk, IfSome, IsErr, IsErrOf, OnErr, OnOk, Some};
 ghost use Rattle.std.specs.Io.KnownBytes.{Appends};
 ghost use Rattle.pr_jobs.specs.Check.{trace_limit};
+ghost use Rattle.pr_jobs.specs.Does.{AreFresh, DoesJob, TellsFailures};
 ghost use Rattle.pr_input.specs.PartlyWritten.{AppendsFront};
 ghost use Rattle.pr_jobs.specs.Inputs.{edges_read, lines_ahead};
 ghost use Rattle.pr_input.specs.Watched.{has_failed, is_flushed, wrapped};
@@ -52,17 +53,13 @@ pub fn decode_over<R: Read, W: Write>(
     wording: Wording,
 ) -> Result<(), CliFault>
     // the caller's part
-    requires input { has_failed input.old ≡ false }
-    requires output { has_failed output.old ≡ false }
+    requires fresh { AreFresh input.old output.old }
     // what it gives
     ensures decode { IfSome (R.remaining (wrapped input.old)) (λ text.
         AnswersDecode trace_limit wording trace.entry text (W.contents (wrapped output.old)) (W.contents (wrapped output.new)) result) }
     ensures at_end { ReadsAll (R.remaining (wrapped input.new)) result }
-    ensures flushed { OnOk result (is_flushed output.new ≡ true) }
     // when it refuses, and what that leaves
-    ensures own { IfErr result IsDecodeFault }
-    ensures read_failed { IsErrOf result CliFault.ReadFailed ↔ (has_failed input.new ≡ true) }
-    ensures write_failed { IsErrOf result CliFault.WriteFailed ↔ (has_failed output.new ≡ true) }
+    ensures does { DoesJob IsDecodeFault input.new output.new result }
 {
     without_odd(tell_input(alloc, input, output, trace, wording, false, CHECK_LIMIT))
 }
@@ -79,17 +76,13 @@ pub fn decode_json_over<R: Read, W: Write>(
     trace: TraceInput<'_>,
 ) -> Result<Oddities, CliFault>
     // the caller's part
-    requires input { has_failed input.old ≡ false }
-    requires output { has_failed output.old ≡ false }
+    requires fresh { AreFresh input.old output.old }
     // what it gives
     ensures decode { IfSome (R.remaining (wrapped input.old)) (λ text.
         AnswersDecodeJson trace.entry text (W.contents (wrapped output.old)) (W.contents (wrapped output.new)) result) }
     ensures at_end { ReadsAll (R.remaining (wrapped input.new)) (without_odd result) }
-    ensures flushed { OnOk result (is_flushed output.new ≡ true) }
     // when it refuses, and what that leaves
-    ensures own { IfErr result IsDecodeFault }
-    ensures read_failed { IsErrOf result CliFault.ReadFailed ↔ (has_failed input.new ≡ true) }
-    ensures write_failed { IsErrOf result CliFault.WriteFailed ↔ (has_failed output.new ≡ true) }
+    ensures does { DoesJob IsDecodeFault input.new output.new result }
 {
     tell_input(
         alloc,
@@ -129,18 +122,15 @@ pub fn tell_input<R: Read, W: Write>(
     limit: usize,
 ) -> Result<Oddities, CliFault>
     // the caller's part
-    requires input { has_failed input.old ≡ false }
-    requires output { has_failed output.old ≡ false }
+    requires fresh { AreFresh input.old output.old }
     requires few { limit ≤ trace_limit }
     // what it gives
     ensures told { IfSome (R.remaining (wrapped input.old)) (λ text.
         AnswersTold limit wording is_checked trace.entry text (W.contents (wrapped output.old)) (W.contents (wrapped output.new)) result) }
     ensures at_end { HasReadTo is_checked (R.remaining (wrapped input.new)) result }
-    ensures flushed { OnOk result (is_flushed output.new ≡ true) }
     // when it refuses, and what that leaves
     ensures own { IfErr result (IsRefusal is_checked) }
-    ensures read_failed { IsErrOf result CliFault.ReadFailed ↔ (has_failed input.new ≡ true) }
-    ensures write_failed { IsErrOf result CliFault.WriteFailed ↔ (has_failed output.new ≡ true) }
+    ensures does { TellsFailures input.new output.new result }
 {
     readings_add_up();
     read_edges_come_first();

@@ -1,6 +1,7 @@
 //! A recording in any format in, the pages that printers print of it out.
 
 ghost use Rattle.std.specs.Prelude.{◌≡◌, ◌↔◌, false, true, IfErr, IfSome, IsErrOf, OnOk};
+ghost use Rattle.pr_jobs.specs.Does.{AreFresh, DoesJob};
 ghost use Rattle.pr_input.specs.Watched.{has_failed, is_flushed, wrapped};
 ghost use Rattle.pr_recording.specs.Narrated.{IsStop};
 ghost use Rattle.pr_recording.specs.Pages.{AnswersPages, IsReprintFault, ReadsPages, papers_alone};
@@ -55,17 +56,13 @@ pub fn reprint_over<R: Read, W: Write>(
     shapes: &Shapes,
 ) -> Result<Oddities, CliFault>
     // the caller's part
-    requires input { has_failed input.old ≡ false }
-    requires output { has_failed output.old ≡ false }
+    requires fresh { AreFresh input.old output.old }
     // what it gives
     ensures pages { IfSome (R.remaining (wrapped input.old)) (λ text.
         AnswersPages shapes.now trace.entry format text (W.contents (wrapped output.old)) (W.contents (wrapped output.new)) result) }
     ensures at_end { ReadsPages (R.remaining (wrapped input.new)) result }
-    ensures flushed { OnOk result (is_flushed output.new ≡ true) }
     // when it refuses, and what that leaves
-    ensures own { IfErr result IsReprintFault }
-    ensures read_failed { IsErrOf result CliFault.ReadFailed ↔ (has_failed input.new ≡ true) }
-    ensures write_failed { IsErrOf result CliFault.WriteFailed ↔ (has_failed output.new ≡ true) }
+    ensures does { DoesJob IsReprintFault input.new output.new result }
 {
     read_edges_come_first();
     let mut printers = PrinterPair::new(alloc);

@@ -1,6 +1,6 @@
 //! A script in, the bytes that one printer hears in its run out.
 
-ghost use Rattle.std.specs.Prelude.{◌≡◌, ◌≤◌, ◌<◌, ◌+◌, None, [], length, false, true, IfErr, IfOk, IfSome, OnOk, IsErrOf, ◌↔◌};
+ghost use Rattle.std.specs.Prelude.{◌≡◌, ◌≤◌, ◌<◌, ◌+◌, None, [], length, false, true, IfOk, IfSome, OnOk};
 ghost use Rattle.pr_serial.specs.Heard.{is_present};
 ghost use Rattle.pr_serial.specs.Items.{items_of};
 ghost use Rattle.pr_receiver.specs.Heard.{heard_of};
@@ -8,9 +8,10 @@ ghost use Rattle.pr_bus.specs.Answers.{answered_frames};
 ghost use Rattle.pr_basic.specs.Limits.{statement_limit};
 ghost use Rattle.pr_system.specs.RunningState.{next_effect, stepped_by, trace_before};
 ghost use Rattle.pr_system.specs.StepByStep.{stepped_through};
+ghost use Rattle.pr_jobs.specs.Does.{AreFresh, DoesJob};
 ghost use Rattle.pr_jobs.specs.Pages.{IsRunFault, ReadsToEnd, WritesNothing};
 ghost use Rattle.pr_jobs.specs.Runs.{run_end};
-ghost use Rattle.pr_input.specs.Watched.{has_failed, is_flushed, wrapped};
+ghost use Rattle.pr_input.specs.Watched.{wrapped};
 ghost use Rattle.pr_recording.specs.Bytes.{number_of};
 ghost use Rattle.pr_recording.specs.Logged.{AreHeard};
 ghost use Rattle.pr_recording.specs.RunBytes.{AnswersRunBytes};
@@ -66,19 +67,15 @@ pub fn run_bytes_over<R: Read, W: Write>(
     device: Device,
 ) -> Result<(RunEnd, Heard), CliFault>
     // the caller's part
-    requires input { has_failed input.old ≡ false }
-    requires output { has_failed output.old ≡ false }
+    requires fresh { AreFresh input.old output.old }
     // what it gives
     ensures bytes { IfSome (R.remaining (wrapped input.old)) (λ script.
         AnswersRunBytes start device script
         (W.contents (wrapped output.old)) (W.contents (wrapped output.new)) result) }
     ensures at_end { ReadsToEnd (R.remaining (wrapped input.new)) result }
-    ensures flushed { OnOk result (is_flushed output.new ≡ true) }
     // when it refuses, and what that leaves
     ensures nothing { WritesNothing (W.contents (wrapped output.old)) (W.contents (wrapped output.new)) result }
-    ensures memory { IfErr result IsRunFault }
-    ensures read_failed { IsErrOf result CliFault.ReadFailed ↔ (has_failed input.new ≡ true) }
-    ensures write_failed { IsErrOf result CliFault.WriteFailed ↔ (has_failed output.new ≡ true) }
+    ensures does { DoesJob IsRunFault input.new output.new result }
 {
     let script = read_whole(alloc, input, SCRIPT_LIMIT)?;
     let run = heard_in_run(alloc, script, start, device)?;

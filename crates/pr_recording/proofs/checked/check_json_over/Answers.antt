@@ -1,5 +1,4 @@
-use Rattle.pr_recording.proofs.Answering.{checked, err_without, ok_without, own_checked}
-use Rattle.pr_jobs.specs.declared.fault.CliFault.TheVariants.{ReadFailed, WriteFailed}
+use Rattle.pr_recording.proofs.Answering.{checked, own_checked, tells_without}
 use Rattle.pr_recording.proofs.checked.check_json_over.Goals as goal
 
 pub returns-clause-check : goal.returns-clause-check
@@ -9,14 +8,6 @@ returns-clause-check g c =
 pub returns-clause-at_end : goal.returns-clause-at_end
 returns-clause-at_end g c = rw c.without_odd.ensures c.tell_input.ensures.at_end
 
-pub returns-clause-flushed : goal.returns-clause-flushed
-returns-clause-flushed g c = rw c.without_odd.ensures (ok_without c.tell_input.result _ c.tell_input.ensures.flushed)
-
-pub returns-clause-own : goal.returns-clause-own
-returns-clause-own g c = rw c.without_odd.ensures (own_checked c.tell_input.result c.tell_input.ensures.own)
-
-pub returns-clause-read_failed : goal.returns-clause-read_failed
-returns-clause-read_failed g c = rw c.without_odd.ensures (err_without c.tell_input.result ReadFailed _ c.tell_input.ensures.read_failed)
-
-pub returns-clause-write_failed : goal.returns-clause-write_failed
-returns-clause-write_failed g c = rw c.without_odd.ensures (err_without c.tell_input.result WriteFailed _ c.tell_input.ensures.write_failed)
+pub returns-clause-does : goal.returns-clause-does
+returns-clause-does g c =
+    rw c.without_odd.ensures (own_checked c.tell_input.result c.tell_input.ensures.own, tells_without c.tell_input.new.input c.tell_input.new.output c.tell_input.result c.tell_input.ensures.does)

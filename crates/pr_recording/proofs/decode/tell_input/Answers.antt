@@ -3,7 +3,7 @@ use Rattle.pr_jobs.specs.Inputs.{edges_read}
 use Rattle.pr_jobs.specs.InputReads.{StopsWell}
 use Rattle.pr_recording.specs.Narrated.{NarratesMore}
 use Rattle.pr_jobs.specs.declared.fault.CliFault.TheVariants.{NoMemory}
-use Rattle.pr_recording.proofs.Answering.{at_first, at_last, failed_read, last_refusal, left_unread, left_unwritten, no_write, partly, reading_fault, refused, told_all, told_before, told_none, told_written, unwritten, writing_fault}
+use Rattle.pr_recording.proofs.Answering.{at_first, at_last_block, failed_read, last_refusal, left_unread, left_unwritten, no_write, partly, reading_fault, refused, told_all, told_before, told_none, told_written, unwritten, writing_fault}
 use Rattle.pr_recording.proofs.Coming.{Laws}
 use Rattle.pr_recording.proofs.decode.tell_input.Goals as goal
 
@@ -18,8 +18,8 @@ pieces-init g c = record {
   faultless = c.new-reader.ensures.open;
   lines = c.new-reader.ensures.lines;
   load = omega (arith, c.in_ok-report.ensures.load, c.new-reader.ensures.left);
-  fresh = c.requires.input;
-  clean = c.requires.output;
+  fresh = c.requires.fresh.0;
+  clean = c.requires.fresh.1;
   room = search rules;
 }
 
@@ -57,53 +57,33 @@ write_end-requires-clause-refused g c =
 
 pub returns-then-not-branch-clause-told : goal.returns-then-not-branch-clause-told
 returns-then-not-branch-clause-told g c =
-    let start = g.R.Read.remaining c.args.input.now.inner in
-    let now = g.R.Read.remaining c.read_block.new.input.inner in
-    let old = g.W.Write.contents c.args.output.now.inner in
-    let mid = g.W.Write.contents c.pieces.output.inner in
     let ended : c.in_ok-read_block.field-0 ≡ false = search rules in
-    let stops : StopsWell false now c.read_block.new.self = rw ended at c.in_ok-read_block.ensures.stops in
-    let before = told_before c.args.wording c.args.limit start (g.R.Read.remaining c.pieces.input.inner) now old mid c.args.trace c.pieces.reader c.read_block.new.self c.pieces.report c.pieces.invariant.read c.in_ok-read_block.ensures.read in
-    (at_last c.args.wording c.args.limit c.args.is_checked start now old mid (g.W.Write.contents c.write_end.new.output.inner) c.args.trace c.read_block.new.self c.pieces.report c.in_ok-end_input.field-0 c.write_end.result before stops c.in_ok-end_input.ensures
-    c.write_end.ensures.written).told
+    (at_last_block c.args.wording c.args.limit c.args.is_checked (g.R.Read.remaining c.args.input.now.inner) (g.R.Read.remaining c.pieces.input.inner) (g.R.Read.remaining c.read_block.new.input.inner)
+    (g.W.Write.contents c.args.output.now.inner) (g.W.Write.contents c.pieces.output.inner) (g.W.Write.contents c.write_end.new.output.inner) c.args.trace c.pieces.reader c.read_block.new.self c.pieces.report c.in_ok-end_input.field-0
+    c.write_end.result c.in_ok-read_block.field-0 c.pieces.invariant.read c.in_ok-read_block.ensures.read ended c.in_ok-read_block.ensures.stops c.in_ok-end_input.ensures c.write_end.ensures.written).told
 
 pub returns-then-not-branch-clause-at_end : goal.returns-then-not-branch-clause-at_end
 returns-then-not-branch-clause-at_end g c =
-    let start = g.R.Read.remaining c.args.input.now.inner in
-    let now = g.R.Read.remaining c.read_block.new.input.inner in
-    let old = g.W.Write.contents c.args.output.now.inner in
-    let mid = g.W.Write.contents c.pieces.output.inner in
     let ended : c.in_ok-read_block.field-0 ≡ false = search rules in
-    let stops : StopsWell false now c.read_block.new.self = rw ended at c.in_ok-read_block.ensures.stops in
-    let before = told_before c.args.wording c.args.limit start (g.R.Read.remaining c.pieces.input.inner) now old mid c.args.trace c.pieces.reader c.read_block.new.self c.pieces.report c.pieces.invariant.read c.in_ok-read_block.ensures.read in
-    (at_last c.args.wording c.args.limit c.args.is_checked start now old mid (g.W.Write.contents c.write_end.new.output.inner) c.args.trace c.read_block.new.self c.pieces.report c.in_ok-end_input.field-0 c.write_end.result before stops c.in_ok-end_input.ensures
-    c.write_end.ensures.written).at_end
+    (at_last_block c.args.wording c.args.limit c.args.is_checked (g.R.Read.remaining c.args.input.now.inner) (g.R.Read.remaining c.pieces.input.inner) (g.R.Read.remaining c.read_block.new.input.inner)
+    (g.W.Write.contents c.args.output.now.inner) (g.W.Write.contents c.pieces.output.inner) (g.W.Write.contents c.write_end.new.output.inner) c.args.trace c.pieces.reader c.read_block.new.self c.pieces.report c.in_ok-end_input.field-0
+    c.write_end.result c.in_ok-read_block.field-0 c.pieces.invariant.read c.in_ok-read_block.ensures.read ended c.in_ok-read_block.ensures.stops c.in_ok-end_input.ensures c.write_end.ensures.written).at_end
 
 pub returns-then-not-branch-clause-own : goal.returns-then-not-branch-clause-own
 returns-then-not-branch-clause-own g c =
-    let start = g.R.Read.remaining c.args.input.now.inner in
-    let now = g.R.Read.remaining c.read_block.new.input.inner in
-    let old = g.W.Write.contents c.args.output.now.inner in
-    let mid = g.W.Write.contents c.pieces.output.inner in
     let ended : c.in_ok-read_block.field-0 ≡ false = search rules in
-    let stops : StopsWell false now c.read_block.new.self = rw ended at c.in_ok-read_block.ensures.stops in
-    let before = told_before c.args.wording c.args.limit start (g.R.Read.remaining c.pieces.input.inner) now old mid c.args.trace c.pieces.reader c.read_block.new.self c.pieces.report c.pieces.invariant.read c.in_ok-read_block.ensures.read in
-    (at_last c.args.wording c.args.limit c.args.is_checked start now old mid (g.W.Write.contents c.write_end.new.output.inner) c.args.trace c.read_block.new.self c.pieces.report c.in_ok-end_input.field-0 c.write_end.result before stops c.in_ok-end_input.ensures
-    c.write_end.ensures.written).own
+    (at_last_block c.args.wording c.args.limit c.args.is_checked (g.R.Read.remaining c.args.input.now.inner) (g.R.Read.remaining c.pieces.input.inner) (g.R.Read.remaining c.read_block.new.input.inner)
+    (g.W.Write.contents c.args.output.now.inner) (g.W.Write.contents c.pieces.output.inner) (g.W.Write.contents c.write_end.new.output.inner) c.args.trace c.pieces.reader c.read_block.new.self c.pieces.report c.in_ok-end_input.field-0
+    c.write_end.result c.in_ok-read_block.field-0 c.pieces.invariant.read c.in_ok-read_block.ensures.read ended c.in_ok-read_block.ensures.stops c.in_ok-end_input.ensures c.write_end.ensures.written).own
 
-pub returns-then-not-branch-clause-read_failed : goal.returns-then-not-branch-clause-read_failed
-returns-then-not-branch-clause-read_failed g c =
-    let start = g.R.Read.remaining c.args.input.now.inner in
-    let now = g.R.Read.remaining c.read_block.new.input.inner in
-    let old = g.W.Write.contents c.args.output.now.inner in
-    let mid = g.W.Write.contents c.pieces.output.inner in
+pub returns-then-not-branch-clause-does : goal.returns-then-not-branch-clause-does
+returns-then-not-branch-clause-does g c =
     let ended : c.in_ok-read_block.field-0 ≡ false = search rules in
     let unfailed : c.read_block.new.input.failed ≡ false = search rules in
-    let stops : StopsWell false now c.read_block.new.self = rw ended at c.in_ok-read_block.ensures.stops in
-    let before = told_before c.args.wording c.args.limit start (g.R.Read.remaining c.pieces.input.inner) now old mid c.args.trace c.pieces.reader c.read_block.new.self c.pieces.report c.pieces.invariant.read c.in_ok-read_block.ensures.read in
-    let last = at_last c.args.wording c.args.limit c.args.is_checked start now old mid (g.W.Write.contents c.write_end.new.output.inner) c.args.trace c.read_block.new.self c.pieces.report c.in_ok-end_input.field-0 c.write_end.result before stops
-    c.in_ok-end_input.ensures c.write_end.ensures.written in
-    (λ k. absurd (last.reading k), λ k. absurd (cc (k, unfailed)))
+    let last = at_last_block c.args.wording c.args.limit c.args.is_checked (g.R.Read.remaining c.args.input.now.inner) (g.R.Read.remaining c.pieces.input.inner) (g.R.Read.remaining c.read_block.new.input.inner)
+    (g.W.Write.contents c.args.output.now.inner) (g.W.Write.contents c.pieces.output.inner) (g.W.Write.contents c.write_end.new.output.inner) c.args.trace c.pieces.reader c.read_block.new.self c.pieces.report c.in_ok-end_input.field-0
+    c.write_end.result c.in_ok-read_block.field-0 c.pieces.invariant.read c.in_ok-read_block.ensures.read ended c.in_ok-read_block.ensures.stops c.in_ok-end_input.ensures c.write_end.ensures.written in
+    (search rules, (λ k. absurd (last.reading k), λ k. absurd (cc (k, unfailed))), search rules)
 
 pub pieces-preserved : goal.pieces-preserved
 pieces-preserved g c =
@@ -140,9 +120,9 @@ returns-in_err-write_lines-clause-told g c =
     partly laws c.read_edges_come_first.ensures.first c.args.wording c.args.limit c.args.is_checked start now old mid (g.W.Write.contents c.write_lines.new.output.inner) c.args.trace c.read_block.new.self c.take_all.new.self
     c.from_residual-in_err-write_lines.result c.in_err-write_lines.field-0.0 told c.from_residual-in_err-write_lines.ensures.1 c.in_err-write_lines.ensures.own c.in_err-write_lines.ensures.err
 
-pub returns-in_err-read_block-clause-read_failed : goal.returns-in_err-read_block-clause-read_failed
-returns-in_err-read_block-clause-read_failed g c =
-    failed_read c.from_residual-in_err-read_block.result c.read_block.result c.in_err-read_block.field-0.0 _ c.from_residual-in_err-read_block.ensures.1 c.in_err-read_block.was c.read_block.ensures.failed
+pub returns-in_err-read_block-clause-does : goal.returns-in_err-read_block-clause-does
+returns-in_err-read_block-clause-does g c =
+    (search rules, failed_read c.from_residual-in_err-read_block.result c.read_block.result c.in_err-read_block.field-0.0 _ c.from_residual-in_err-read_block.ensures.1 c.in_err-read_block.was c.read_block.ensures.failed, search rules)
 
 pub returns-in_err-take_all-clause-own : goal.returns-in_err-take_all-clause-own
 returns-in_err-take_all-clause-own g c =
@@ -180,3 +160,6 @@ pub returns-in_err-write_lines-clause-at_end : goal.returns-in_err-write_lines-c
 returns-in_err-write_lines-clause-at_end g c =
     left_unwritten c.args.is_checked (g.R.Read.remaining c.read_block.new.input.inner) c.from_residual-in_err-write_lines.result c.in_err-write_lines.field-0.0 c.from_residual-in_err-write_lines.ensures.1
     c.in_err-write_lines.ensures.own
+
+pub returns-in_err-take_all-clause-does : goal.returns-in_err-take_all-clause-does
+returns-in_err-take_all-clause-does g c = (search rules, search rules, search rules)
