@@ -1,6 +1,5 @@
 -- The line of a statement.
-use Rattle.std.proofs.Common.{◌≡◌, ℕ, zero, suc, ◌+◌, ◌-◌, ◌<◌, ◌≤◌, List, [], ◌∷◌, ◌++◌, length, get_or, take, drop, refl, ap, subst, sym, ◌∙◌, arith, append_assoc, append-nil, length-append, Option}
-use Rattle.std.proofs.lemmas.Grind.{common_steps}
+use Rattle.std.proofs.Common.{◌≡◌, ℕ, ◌+◌, ◌-◌, ◌<◌, ◌≤◌, List, [], ◌∷◌, ◌++◌, length, drop, refl, ap, subst, sym, ◌∙◌, arith, append_assoc, append-nil, length-append, Option}
 use Rattle.pr_base.specs.Lines.{lines_of}
 use Rattle.pr_basic.specs.Limits.{statement_limit}
 use Rattle.pr_basic.specs.Grammar.{AreLines, IsLine, IsScript, without_return}
@@ -10,45 +9,9 @@ use Rattle.pr_channels.specs.declared.faults.Stop.{Stop}
 use Rattle.pr_serial.specs.declared.Present.{Present}
 use Rattle.pr_explain.specs.declared.stops.StopPlace.{StopPlace}
 use Rattle.pr_explain.specs.Followed.{IsDeviceAt}
+use Rattle.pr_explain.specs.FirstLines.{CountsFirst}
 use Rattle.pr_explain.specs.ScriptPlaces.{IsLabel}
 use Rattle.pr_explain.specs.StopPlaces.{IsErrorPlace, IsStatementLine, cause_of, device_of}
-
--- a line ends at its first byte 10
-pub cut_here : (bs : List ℕ) (i : ℕ) → i < length bs → get_or bs i 0 ≡ 10 → ((k : ℕ) → k < i → get_or bs k 0 ≡ 10 → ⊥) → lines_of bs ≡ take i bs ∷ lines_of (drop (suc i) bs)
-unfolding lines_of
-cut_here [] i h e none = absurd (omega arith)
-cut_here (b ∷ bs) zero h e none = grind (arith, common_steps)
-cut_here (b ∷ bs) (suc i) h e none =
-    let ne : b ≡ 10 → ⊥ = none 0 (omega arith) in
-    let lt : i < length bs = omega arith in
-    let rest : lines_of bs ≡ take i bs ∷ lines_of (drop (suc i) bs) = cut_here bs i lt e (λ k l. none (suc k) (omega arith)) in
-    grind (arith, common_steps)
-
--- with its end it is one line
-pub alone : (bs : List ℕ) (i : ℕ) → i < length bs → get_or bs i 0 ≡ 10 → ((k : ℕ) → k < i → get_or bs k 0 ≡ 10 → ⊥) → lines_of (take (suc i) bs) ≡ take i bs ∷ []
-unfolding lines_of
-alone [] i h e none = absurd (omega arith)
-alone (b ∷ bs) zero h e none = grind (arith, common_steps)
-alone (b ∷ bs) (suc i) h e none =
-    let ne : b ≡ 10 → ⊥ = none 0 (omega arith) in
-    let lt : i < length bs = omega arith in
-    let rest : lines_of (take (suc i) bs) ≡ take i bs ∷ [] = alone bs i lt e (λ k l. none (suc k) (omega arith)) in
-    grind (arith, common_steps)
-
--- with no byte 10 all is one line
-pub last_line : (bs : List ℕ) → 0 < length bs → ((k : ℕ) → k < length bs → get_or bs k 0 ≡ 10 → ⊥) → lines_of bs ≡ bs ∷ []
-unfolding lines_of
-last_line [] some none = absurd (omega arith)
-last_line (b ∷ []) some none = let ne : b ≡ 10 → ⊥ = none 0 (omega arith) in grind (arith, common_steps)
-last_line (b ∷ c ∷ bs) some none =
-    let ne : b ≡ 10 → ⊥ = none 0 (omega arith) in
-    let rest : lines_of (c ∷ bs) ≡ (c ∷ bs) ∷ [] = last_line (c ∷ bs) (omega arith) (λ k l. none (suc k) (omega arith)) in
-    grind (arith, common_steps)
-
--- and there is none after it
-pub only_line : (bs : List ℕ) → 0 < length bs → ((k : ℕ) → k < length bs → get_or bs k 0 ≡ 10 → ⊥) → lines_of bs ≡ bs ∷ lines_of []
-unfolding lines_of
-only_line bs some none = last_line bs some none
 
 -- the lines before those that are left have this many statements that this one is left to find
 pub record IsLeft (script : List ℕ) (statement number left : ℕ) (rest : List ℕ) : Type 0 where
@@ -91,38 +54,13 @@ lines_more [] line earlier own h k = rw h (own, [], k, sym (append-nil own), ref
 lines_more (l ∷ before) line earlier own (first, more, is, e, h) k =
     rw e (first, more ++ own, is, append_assoc first more own, lines_more before line more own h k)
 
--- the statements of the first line that is left, and those of the others
-record IsFirst (line rest : List ℕ) (later : List Statement) (count : ℕ) : Type 0 where
-  own : List Statement
-  others : List Statement
-  is_line : IsLine (without_return line) own
-  all : later ≡ own ++ others
-  are_others : AreLines (lines_of rest) others
-  counted : count ≡ length own
-
--- a line has as many statements as it has alone
-first_counted : (line rest alone : List ℕ) (lines : List (List ℕ)) (later : List Statement) (count : ℕ) → lines ≡ line ∷ lines_of rest → lines_of alone ≡ line ∷ [] → AreLines lines later → length later ≤ statement_limit
-    → ((statements : List Statement) → IsScript alone statements → count ≡ length statements) → IsFirst line rest later count
-first_counted line rest alone lines later count cut one are few counts =
-    let P : List (List ℕ) → Type 0 = λ ls. AreLines ls later in
-    let all = subst P cut are in
-    let Q : List (List ℕ) → Type 0 = λ ls. AreLines ls all.0 in
-    let good : AreLines (lines_of alone) all.0 = subst Q (sym one) (all.0, [], all.2, sym (append-nil all.0), refl) in
-    record {
-      own = all.0;
-      others = all.1;
-      is_line = all.2;
-      all = all.3;
-      are_others = all.4;
-      counted = counts all.0 (good, omega (arith, few, ap length all.3, length-append all.0 all.1));
-    }
-
 -- a line that has fewer statements is passed
-pub one_passed : (script : List ℕ) (statement number left : ℕ) (rest line alone more : List ℕ) (count : ℕ) → StaysLeft script statement number left rest → lines_of rest ≡ line ∷ lines_of more → lines_of alone ≡ line ∷ []
-    → ((statements : List Statement) → IsScript alone statements → count ≡ length statements) → count < left → StaysLeft script statement (number + 1) (left - count) more
-one_passed script statement number left rest line alone more count stays cut one counts past statements is some within =
+pub one_passed : (script : List ℕ) (statement number left : ℕ) (rest line more : List ℕ) (count : ℕ) → StaysLeft script statement number left rest → lines_of rest ≡ line ∷ lines_of more
+    → CountsFirst line more count → count < left → StaysLeft script statement (number + 1) (left - count) more
+one_passed script statement number left rest line more count stays cut counts past statements is some within =
     let h = stays statements is some within in
-    let f = first_counted line more alone (lines_of rest) h.later count cut one h.are_left h.few counts in
+    let P : List (List ℕ) → Type 0 = λ ls. AreLines ls h.later in
+    let f = counts h.later (subst P cut h.are_left) h.few in
     let size = length-append f.own f.others in
     record {
       before = h.before ++ line ∷ [];
@@ -139,12 +77,13 @@ one_passed script statement number left rest line alone more count stays cut one
     }
 
 -- a line that has as many statements has it
-pub line_found : (script : List ℕ) (statement number left : ℕ) (rest line alone more : List ℕ) (count : ℕ) → StaysLeft script statement number left rest → lines_of rest ≡ line ∷ lines_of more → lines_of alone ≡ line ∷ []
-    → ((statements : List Statement) → IsScript alone statements → count ≡ length statements) → left ≤ count
+pub line_found : (script : List ℕ) (statement number left : ℕ) (rest line more : List ℕ) (count : ℕ) → StaysLeft script statement number left rest → lines_of rest ≡ line ∷ lines_of more
+    → CountsFirst line more count → left ≤ count
     → (statements : List Statement) → IsScript script statements → 0 < statement → statement ≤ length statements → IsStatementLine script statement line (number + 1)
-line_found script statement number left rest line alone more count stays cut one counts to statements is some within =
+line_found script statement number left rest line more count stays cut counts to statements is some within =
     let h = stays statements is some within in
-    let f = first_counted line more alone (lines_of rest) h.later count cut one h.are_left h.few counts in
+    let P : List (List ℕ) → Type 0 = λ ls. AreLines ls h.later in
+    let f = counts h.later (subst P cut h.are_left) h.few in
     record {
       before = h.before;
       after = lines_of more;

@@ -20,6 +20,7 @@
 //!   statement around a place of a script, and of the word that is there. The place's line and its
 //!   lexeme are those of pr_basic's `line_at` and `lexeme_at`. `texts` has times, levels and
 //!   escaped bytes.
+//! - `lines` goes through the lines of a script, with how many statements each has.
 //!
 //! Where memory for an explanation is refused, there is none and the answer stays. A stopped run is
 //! run again, step by step and without its trace, to find its error.
@@ -30,6 +31,7 @@ mod declared;
 mod edges;
 mod faults;
 mod input;
+mod lines;
 mod names;
 mod oddities;
 mod rows;
@@ -42,6 +44,7 @@ mod traces;
 mod words;
 
 pub use edges::EdgePlace;
+pub use lines::{FirstLine, first_line};
 pub use oddities::{Remarks, remark_on};
 pub use rows::{Miss, Row, rows_behind, rows_from};
 pub use scripts::{ScriptPlace, explain_line, explain_script};

@@ -1,13 +1,13 @@
 //! The BASIC error that stopped a run, in BASIC's own words.
 
-ghost use Rattle.std.specs.Prelude.{◌≡◌, List, ◌∷◌, [], ◌<◌, ◌≤◌, length, IfOk, None};
+ghost use Rattle.std.specs.Prelude.{◌≡◌, List, [], ◌<◌, ◌≤◌, length, IfOk, None};
 ghost use Rattle.std.specs.String.{string_bytes};
-ghost use Rattle.pr_base.specs.Lines.{lines_of};
 ghost use Rattle.pr_basic.specs.Grammar.{IsScript};
 ghost use Rattle.pr_explain.specs.Followed.{IsDeviceAt};
 ghost use Rattle.pr_explain.specs.StopPlaces.{IsStatementLine, IsStopPlace, cause_of, device_of, is_absent, opened, opened_by};
 
 use crate::Explanation;
+use crate::lines::first_line;
 use crate::texts::{Cut, without_end};
 use pr_basic::{ScriptFault, Statement, StatusMode, basic_number, read_script};
 use pr_channels::Stop;
@@ -48,17 +48,6 @@ pub enum StopCause {
     /// A printer is there, which answers each LISTEN: none was listening to a byte. Whether the
     /// statement's device is a printer that is not there.
     Unheard { is_absent: bool },
-}
-
-/// The first line of a text.
-#[derive(Clone, Copy)]
-struct FirstLine<'a> {
-    /// Its bytes, without the byte 10 that ends it.
-    bytes: &'a [u8],
-    /// The line alone, with its end.
-    alone: &'a [u8],
-    /// What follows it.
-    rest: &'a [u8],
 }
 
 /// Says which error stopped the run of a script at a statement, counted from 1, as BASIC says it.
@@ -273,49 +262,14 @@ fn line_of(alloc: Global, script: &[u8], statement: usize) -> Result<(usize, &[u
     let mut left = statement;
     let mut line: &[u8] = &[];
     while !rest.is_empty() {
-        let first = first_line(rest);
+        let first = first_line(alloc, rest)?;
         line = first.bytes;
         number += 1;
-        let count = statement_count(alloc, first.alone)?;
-        if left <= count {
+        if left <= first.count {
             return Ok((number, line));
         }
-        left -= count;
+        left -= first.count;
         rest = first.rest;
     }
     Ok((number, line))
-}
-
-/// The first line of a text.
-fn first_line(text: &[u8]) -> FirstLine<'_>
-    requires { 0 < length text.now }
-    ensures lines { lines_of text.now ≡ result.bytes.now ∷ lines_of result.rest.now }
-    ensures alone { lines_of result.alone.now ≡ result.bytes.now ∷ [] }
-    ensures less { length result.rest.now < length text.now }
-{
-    for (i, byte) in text.iter().enumerate() {
-        if *byte == b'\n' {
-            return FirstLine {
-                bytes: &text[..i],
-                alone: &text[..i + 1],
-                rest: &text[i + 1..],
-            };
-        }
-    }
-    FirstLine {
-        bytes: text,
-        alone: text,
-        rest: &[],
-    }
-}
-
-/// How many statements a line has that is given as a text of its own.
-fn statement_count(alloc: Global, line: &[u8]) -> Result<usize, NoMemory>
-    ensures { (statements : List Statement) → IsScript line.now statements → IfOk result (λ count. count ≡ length statements) }
-{
-    match read_script(alloc, line) {
-        Ok(statements) => Ok(statements.len()),
-        Err(ScriptFault::NoMemory) => Err(AllocError),
-        Err(_) => Ok(0),
-    }
 }
