@@ -1,32 +1,12 @@
 -- Trusted: what the lengths of intervals come to, as numbers.
-use Rattle.std.specs.Prelude.{ℕ, List, [], ◌∷◌, ◌++◌, length, map}
+use Rattle.std.specs.Prelude.{ℕ, List, [], ◌∷◌, ◌++◌, length}
 use Rattle.std.specs.List.{count_by}
 use Rattle.pr_decode.specs.declared.reading.Reading.{Reading}
 use Rattle.pr_decode.specs.Readings.{greatest}
 use Rattle.pr_report.specs.declared.detail.Bounds.TheVariants.{Profile}
 use Rattle.pr_report.specs.declared.interval.Interval.{Interval}
-use Rattle.pr_report.specs.declared.interval.Interval.TheVariants as interval
 use Rattle.pr_report.specs.Intervals.{is_outside, lowest_of, profile_greatest}
 use Rattle.pr_report.specs.Summary.{least_of, lengths, middle}
-use Rattle.pr_exports.specs.declared.lengths.Measure.{Measure}
-use Rattle.pr_exports.specs.declared.lengths.Measure.TheVariants as measure
-
--- an interval of the page is one of the summary
-abbrev pub interval_of : Measure → Interval
-interval_of measure.Ready = interval.Ready
-interval_of measure.FirstPull = interval.FirstPull
-interval_of measure.Answer = interval.Answer
-interval_of measure.AnswerLength = interval.AnswerLength
-interval_of measure.PullAfterAnswer = interval.PullAfterAnswer
-interval_of measure.ShortestLow = interval.ShortestLow
-interval_of measure.LongestLow = interval.LongestLow
-interval_of measure.ShortestHigh = interval.ShortestHigh
-interval_of measure.LongestHigh = interval.LongestHigh
-interval_of measure.Acknowledgement = interval.Acknowledgement
-
-abbrev pub intervals_of : List Measure → List Interval
-intervals_of [] = []
-intervals_of (m ∷ ms) = interval_of m ∷ intervals_of ms
 
 -- of the lengths of an interval how many there are, the least, the middle and the greatest (0 of none); its bounds by
 -- the profile, and how many lengths lie outside

@@ -1,8 +1,6 @@
--- Linking words: which readings are kept of edges; and the first line of a text. No reader
--- needs to believe them.
-use Rattle.std.specs.Prelude.{◌≡◌, ℕ, List, [], ◌∷◌, Option}
+-- Linking words: which readings are kept of edges. No reader needs to believe them.
+use Rattle.std.specs.Prelude.{◌≡◌, List, Option}
 use Rattle.pr_wire.specs.declared.Edge.{Edge}
-use Rattle.pr_base.specs.Lines.{lines_of}
 use Rattle.pr_jobs.specs.declared.fault.CliFault.{CliFault}
 use Rattle.pr_recording.specs.Decoded.{back_in, stop_at}
 use Rattle.pr_recording.specs.Pages.{readings_up_to}
@@ -12,9 +10,3 @@ use Rattle.pr_exports.specs.declared.rows.Ended.{Ended}
 pub record EndsReadings (edges : List Edge) (own : Option CliFault) (e : Ended) : Type 0 where
   pub stop : e.stop ≡ stop_at (back_in edges) own
   pub readings : e.readings.items ≡ readings_up_to e.stop edges
-
--- a text begins with a line, which is given alone too
-pub record StartsWithLine (text alone rest : List ℕ) : Type 0 where
-  pub line : List ℕ
-  pub cut : lines_of text ≡ line ∷ lines_of rest
-  pub one : lines_of alone ≡ line ∷ []

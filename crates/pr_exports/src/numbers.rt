@@ -10,11 +10,11 @@ ghost use Rattle.pr_exports.specs.Settings.{detail_of, source_of};
 
 use crate::answer::{Answer, Told, give, made_of, numbered, refused};
 use crate::lengths::all_figures;
-use crate::rows::{flag, longest_answer, readings_of, rows_of};
+use crate::rows::{flag, readings_of, rows_of};
 use crate::settings::{detail_for, input_for, source_for};
 use pr_capture::TraceInput;
 use pr_jobs::{CliFault, EdgeReader, LastEdges};
-use pr_report::Detail;
+use pr_report::{Detail, longest_answer};
 use pr_wire::{Edge, Kind, Levels, NoMemory, bounds};
 use std::alloc::Global;
 

@@ -3,16 +3,16 @@
 ghost use Rattle.std.specs.Prelude.{◌≡◌, ◌++◌, [], IfOk, OnOk};
 ghost use Rattle.std.specs.Option.{option_map_or};
 ghost use Rattle.pr_report.specs.Contexts.{at_start};
-ghost use Rattle.pr_report.specs.Intervals.{longest_answer, transfer_of};
+ghost use Rattle.pr_report.specs.Intervals.{transfer_of};
 ghost use Rattle.pr_report.specs.ReadingText.{reading_lines};
 ghost use Rattle.pr_exports.specs.Numbers.{end_of, flag, reading_rows, row_of, row_with};
 ghost use Rattle.pr_exports.specs.Rows.{EndsReadings};
 
-use pr_decode::{FrameEnd, IncompleteEnd, Pulse, Reading, Transfer};
+use pr_decode::{FrameEnd, IncompleteEnd, Pulse, Reading};
 use pr_jobs::CliFault;
 use pr_recording::{Takes, Tape};
-use pr_report::{Context, Detail, push_reading};
-use pr_wire::{Edge, Kind, NoMemory, bounds};
+use pr_report::{Context, Detail, push_reading, transfer_of};
+use pr_wire::{Edge, NoMemory};
 use std::alloc::Global;
 
 /// Yes as 1, no as 0.
@@ -20,16 +20,6 @@ pub fn flag(yes: bool) -> u64
     ensures { result ≡ flag yes }
 {
     if yes { 1 } else { 0 }
-}
-
-/// The byte of a reading, as far as it came.
-pub fn transfer_of(reading: &Reading) -> Transfer
-    ensures { result ≡ transfer_of reading.now }
-{
-    match reading {
-        Reading::Frame(transfer, _) => *transfer,
-        Reading::IncompleteByte(transfer, _) => *transfer,
-    }
 }
 
 /// What ended a byte, and when: 0 its acknowledgement, 1 that nobody acknowledged it, 2 ATN's pull, 3 CLOCK's
@@ -116,15 +106,6 @@ pub fn rows_of(alloc: Global, detail: Detail, readings: &[Reading]) -> Result<Ve
         before = before.after(reading);
     }
     Ok(rows)
-}
-
-/// How long DATA is pulled at most in answer to end-or-identify, if two listeners pull it as one.
-pub fn longest_answer() -> u64
-    ensures { result ≡ longest_answer }
-{
-    let (earliest, _, latest) = bounds(Kind::Ye);
-    let (_, _, greatest) = bounds(Kind::Ei);
-    u64::from(latest) + u64::from(greatest) - u64::from(earliest)
 }
 
 /// The readings of a recording, and why there are no more.

@@ -10,56 +10,16 @@ ghost use Rattle.pr_basic.specs.declared.statement.Statement.{Statement};
 ghost use Rattle.pr_exports.specs.Asked.{TellsFault, TellsLines};
 ghost use Rattle.pr_exports.specs.Giving.{GivesFault, GivesLines};
 ghost use Rattle.pr_exports.specs.Numbers.{AreLineNumbers, IsFaultRow, IsLabelNumber, IsWidth};
-ghost use Rattle.pr_exports.specs.Rows.{StartsWithLine};
 
 use crate::answer::{Answer, Told, give, numbered};
 use pr_basic::{
     LineAt, ScriptFault, basic_number, faults_tell_their_line, lexeme_at, line_at, read_script,
     read_script_at,
 };
+use pr_explain::first_line;
 use pr_jobs::CliFault;
 use pr_wire::NoMemory;
 use std::alloc::{AllocError, Global};
-
-/// The first line of a text.
-#[derive(Clone, Copy)]
-struct FirstLine<'a> {
-    /// The line alone, with its end.
-    alone: &'a [u8],
-    /// What follows it.
-    rest: &'a [u8],
-}
-
-/// The first line of a text.
-fn first_line(text: &[u8]) -> FirstLine<'_>
-    requires { 0 < length text.now }
-    ensures cut { StartsWithLine text.now result.alone.now result.rest.now }
-    ensures less { length result.rest.now < length text.now }
-{
-    for (i, byte) in text.iter().enumerate() {
-        if *byte == b'\n' {
-            return FirstLine {
-                alone: &text[..i + 1],
-                rest: &text[i + 1..],
-            };
-        }
-    }
-    FirstLine {
-        alone: text,
-        rest: &[],
-    }
-}
-
-/// How many statements a line has that is given as a text of its own.
-fn statement_count(alloc: Global, line: &[u8]) -> Result<usize, NoMemory>
-    ensures { (statements : List Statement) → IsScript line.now statements → IfOk result (λ count. count ≡ length statements) }
-{
-    match read_script(alloc, line) {
-        Ok(statements) => Ok(statements.len()),
-        Err(ScriptFault::NoMemory) => Err(AllocError),
-        Err(_) => Ok(0),
-    }
-}
 
 /// Adds a number `count` times.
 fn push_times(numbers: &mut Vec<u64>, number: u64, count: usize) -> Result<(), NoMemory>
@@ -81,10 +41,9 @@ fn lines_of_statements(alloc: Global, script: &[u8]) -> Result<Vec<u64>, NoMemor
     let mut rest = script;
     let mut number: u64 = 0;
     while !rest.is_empty() {
-        let first = first_line(rest);
+        let first = first_line(alloc, rest)?;
         number += 1;
-        let count = statement_count(alloc, first.alone)?;
-        push_times(&mut numbers, number, count)?;
+        push_times(&mut numbers, number, first.count)?;
         rest = first.rest;
     }
     Ok(numbers)

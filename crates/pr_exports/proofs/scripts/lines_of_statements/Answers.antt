@@ -8,9 +8,9 @@ loop-rest-init c = record { lines = rw c.new-numbers.ensures.items (none_passed 
 pub loop-rest-preserved : goal.loop-rest-preserved
 loop-rest-preserved c = record {
   lines =
-      rw c.in_ok-push_times.ensures (one_passed _ _ _ _ c.first_line-first.result.alone.now _ c.in_ok-count.count c.loop-rest.invariant.lines
-      c.first_line-first.ensures.cut c.in_ok-count.ensures);
-  count = omega (arith, c.loop-rest.invariant.count, c.first_line-first.ensures.less);
+      rw c.in_ok-push_times.ensures (one_passed _ _ _ _ c.in_ok-first.first.bytes.now _ c.in_ok-first.first.count c.loop-rest.invariant.lines
+      c.in_ok-first.ensures.lines c.in_ok-first.ensures.count);
+  count = omega (arith, c.loop-rest.invariant.count, c.in_ok-first.ensures.less);
 }
 
 pub returns : goal.returns
