@@ -102,6 +102,16 @@ pub fn answer_task(
         input,
         output: output.filter(|name| !is_standard_output(name)),
     };
+    answer_named(rt, names, work, manner)
+}
+
+/// Opens the files of these names, does a job over them and gives the exit status.
+fn answer_named(
+    rt: &(impl Files + Clock + Input + Print + Eprint + AllocGlobal),
+    names: Names<'_>,
+    work: Work<'_>,
+    manner: Manner,
+) -> u8 {
     let is_shown = Cell::new(false);
     let count = Cell::new(0);
     let aside = Aside {
@@ -111,7 +121,7 @@ pub fn answer_task(
         is_shown: &is_shown,
     };
     let is_apart = manner.is_watched && (names.output.is_some() || !manner.is_seen);
-    let Some(name) = input else {
+    let Some(name) = names.input else {
         if manner.is_typed {
             tell_waiting(rt, &work.job);
         }

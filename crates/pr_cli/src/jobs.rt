@@ -1,11 +1,11 @@
 //! A job done over any reader and writer, and the exit statuses.
 
-ghost use Rattle.std.specs.Prelude.{◌≡◌, ◌↔◌, false, true, IfErr, IfSome, IsErrOf, OnOk};
-ghost use Rattle.pr_jobs.specs.Bus.{AnswersBus, WritesNoEdge};
-ghost use Rattle.pr_jobs.specs.Pages.{AnswersPages, IsPagesFault, IsRunFault, ReadsToEnd, WritesNothing};
-ghost use Rattle.pr_jobs.specs.Report.{IsReportFault, ReadsAll, WritesNoReport};
-ghost use Rattle.pr_input.specs.Watched.{has_failed, is_flushed, wrapped};
-ghost use Rattle.pr_cli.specs.Jobs.{AnswersFrames, AnswersJob, AnswersPrinted, AnswersRecording, AnswersRun, AnswersTrace, AnswersTraced, IsJobFault, IsPrintFault, IsRecordingFault, KeepsOutput, KeepsRun, KeepsTrace, ReadsInput, ReadsRecording, ReadsTrace, found_job, restarted_job};
+ghost use Rattle.std.specs.Prelude.{◌≡◌, false, true, IfSome};
+ghost use Rattle.pr_jobs.specs.Does.{AreFresh, DoesJob};
+ghost use Rattle.pr_jobs.specs.Pages.{AnswersPages, IsRunFault, ReadsToEnd, WritesNothing};
+ghost use Rattle.pr_jobs.specs.Report.{IsReportFault};
+ghost use Rattle.pr_input.specs.Watched.{wrapped};
+ghost use Rattle.pr_cli.specs.Jobs.{AnswersJob, AnswersRecording, AnswersRun, AnswersTrace, AnswersTraced, IsJobFault, IsPrintFault, IsRecordingFault, KeepsOutput, KeepsRun, KeepsTrace, ReadsInput, ReadsRecording, ReadsTrace, found_job, restarted_job};
 
 use pr_capture::{Source, TraceFormat, TraceInput};
 use pr_dots::Shapes;
@@ -108,19 +108,15 @@ pub fn do_job<R: Read, W: Write>(
     is_located: bool,
 ) -> Result<Answer, CliFault>
     // the caller's part
-    requires input { has_failed input.old ≡ false }
-    requires output { has_failed output.old ≡ false }
+    requires fresh { AreFresh input.old output.old }
     // what it gives
     ensures job { IfSome (R.remaining (wrapped input.old)) (λ text.
         AnswersJob is_located shapes.now job.entry text (W.contents (wrapped output.old)) (W.contents (wrapped output.new)) result) }
     ensures at_end { ReadsInput job.entry (R.remaining (wrapped input.new)) result }
-    ensures flushed { OnOk result (is_flushed output.new ≡ true) }
     // when it refuses, and what that leaves
     ensures nothing { KeepsOutput is_located job.entry
         (W.contents (wrapped output.old)) (W.contents (wrapped output.new)) result }
-    ensures own { IfErr result (IsJobFault job.entry) }
-    ensures read_failed { IsErrOf result CliFault.ReadFailed ↔ (has_failed input.new ≡ true) }
-    ensures write_failed { IsErrOf result CliFault.WriteFailed ↔ (has_failed output.new ≡ true) }
+    ensures does { DoesJob (IsJobFault job.entry) input.new output.new result }
 {
     match job {
         Job::Pages(_, present, delays, mode, wanted) => {
@@ -155,7 +151,8 @@ pub fn do_job<R: Read, W: Write>(
     }
 }
 
-/// Runs a script and writes the pages of its run, or the bytes that a printer hears in it.
+/// Runs a script and writes the bytes that a printer hears in its run, or its pages: a list of marks by the call for that
+/// alone where nobody asks which error stopped the run.
 #[inline(never)]
 fn print_run<R: Read, W: Write>(
     alloc: Global,
@@ -167,65 +164,28 @@ fn print_run<R: Read, W: Write>(
     is_located: bool,
 ) -> Result<Answer, CliFault>
     // the caller's part
-    requires input { has_failed input.old ≡ false }
-    requires output { has_failed output.old ≡ false }
+    requires fresh { AreFresh input.old output.old }
     // what it gives
     ensures run { IfSome (R.remaining (wrapped input.old)) (λ text.
         AnswersRun is_located shapes.now start wanted text
         (W.contents (wrapped output.old)) (W.contents (wrapped output.new)) result) }
     ensures at_end { ReadsToEnd (R.remaining (wrapped input.new)) result }
-    ensures flushed { OnOk result (is_flushed output.new ≡ true) }
     // when it refuses, and what that leaves
     ensures nothing { WritesNothing (W.contents (wrapped output.old)) (W.contents (wrapped output.new)) result }
-    ensures own { IfErr result (IsPrintFault wanted) }
-    ensures read_failed { IsErrOf result CliFault.ReadFailed ↔ (has_failed input.new ≡ true) }
-    ensures write_failed { IsErrOf result CliFault.WriteFailed ↔ (has_failed output.new ≡ true) }
+    ensures does { DoesJob (IsPrintFault wanted) input.new output.new result }
 {
-    match wanted {
-        PagesOutput::Pages(format) => {
-            print_pages(alloc, input, output, start, format, shapes, is_located)
-        }
-        PagesOutput::Bytes(device) => {
-            let (end, heard) = run_bytes_over(alloc, input, output, start, device)?;
-            Ok(Answer::Heard(end, heard))
-        }
-    }
-}
-
-/// Runs a script and writes the pages of its run: a list of marks by the call for that alone where nobody asks which error
-/// stopped the run.
-fn print_pages<R: Read, W: Write>(
-    alloc: Global,
-    input: &mut Watched<R>,
-    output: &mut Watched<W>,
-    start: Start,
-    format: Format,
-    shapes: &Shapes,
-    is_located: bool,
-) -> Result<Answer, CliFault>
-    // the caller's part
-    requires input { has_failed input.old ≡ false }
-    requires output { has_failed output.old ≡ false }
-    // what it gives
-    ensures pages { IfSome (R.remaining (wrapped input.old)) (λ script.
-        AnswersPrinted is_located shapes.now start format script
-        (W.contents (wrapped output.old)) (W.contents (wrapped output.new)) result) }
-    ensures at_end { ReadsToEnd (R.remaining (wrapped input.new)) result }
-    ensures flushed { OnOk result (is_flushed output.new ≡ true) }
-    // when it refuses, and what that leaves
-    ensures nothing { WritesNothing (W.contents (wrapped output.old)) (W.contents (wrapped output.new)) result }
-    ensures memory { IfErr result (IsPagesFault format) }
-    ensures read_failed { IsErrOf result CliFault.ReadFailed ↔ (has_failed input.new ≡ true) }
-    ensures write_failed { IsErrOf result CliFault.WriteFailed ↔ (has_failed output.new ≡ true) }
-{
-    match (format, is_located) {
-        (Format::List, false) => {
+    match (wanted, is_located) {
+        (PagesOutput::Pages(Format::List), false) => {
             let ending = list_run(alloc, input, output, start, shapes)?;
             Ok(Answer::Ended(ending))
         }
-        _ => {
+        (PagesOutput::Pages(format), _) => {
             let end = pages_as_over(alloc, input, output, start, format, shapes)?;
             Ok(Answer::Ran(end))
+        }
+        (PagesOutput::Bytes(device), _) => {
+            let (end, heard) = run_bytes_over(alloc, input, output, start, device)?;
+            Ok(Answer::Heard(end, heard))
         }
     }
 }
@@ -239,19 +199,15 @@ fn list_run<R: Read, W: Write>(
     shapes: &Shapes,
 ) -> Result<Ending, CliFault>
     // the caller's part
-    requires input { has_failed input.old ≡ false }
-    requires output { has_failed output.old ≡ false }
+    requires fresh { AreFresh input.old output.old }
     // what it gives
     ensures pages { IfSome (R.remaining (wrapped input.old)) (λ script.
         AnswersPages shapes.now start Format.List script
         (W.contents (wrapped output.old)) (W.contents (wrapped output.new)) result) }
     ensures at_end { ReadsToEnd (R.remaining (wrapped input.new)) result }
-    ensures flushed { OnOk result (is_flushed output.new ≡ true) }
     // when it refuses, and what that leaves
     ensures nothing { WritesNothing (W.contents (wrapped output.old)) (W.contents (wrapped output.new)) result }
-    ensures memory { IfErr result IsRunFault }
-    ensures read_failed { IsErrOf result CliFault.ReadFailed ↔ (has_failed input.new ≡ true) }
-    ensures write_failed { IsErrOf result CliFault.WriteFailed ↔ (has_failed output.new ≡ true) }
+    ensures does { DoesJob IsRunFault input.new output.new result }
 {
     let _ = shapes;
     let Start {
@@ -274,23 +230,24 @@ fn trace_run<R: Read, W: Write>(
     is_located: bool,
 ) -> Result<Answer, CliFault>
     // the caller's part
-    requires input { has_failed input.old ≡ false }
-    requires output { has_failed output.old ≡ false }
+    requires fresh { AreFresh input.old output.old }
     // what it gives
     ensures bus { IfSome (R.remaining (wrapped input.old)) (λ script.
         AnswersTraced is_located start format script
         (W.contents (wrapped output.old)) (W.contents (wrapped output.new)) result) }
     ensures at_end { ReadsToEnd (R.remaining (wrapped input.new)) result }
-    ensures flushed { OnOk result (is_flushed output.new ≡ true) }
     // when it refuses, and what that leaves
     ensures nothing { KeepsRun is_located (W.contents (wrapped output.old)) (W.contents (wrapped output.new)) result }
-    ensures memory { IfErr result IsRunFault }
-    ensures read_failed { IsErrOf result CliFault.ReadFailed ↔ (has_failed input.new ≡ true) }
-    ensures write_failed { IsErrOf result CliFault.WriteFailed ↔ (has_failed output.new ≡ true) }
+    ensures does { DoesJob IsRunFault input.new output.new result }
 {
     match (format, is_located) {
         (TraceFormat::Text, false) => {
-            let ending = text_run(alloc, input, output, start)?;
+            let Start {
+                present,
+                delays,
+                mode,
+            } = start;
+            let ending = bus_over(alloc, input, output, present, delays, mode)?;
             Ok(Answer::Ended(ending))
         }
         _ => {
@@ -300,37 +257,7 @@ fn trace_run<R: Read, W: Write>(
     }
 }
 
-/// Runs a script and writes the trace text of its run.
-fn text_run<R: Read, W: Write>(
-    alloc: Global,
-    input: &mut Watched<R>,
-    output: &mut Watched<W>,
-    start: Start,
-) -> Result<Ending, CliFault>
-    // the caller's part
-    requires input { has_failed input.old ≡ false }
-    requires output { has_failed output.old ≡ false }
-    // what it gives
-    ensures bus { IfSome (R.remaining (wrapped input.old)) (λ script.
-        AnswersBus start TraceFormat.Text script
-        (W.contents (wrapped output.old)) (W.contents (wrapped output.new)) result) }
-    ensures at_end { ReadsToEnd (R.remaining (wrapped input.new)) result }
-    ensures flushed { OnOk result (is_flushed output.new ≡ true) }
-    // when it refuses, and what that leaves
-    ensures nothing { WritesNoEdge (W.contents (wrapped output.old)) (W.contents (wrapped output.new)) result }
-    ensures memory { IfErr result IsRunFault }
-    ensures read_failed { IsErrOf result CliFault.ReadFailed ↔ (has_failed input.new ≡ true) }
-    ensures write_failed { IsErrOf result CliFault.WriteFailed ↔ (has_failed output.new ≡ true) }
-{
-    let Start {
-        present,
-        delays,
-        mode,
-    } = start;
-    bus_over(alloc, input, output, present, delays, mode)
-}
-
-/// Checks a trace and writes what it says: its readings as JSON, or the report asked for.
+/// Checks a trace and writes what it says: its readings as JSON, the frames of a trace text, or else the report asked for.
 #[inline(never)]
 fn check_trace<R: Read, W: Write>(
     alloc: Global,
@@ -340,51 +267,19 @@ fn check_trace<R: Read, W: Write>(
     wanted: CheckOutput,
 ) -> Result<(), CliFault>
     // the caller's part
-    requires input { has_failed input.old ≡ false }
-    requires output { has_failed output.old ≡ false }
+    requires fresh { AreFresh input.old output.old }
     // what it gives
     ensures trace { IfSome (R.remaining (wrapped input.old)) (λ text.
         AnswersTrace trace.entry wanted text (W.contents (wrapped output.old)) (W.contents (wrapped output.new)) result) }
     ensures at_end { ReadsTrace wanted (R.remaining (wrapped input.new)) result }
-    ensures flushed { OnOk result (is_flushed output.new ≡ true) }
     // when it refuses, and what that leaves
     ensures nothing { KeepsTrace wanted (W.contents (wrapped output.old)) (W.contents (wrapped output.new)) result }
-    ensures own { IfErr result IsReportFault }
-    ensures read_failed { IsErrOf result CliFault.ReadFailed ↔ (has_failed input.new ≡ true) }
-    ensures write_failed { IsErrOf result CliFault.WriteFailed ↔ (has_failed output.new ≡ true) }
+    ensures does { DoesJob IsReportFault input.new output.new result }
 {
-    match wanted {
-        CheckOutput::Report(report) => report_trace(alloc, input, output, trace, report),
-        CheckOutput::Json => check_json_over(alloc, input, output, trace),
-    }
-}
-
-/// Checks a trace and writes the frames of a trace text, or else the report asked for.
-fn report_trace<R: Read, W: Write>(
-    alloc: Global,
-    input: &mut Watched<R>,
-    output: &mut Watched<W>,
-    trace: TraceInput<'_>,
-    report: Report,
-) -> Result<(), CliFault>
-    // the caller's part
-    requires input { has_failed input.old ≡ false }
-    requires output { has_failed output.old ≡ false }
-    // what it gives
-    ensures trace { IfSome (R.remaining (wrapped input.old)) (λ text.
-        AnswersFrames trace.entry trace.entry.source report text
-        (W.contents (wrapped output.old)) (W.contents (wrapped output.new)) result) }
-    ensures at_end { ReadsAll report (R.remaining (wrapped input.new)) result }
-    ensures flushed { OnOk result (is_flushed output.new ≡ true) }
-    // when it refuses, and what that leaves
-    ensures nothing { WritesNoReport report (W.contents (wrapped output.old)) (W.contents (wrapped output.new)) result }
-    ensures own { IfErr result IsReportFault }
-    ensures read_failed { IsErrOf result CliFault.ReadFailed ↔ (has_failed input.new ≡ true) }
-    ensures write_failed { IsErrOf result CliFault.WriteFailed ↔ (has_failed output.new ≡ true) }
-{
-    match (trace.source, report) {
-        (Source::Text, Report::Frames) => check_over(alloc, input, output),
-        _ => check_as_over(alloc, input, output, trace, report),
+    match (trace.source, wanted) {
+        (_, CheckOutput::Json) => check_json_over(alloc, input, output, trace),
+        (Source::Text, CheckOutput::Report(Report::Frames)) => check_over(alloc, input, output),
+        (_, CheckOutput::Report(report)) => check_as_over(alloc, input, output, trace, report),
     }
 }
 
@@ -399,18 +294,14 @@ fn decode_recording<R: Read, W: Write>(
     shapes: &Shapes,
 ) -> Result<Answer, CliFault>
     // the caller's part
-    requires input { has_failed input.old ≡ false }
-    requires output { has_failed output.old ≡ false }
+    requires fresh { AreFresh input.old output.old }
     // what it gives
     ensures recording { IfSome (R.remaining (wrapped input.old)) (λ text.
         AnswersRecording shapes.now trace.entry wanted text
         (W.contents (wrapped output.old)) (W.contents (wrapped output.new)) result) }
     ensures at_end { ReadsRecording wanted (R.remaining (wrapped input.new)) result }
-    ensures flushed { OnOk result (is_flushed output.new ≡ true) }
     // when it refuses, and what that leaves
-    ensures own { IfErr result (IsRecordingFault wanted) }
-    ensures read_failed { IsErrOf result CliFault.ReadFailed ↔ (has_failed input.new ≡ true) }
-    ensures write_failed { IsErrOf result CliFault.WriteFailed ↔ (has_failed output.new ≡ true) }
+    ensures does { DoesJob (IsRecordingFault wanted) input.new output.new result }
 {
     match wanted {
         DecodeOutput::Readings(detail) => {
