@@ -1,6 +1,7 @@
 //! A job done over any reader and writer, and the exit statuses.
 
 ghost use Rattle.std.specs.Prelude.{◌≡◌, false, true, IfSome};
+ghost use Rattle.pr_jobs.specs.Bus.{AnswersBus, WritesNoEdge};
 ghost use Rattle.pr_jobs.specs.Does.{AreFresh, DoesJob};
 ghost use Rattle.pr_jobs.specs.Pages.{AnswersPages, IsRunFault, ReadsToEnd, WritesNothing};
 ghost use Rattle.pr_jobs.specs.Report.{IsReportFault};
@@ -242,12 +243,7 @@ fn trace_run<R: Read, W: Write>(
 {
     match (format, is_located) {
         (TraceFormat::Text, false) => {
-            let Start {
-                present,
-                delays,
-                mode,
-            } = start;
-            let ending = bus_over(alloc, input, output, present, delays, mode)?;
+            let ending = text_run(alloc, input, output, start)?;
             Ok(Answer::Ended(ending))
         }
         _ => {
@@ -255,6 +251,32 @@ fn trace_run<R: Read, W: Write>(
             Ok(Answer::Ran(end))
         }
     }
+}
+
+/// Runs a script and writes the trace text of its run.
+fn text_run<R: Read, W: Write>(
+    alloc: Global,
+    input: &mut Watched<R>,
+    output: &mut Watched<W>,
+    start: Start,
+) -> Result<Ending, CliFault>
+    // the caller's part
+    requires fresh { AreFresh input.old output.old }
+    // what it gives
+    ensures bus { IfSome (R.remaining (wrapped input.old)) (λ script.
+        AnswersBus start TraceFormat.Text script
+        (W.contents (wrapped output.old)) (W.contents (wrapped output.new)) result) }
+    ensures at_end { ReadsToEnd (R.remaining (wrapped input.new)) result }
+    // when it refuses, and what that leaves
+    ensures nothing { WritesNoEdge (W.contents (wrapped output.old)) (W.contents (wrapped output.new)) result }
+    ensures does { DoesJob IsRunFault input.new output.new result }
+{
+    let Start {
+        present,
+        delays,
+        mode,
+    } = start;
+    bus_over(alloc, input, output, present, delays, mode)
 }
 
 /// Checks a trace and writes what it says: its readings as JSON, the frames of a trace text, or else the report asked for.
