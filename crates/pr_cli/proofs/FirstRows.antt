@@ -13,9 +13,9 @@ use Rattle.pr_capture.specs.declared.csv.CsvReader.{CsvReader}
 use Rattle.pr_capture.specs.declared.fault.CaptureFault.{CaptureFault}
 use Rattle.pr_capture.specs.declared.fault.CaptureFault.TheVariants.{NoMemory}
 use Rattle.pr_capture.specs.declared.format.TraceInput.{TraceInput}
-use Rattle.pr_capture.specs.Csv.{csv_contents}
+use Rattle.pr_capture.specs.Csv.{csv_contents, is_inner}
 use Rattle.pr_capture.specs.CsvReads as csv
-use Rattle.pr_capture.specs.CsvSteps.{contents_left, is_inner, HasReadTable}
+use Rattle.pr_capture.specs.CsvSteps.{contents_left, HasReadTable}
 use Rattle.pr_capture.specs.Recording.{refused, with_samples, CaptureContents}
 use Rattle.pr_capture.specs.Samples.{listed}
 use Rattle.pr_cli.specs.Starts.{samples_in, table_zero, with_line, with_zeros, zero_after, zero_by}

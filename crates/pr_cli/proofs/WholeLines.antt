@@ -14,8 +14,8 @@ use Rattle.pr_capture.specs.declared.csv.RowPlace.TheVariants.{First, Names, Row
 use Rattle.pr_capture.specs.declared.fault.CaptureFault.{CaptureFault}
 use Rattle.pr_capture.specs.declared.remarks.Remarks.{Remarks}
 use Rattle.pr_capture.specs.declared.signals.Signals.{Signals}
-use Rattle.pr_capture.specs.Csv.{contents_after_row, csv_contents, fields_of, first_contents, first_moment, is_in_front, is_silent, layout_of, line_contents, opened, row_contents, row_of}
-use Rattle.pr_capture.specs.CsvSteps.{contents_from, contents_left, is_inner, HasReadTable}
+use Rattle.pr_capture.specs.Csv.{contents_after_row, csv_contents, fields_of, first_contents, first_moment, is_in_front, is_inner, is_silent, layout_of, line_contents, opened, row_contents, row_of}
+use Rattle.pr_capture.specs.CsvSteps.{contents_from, contents_left, HasReadTable}
 use Rattle.pr_capture.specs.Recording.{ended, with_samples, CaptureContents}
 use Rattle.pr_capture.specs.TableTimes.{no_remarks, remarked}
 use Rattle.pr_cli.specs.StartSteps.{IsWhole}

@@ -6,7 +6,8 @@ use Rattle.pr_capture.specs.declared.csv.CsvReader.{CsvReader}
 use Rattle.pr_capture.specs.declared.fault.CaptureFault.{CaptureFault}
 use Rattle.pr_capture.specs.declared.fault.CaptureFault.TheVariants.{NoMemory}
 use Rattle.pr_capture.specs.declared.format.TraceInput.{TraceInput}
-use Rattle.pr_capture.specs.CsvSteps.{is_inner, HasReadTable}
+use Rattle.pr_capture.specs.Csv.{is_inner}
+use Rattle.pr_capture.specs.CsvSteps.{HasReadTable}
 use Rattle.std.specs.List.{prefix_len}
 use Rattle.pr_cli.specs.Starts.{samples_in, with_line, zero_after}
 

@@ -3,8 +3,8 @@
 ghost use Rattle.std.specs.Prelude.{◌≡◌, ◌≢◌, ◌+◌, ◌^◌, ◌<◌, ◌≤◌, ◌++◌, ◌∷◌, [], None, Some, drop, false, true, IfErr, IfOk, IfSome, OnOk, length};
 ghost use Rattle.std.specs.Io.KnownBytes.{IsAtEnd};
 ghost use Rattle.std.specs.List.{prefix_len};
-ghost use Rattle.pr_capture.specs.Csv.{is_separator};
-ghost use Rattle.pr_capture.specs.CsvSteps.{is_inner, line_number};
+ghost use Rattle.pr_capture.specs.Csv.{is_inner, is_separator};
+ghost use Rattle.pr_capture.specs.CsvSteps.{line_number};
 ghost use Rattle.pr_capture.specs.Samples.{listed};
 ghost use Rattle.pr_capture.specs.declared.fault.CaptureFault.TheVariants.{NoMemory};
 ghost use Rattle.pr_input.specs.Watched.{wrapped};

@@ -1,6 +1,6 @@
 use Rattle.std.proofs.Common.{◌≡◌, ◌+◌, drop}
 use Rattle.std.specs.List.{prefix_len}
-use Rattle.pr_capture.specs.CsvSteps.{is_inner}
+use Rattle.pr_capture.specs.Csv.{is_inner}
 use Rattle.pr_cli.proofs.starts.first_len.Given as goal
 
 -- no line ends in what was passed

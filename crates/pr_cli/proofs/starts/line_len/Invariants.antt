@@ -1,6 +1,6 @@
 use Rattle.std.proofs.Common.{◌≡◌, ◌≤◌, ◌+◌, ◌-◌, ◌^◌, drop, length}
 use Rattle.std.specs.List.{prefix_len}
-use Rattle.pr_capture.specs.CsvSteps.{is_inner}
+use Rattle.pr_capture.specs.Csv.{is_inner}
 use Rattle.pr_input.specs.Watched.{wrapped}
 use Rattle.pr_cli.specs.Reading.{ReadsMore}
 use Rattle.pr_cli.specs.StartSteps.{GoesOn}
