@@ -53,6 +53,10 @@ LLVM_MODULES := $(foreach crate,$(PART_CRATES) print1525,$(LLVM)/$(crate).ll)
 PLATFORMS := aarch64-linux riscv64-linux x86_64-windows arm64-macos x86_64-macos
 PORTED := $(foreach platform,$(PLATFORMS),$(PORT)/$(platform)/made) $(PORT)/universal/made $(PORT)/c/print1525.c
 
+# No rule of make's own: it would make the script tools/port/amalgamation of amalgamation.c beside it.
+.SUFFIXES:
+%: %.c
+
 .PHONY: run try build test outside cases edits bench peer lib web web-test install docs manual ports dist test-more
 
 run: build
