@@ -49,11 +49,11 @@ _print1525() {
         *)
             if [[ $word == -* ]]; then
                 case $command in
-                pages) words='-o --output --from --present --delays --status --as --explain --device --sheet --characters -h --help' ;;
-                bus) words='-o --output --from --present --delays --status --as --explain -h --help' ;;
-                check) words='-o --output --from --names --invert --from-time --rate --as --explain -h --help' ;;
-                decode) words='-o --output --from --names --invert --from-time --rate --as --explain --device --sheet --characters --intervals --bounds -h --help' ;;
-                raw) words='-o --output --set --as --explain --device --sheet --characters -h --help' ;;
+                pages) words='-o --output --from --present --delays --status --as --explain -q --quiet --device --sheet --characters -h --help' ;;
+                bus) words='-o --output --from --present --delays --status --as --explain -q --quiet -h --help' ;;
+                check) words='-o --output --from --names --invert --from-time --rate --as --explain -q --quiet -h --help' ;;
+                decode) words='-o --output --from --names --invert --from-time --rate --as --explain -q --quiet --device --sheet --characters --intervals --bounds -h --help' ;;
+                raw) words='-o --output --set --as --explain -q --quiet --device --sheet --characters -h --help' ;;
                 esac
             fi
             ;;

@@ -381,13 +381,16 @@ function tellStatuses(answer, words) {
   const places = unanswered.slice(0, 4).map(index => isKnown ? `${index + 1} (line ${lines[index] + 1})` : index + 1).join(', ');
   const others = unanswered.length > 4 ? ` and ${spaced(unanswered.length - 4)} more` : '';
   if (unanswered.length) words('', `Status 128, no device answered: statement ${places}${others}`);
-  if (answer.typed && state.form === 'text') tellTyped(answer.typed, words);
+  answer.notes.forEach(note => tellNote(note, words));
   editor.tell(signs, titles, note);
 }
 
-/** Where strings of a script have small letters or names in braces: the program's hint, and the reading that has them as typed. */
-function tellTyped(hint, words) {
-  words('', `${capital(inPageWords(hint))}.`).append(' ', button('Read it as petcat\'s text', () => chooseForm('petcat')));
+/** A note of the program; where strings of a script have small letters or names in braces, also the reading that has them as typed. */
+function tellNote(note, words) {
+  const said = inPageWords(note);
+  if (!said.trim()) return;
+  const line = words('', `${capital(said)}.`);
+  if (note.includes('--from petcat')) line.append(' ', button('Read it as petcat\'s text', () => chooseForm('petcat')));
 }
 
 /** Shows the screen; where that moves the listing, once no key is pressed for a while. */

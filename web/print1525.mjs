@@ -112,7 +112,15 @@ async function makeFiles() {
     return { write: bytes => writeAll(beside.file, bytes), keep, discard };
   }
 
-  return { open: name => fs.openSync(name, 'r'), readAll, writeAll, save };
+  /** Whether an open file is the regular file of this name. */
+  function areSame(file, name) {
+    try {
+      const [one, two] = [fs.fstatSync(file, { bigint: true }), fs.statSync(name, { bigint: true })];
+      return one.isFile() && one.ino !== 0n && one.ino === two.ino && one.dev === two.dev;
+    } catch { return false; }
+  }
+
+  return { open: name => fs.openSync(name, 'r'), readAll, writeAll, save, areSame };
 }
 
 /** Makes a call, and throws the line that says why it failed. */
@@ -132,8 +140,13 @@ async function run(words, files) {
   /** @type {import('./print1525.mjs').Asked} */
   const asked = { words, explained: process.env.PRINT1525_EXPLAIN === '1' };
   if (characters !== null) asked.characters = trying(() => files.readAll(files.open(characters)), error => failedFile(characters, error));
-  if (!isRefused && file === null && process.stdin.isTTY) tell(waits);
+  const isQuiet = words.some(word => word === '--quiet' || word.startsWith('-q'));
+  if (!isRefused && file === null && process.stdin.isTTY && !isQuiet) tell(waits);
   const input = file === null ? 0 : trying(() => files.open(file), inputFailed);
+  if (file !== null && place !== null && files.areSame(input, place)) {
+    tell(`print1525: ${shown(file)}: the input is the file of --output too\n`);
+    return 2;
+  }
   const output = place === null ? standard : trying(() => files.save(place), outputFailed);
   try {
     if (!isRefused) asked.input = trying(() => files.readAll(input), inputFailed);

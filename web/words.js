@@ -26,6 +26,7 @@ const WORDS = [
   [/use --from text/, 'read it as a trace'],
   [/pages prints it, bus writes its trace/, 'read it as a listing'],
   [/; --from petcat reads both as typed/, ''],
+  [/--from text sends strings as they are/, 'the form “a script” sends strings as they are'],
   [/the letter \S+, as UTF-8 has it, is/, 'this letter is'],
   [/raw --set lower prints them/, 'choose that character set'],
   [/with --set lower in that of the first byte/, 'with the lower/upper case set in that of the first byte'],

@@ -23,9 +23,17 @@ function answer(words, input, explained = false) {
   return print1525.answer({ words: isOwn ? [...words, '--characters', 'own'] : words, input, explained, ...(isOwn ? { characters } : {}) });
 }
 
-/** How the program ended, and its lines for people: the first of them without its own name, the name of a fault or a stop alone, and the others. */
+const NOTE = 'print1525: note: ';
+
+/** The program's lines for people: its notes, without what says that they are some, and all others. */
+function linesOf({ messages }) {
+  const lines = text(messages).split('\n').slice(0, -1);
+  return { notes: lines.filter(line => line.startsWith(NOTE)).map(line => line.slice(NOTE.length)), others: lines.filter(line => !line.startsWith(NOTE)) };
+}
+
+/** How the program ended, and its lines for people but notes: the first of them without its own name, the name of a fault or a stop alone, and the others. */
 function answerOf({ status, place, column, messages }) {
-  const [first, ...more] = text(messages).split('\n').slice(0, -1), words = (first || '').replace(/^print1525: /, '');
+  const [first, ...more] = linesOf({ messages }).others, words = (first || '').replace(/^print1525: /, '');
   const [name] = words.replace(/^(line \d+(, column \d+)?|edge \d+): /, '').split('  ERROR');
   return { code: status, line: place, column, words, name, more };
 }
@@ -84,10 +92,10 @@ const readTo = ({ status, place }) => (status <= 1 ? Infinity : place);
 const areSame = (one, other) => ['status', 'fault', 'place', 'column'].every(name => one[name] === other[name]) && latin(one.output) === latin(other.output);
 
 /** What a hint of an answer reads the input as: the value of the option that it names, or nothing. */
-const hinted = ({ messages }) => /^  (?:this|strings) .*--from (\w+)/m.exec(text(messages))?.[1] ?? '';
+const hinted = ({ messages }) => /^(?:  |print1525: note: )(?:this|strings) .*--from (\w+)/m.exec(text(messages))?.[1] ?? '';
 
 /** Whether a hint of an answer says that the input looks like something. */
-const looksLike = ({ messages }, what) => new RegExp(`^  this looks like ${what}`, 'm').test(text(messages));
+const looksLike = ({ messages }, what) => new RegExp(`^(?:  |${NOTE})this looks like ${what}`, 'm').test(text(messages));
 
 /** What a subcommand says of an input for some words: asked once for the same words. */
 function reading(command, front) {
@@ -272,7 +280,7 @@ const jobs = {
     const pages = answer(words('svg'), script, true);
     /** @type {any} */
     const told = answerOf(pages);
-    if (pages.status <= 1) Object.assign(told, { svg: picture('script', words, script, pages, run), typed: [told.words, ...told.more].find(line => line.includes('--from petcat'))?.trim() ?? '' });
+    if (pages.status <= 1) Object.assign(told, { svg: picture('script', words, script, pages, run), notes: linesOf(pages).notes });
     told.milliseconds = performance.now() - began;
     if (pages.status === 1) Object.assign(told, { statement: pages.place, told: withoutForm([told.words, ...told.more]) });
     if (pages.status === 2) {

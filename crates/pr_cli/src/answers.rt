@@ -12,20 +12,30 @@ use crate::characters::{shapes_for, shapes_given};
 use crate::jobs::{Answer, do_job, found_job};
 use crate::outside::Outside;
 use crate::progress::{Progress, clear};
+use crate::refusals::{refuse, refuse_same};
 use crate::starts::started_job;
 use crate::statuses::{End, FAILED, is_answered};
-use crate::told::{Subject, show_oddities, subject_of, tell_heard, tell_listing, tell_more};
+use crate::notes::note_petcat;
+use crate::told::{
+    Subject, has_more, has_notes, is_script, show_oddities, subject_of, tell_heard, tell_listing,
+    tell_more, tell_notes,
+};
 use pr_dots::Shapes;
 use pr_files::{Noting, save};
 use pr_jobs::{CliFault, RunEnd, SCRIPT_LIMIT, TeeReader, Watched};
 use pr_listing::{ListingForm, TextFault, read_text};
-use pr_options::{Job, Task};
+use pr_options::{DecodeOutput, Job, PagesOutput, Task};
+use pr_render::Format;
 use std::alloc::Global;
 use std::cell::Cell;
 use std::fs::{File, Files, OpenFile};
-use std::io;
 use std::io::{Error, ErrorKind, Read, Write};
+use std::os::unix::fs::MetadataExt;
 use std::time::Clock;
+use std::{fs, io};
+
+/// Why a picture is not written to a terminal.
+const FOR_A_FILE: &str = "PNG and PDF are not written to a terminal: -o FILE writes a file";
 
 /// How many bytes of a recording show its format, at most.
 const FIRST: usize = 4096;
@@ -53,6 +63,8 @@ struct Work<'a> {
 pub struct Manner {
     /// An explanation follows a refusal or an error.
     pub is_explained: bool,
+    /// Nothing is said but faults and explanations.
+    pub is_quiet: bool,
     /// Standard input is a terminal.
     pub is_typed: bool,
     /// Standard error is a terminal.
@@ -61,11 +73,26 @@ pub struct Manner {
     pub is_seen: bool,
 }
 
+/// What is said of a task over memory beside a fault.
+#[derive(Clone, Copy)]
+pub struct Telling {
+    /// An explanation follows a refusal or an error.
+    pub is_explained: bool,
+    /// Nothing is said but faults and explanations.
+    pub is_quiet: bool,
+}
+
 /// What goes to standard error beside a fault.
 #[derive(Clone, Copy)]
 struct Aside<'a> {
     /// An explanation follows a refusal or an error.
     is_explained: bool,
+    /// A line follows a refusal that says how to get its explanation.
+    is_advised: bool,
+    /// Notes on the input are written.
+    is_noted: bool,
+    /// Nothing is said but faults and explanations.
+    is_quiet: bool,
     /// The input can be read a second time for that: it is a file by name, and no pipe or device. Any other is kept.
     is_file: bool,
     /// How many bytes have come of the input.
@@ -112,17 +139,24 @@ fn answer_named(
     work: Work<'_>,
     manner: Manner,
 ) -> u8 {
+    if names.output.is_none() && manner.is_seen && is_for_a_file(&work.job) {
+        return refuse(rt, FOR_A_FILE).status();
+    }
     let is_shown = Cell::new(false);
     let count = Cell::new(0);
     let aside = Aside {
         is_explained: manner.is_explained,
+        is_advised: manner.is_watched && !manner.is_explained,
+        is_noted: !manner.is_quiet && (manner.is_explained || manner.is_watched),
+        is_quiet: manner.is_quiet,
         is_file: false,
         count: &count,
         is_shown: &is_shown,
     };
-    let is_apart = manner.is_watched && (names.output.is_some() || !manner.is_seen);
+    let is_apart =
+        manner.is_watched && !manner.is_quiet && (names.output.is_some() || !manner.is_seen);
     let Some(name) = names.input else {
-        if manner.is_typed {
+        if manner.is_typed && !manner.is_quiet {
             tell_waiting(rt, &work.job);
         }
         let is_watched = is_apart && !manner.is_typed;
@@ -131,7 +165,10 @@ fn answer_named(
     };
     match File::open(rt, name) {
         Ok(file) => {
-            let is_file = manner.is_explained && is_regular(&file);
+            if is_output(rt, &file, names.output) {
+                return refuse_same(rt, name).status();
+            }
+            let is_file = (aside.is_explained || aside.is_noted) && is_regular(&file);
             let reader = Progress::new(rt, file, is_apart, &count, &is_shown);
             answer_from(rt, reader, names, work, Aside { is_file, ..aside })
         }
@@ -144,7 +181,7 @@ fn answer_named(
 pub fn answer_given(
     rt: &(impl Outside + Eprint + AllocGlobal),
     task: Task<'_>,
-    is_explained: bool,
+    telling: Telling,
     input: &[u8],
     characters: &[u8],
 ) -> (End, Vec<u8>)
@@ -168,12 +205,45 @@ pub fn answer_given(
     let is_shown = Cell::new(false);
     let count = Cell::new(0);
     let aside = Aside {
-        is_explained,
+        is_explained: telling.is_explained,
+        is_advised: false,
+        is_noted: telling.is_explained && !telling.is_quiet,
+        is_quiet: telling.is_quiet,
         is_file: false,
         count: &count,
         is_shown: &is_shown,
     };
     answer_job(rt, input, writer, names, work, aside)
+}
+
+/// Whether a job writes a picture or a document of bytes that a terminal does not show.
+fn is_for_a_file(job: &Job<'_>) -> bool {
+    matches!(
+        job,
+        Job::Pages(_, _, _, _, PagesOutput::Pages(Format::Png(_) | Format::Pdf(_)))
+            | Job::Decode {
+                output: DecodeOutput::Pages(Format::Png(_) | Format::Pdf(_)),
+                ..
+            }
+            | Job::Raw {
+                format: Format::Png(_) | Format::Pdf(_),
+                ..
+            }
+    )
+}
+
+/// Whether the input is also the file that is to be written, by the number that the system gives a file. Some systems give
+/// none.
+fn is_output(rt: &impl Files, input: &impl OpenFile, output: Option<&str>) -> bool {
+    let Some(name) = output else {
+        return false;
+    };
+    match (input.metadata(), fs::metadata(rt, name)) {
+        (Ok(one), Ok(two)) => {
+            one.is_file() && one.ino() != 0 && one.ino() == two.ino() && one.dev() == two.dev()
+        }
+        _ => false,
+    }
 }
 
 /// Whether an open file is no pipe, device or the like, so that its bytes can be read again.
@@ -369,10 +439,12 @@ fn answer_listing<R: Read + Drop, W: Write + Drop>(
     ensures { IfSome (R.remaining reader) (λ bytes. EndsListing work.entry.is_located work.entry.shapes.now work.entry.job form bytes
         (W.contents writer) (W.contents result.1) result.0) }
 {
-    let kept = TeeReader::new(rt.alloc(), reader, aside.is_explained);
+    let is_kept = aside.is_explained || aside.is_noted;
+    let kept = TeeReader::new(rt.alloc(), reader, is_kept);
     let mut input = Watched::new(Noting::new(kept));
     match read_text(rt.alloc(), &mut input, form, SCRIPT_LIMIT) {
         Ok(text) => {
+            note_listing(rt, input.into_inner().into_inner(), form, aside);
             let aside = Aside {
                 is_file: false,
                 ..aside
@@ -383,12 +455,46 @@ fn answer_listing<R: Read + Drop, W: Write + Drop>(
             let input = input.into_inner();
             clear(rt, aside.is_shown);
             refuse_listing(rt, fault, names.input, input.error());
-            if let Some(bytes) = input.into_inner().into_bytes() {
-                tell_listing(rt, bytes.as_slice(), fault);
-            }
+            explain_listing(rt, input.into_inner(), fault, aside);
             (End::Listing(fault), writer)
         }
     }
+}
+
+/// Writes what is to be noted of a listing that has a text.
+fn note_listing<R: Read + Drop>(
+    rt: &impl Eprint,
+    kept: TeeReader<R>,
+    form: ListingForm,
+    aside: Aside<'_>,
+) {
+    if aside.is_noted && form == ListingForm::Petcat {
+        if let Some(bytes) = kept.into_bytes() {
+            clear(rt, aside.is_shown);
+            note_petcat(rt, bytes.as_slice());
+        }
+    }
+}
+
+/// Writes what more there is to say of a listing without a text, or how to get that.
+fn explain_listing<R: Read + Drop>(
+    rt: &impl Eprint,
+    kept: TeeReader<R>,
+    fault: TextFault,
+    aside: Aside<'_>,
+) {
+    if aside.is_explained {
+        if let Some(bytes) = kept.into_bytes() {
+            tell_listing(rt, bytes.as_slice(), fault);
+        }
+    } else if aside.is_advised && matches!(fault, TextFault::Listing(_)) {
+        advise(rt);
+    }
+}
+
+/// Says how to get an explanation of a refusal.
+fn advise(rt: &impl Eprint) {
+    let _ = rt.eprintln(format_args!("  --explain says more"));
 }
 
 /// The form of the listing that a job reads; an input that is no listing is read as it is.
@@ -403,7 +509,7 @@ fn form_of(job: &Job<'_>) -> ListingForm
 
 /// Does a job over a reader and a writer, and gives how it ends and the writer. Where more is to
 /// be said, the input is kept, since a trace text's first bad line may be its last; a file is read again instead, when the
-/// job has freed what it kept.
+/// job has freed what it kept. For notes alone a script is kept, and no other input.
 fn answer_over<R: Read + Drop, W: Write + Drop>(
     rt: &(impl Outside + Eprint + AllocGlobal),
     reader: R,
@@ -422,7 +528,7 @@ fn answer_over<R: Read + Drop, W: Write + Drop>(
         ..
     } = work;
     let subject = subject_of(&job);
-    let is_kept = aside.is_explained && !aside.is_file;
+    let is_kept = !aside.is_file && (aside.is_explained || (aside.is_noted && is_script(subject)));
     let kept = TeeReader::new(rt.alloc(), reader, is_kept);
     let mut input = Watched::new(Noting::new(kept));
     let mut output = Watched::new(Noting::new(writer));
@@ -430,12 +536,24 @@ fn answer_over<R: Read + Drop, W: Write + Drop>(
     clear(rt, aside.is_shown);
     let input = input.into_inner();
     let output = output.into_inner();
-    let end = tell_end(rt, subject, names, answer, input.error(), output.error());
+    let errors = (input.error(), output.error());
+    let end = tell_end(rt, subject, names, answer, errors, aside.is_quiet);
+    if aside.is_advised && is_explicable(answer) {
+        advise(rt);
+    }
     tell_read(rt, input.into_inner(), subject, names, answer, aside);
     (end, output.into_inner())
 }
 
-/// Says what more there is to say of what a job has read, where that is asked for.
+/// Whether a job failed of what more can be said.
+fn is_explicable(answer: Result<Answer, CliFault>) -> bool {
+    match answer {
+        Ok(_) => false,
+        Err(fault) => has_more(fault),
+    }
+}
+
+/// Says what more there is to say of what a job has read, where that is asked for, and what is to be noted of it.
 fn tell_read<R: Read + Drop>(
     rt: &(impl Outside + Eprint + AllocGlobal),
     kept: TeeReader<R>,
@@ -444,12 +562,21 @@ fn tell_read<R: Read + Drop>(
     answer: Result<Answer, CliFault>,
     aside: Aside<'_>,
 ) {
+    let is_noted = aside.is_noted && answer.is_ok() && has_notes(subject);
+    if !aside.is_explained && !is_noted {
+        return;
+    }
     let bytes = match names.input {
         Some(name) if aside.is_file => rt.again(name, aside.count.get()),
         _ => kept.into_bytes(),
     };
     if let Some(bytes) = bytes {
-        tell_more(rt, bytes.as_slice(), subject, run_end_of(answer));
+        if aside.is_explained {
+            tell_more(rt, bytes.as_slice(), subject, run_end_of(answer));
+        }
+        if is_noted {
+            tell_notes(rt, bytes.as_slice(), subject, run_end_of(answer));
+        }
     }
 }
 
@@ -469,13 +596,14 @@ fn tell_end(
     subject: Subject<'_>,
     names: Names<'_>,
     answer: Result<Answer, CliFault>,
-    read_error: Option<Error>,
-    write_error: Option<Error>,
+    errors: (Option<Error>, Option<Error>),
+    is_quiet: bool,
 ) -> End
     ensures { result ≡ job_end answer }
 {
+    let (read_error, write_error) = errors;
     match answer {
-        Ok(answer) => tell_answer(rt, subject, answer),
+        Ok(answer) => tell_answer(rt, subject, answer, is_quiet),
         Err(CliFault::ReadFailed) => {
             tell_failed(rt, CliFault::ReadFailed, names.input, read_error)
         }
@@ -486,27 +614,28 @@ fn tell_end(
     }
 }
 
-/// Gives how a job with this answer ends. Where its bytes do not say in which character set a printer prints
-/// them, reports that in one line on standard error, and then what is odd about a recording that was not listed.
-fn tell_answer(rt: &(impl Eprint + AllocGlobal), subject: Subject<'_>, answer: Answer) -> End
+/// Gives how a job with this answer ends. Unless it is quiet, it notes first where the bytes of a printer do not say in
+/// which character set they are printed, and then what is odd about a recording that was not listed.
+fn tell_answer(
+    rt: &(impl Eprint + AllocGlobal),
+    subject: Subject<'_>,
+    answer: Answer,
+    is_quiet: bool,
+) -> End
     ensures { result ≡ answer_end answer }
 {
+    if !is_quiet {
+        if let Answer::Heard(_, heard) | Answer::Overheard(heard, _) = answer {
+            tell_heard(rt, heard);
+        }
+        if let Answer::Overheard(_, odd) | Answer::Remarked(odd) = answer {
+            show_oddities(rt, subject, odd);
+        }
+    }
     match answer {
         Answer::Ended(ending) => End::of_ending(ending),
-        Answer::Ran(end) => End::of_run(end),
-        Answer::Heard(end, heard) => {
-            tell_heard(rt, heard);
-            End::of_run(end)
-        }
-        Answer::Overheard(heard, odd) => {
-            tell_heard(rt, heard);
-            show_oddities(rt, subject, odd);
-            End::Done
-        }
-        Answer::Remarked(odd) => {
-            show_oddities(rt, subject, odd);
-            End::Done
-        }
+        Answer::Ran(end) | Answer::Heard(end, _) => End::of_run(end),
+        Answer::Overheard(_, _) | Answer::Remarked(_) => End::Done,
     }
 }
 

@@ -6,9 +6,9 @@ use crate::answers::{Manner, answer_task, tell};
 use crate::meant::meant;
 use crate::refusals::{refuse, refuse_task, refuse_word};
 use crate::statuses::{End, is_answered};
-use crate::told::{ending_hint, show_hint};
+use crate::told::{ending_note, show_note};
 use pr_jobs::CliFault;
-use pr_options::{explains, read_task};
+use pr_options::{explains, is_quiet, read_task};
 use std::alloc::{AllocError, Global};
 use std::env::{FillError, VarError};
 use std::fs::Files;
@@ -87,22 +87,27 @@ fn answer_words(
     let texts = texts_of(rt.alloc(), words)?;
     let texts = meant(rt.alloc(), texts.as_slice())?;
     let is_explained = explains(texts.as_slice()) || is_variable_set(rt)?;
+    let is_quiet = is_quiet(texts.as_slice());
     match read_task(rt.alloc(), texts.as_slice()) {
         Ok(task) => {
             let manner = Manner {
                 is_explained,
+                is_quiet,
                 is_typed: terminals.input,
                 is_watched: terminals.error,
                 is_seen: terminals.output,
             };
-            let hint = ending_hint(texts.as_slice(), &task);
+            let note = ending_note(texts.as_slice(), &task);
             let status = answer_task(rt, task, manner);
-            if is_explained && is_answered(status) {
-                show_hint(rt, hint);
+            if !is_quiet && (is_explained || terminals.error) && is_answered(status) {
+                show_note(rt, note);
             }
             Ok(status)
         }
-        Err(fault) => Ok(refuse_task(rt, texts.as_slice(), fault, is_explained)?.status()),
+        Err(fault) => {
+            let is_listed = is_explained || terminals.error;
+            Ok(refuse_task(rt, texts.as_slice(), fault, is_listed)?.status())
+        }
     }
 }
 

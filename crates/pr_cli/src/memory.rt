@@ -3,14 +3,14 @@
 ghost use Rattle.std.specs.Prelude.{◌≡◌, Some, [], map, IfOk};
 ghost use Rattle.pr_cli.specs.Answered.{AnswersWords};
 
-use crate::answers::{answer_given, tell};
+use crate::answers::{Telling, answer_given, tell};
 use crate::meant::meant;
 use crate::outside::Outside;
 use crate::refusals::refuse_task;
 use crate::statuses::{End, is_answered};
-use crate::told::{ending_hint, show_hint};
+use crate::told::{ending_note, show_note};
 use pr_jobs::CliFault;
-use pr_options::{explains, read_task};
+use pr_options::{explains, is_quiet, read_task};
 use std::alloc::{AllocError, Global};
 use std::cell::RefCell;
 use std::fmt::Display;
@@ -158,10 +158,14 @@ fn answer_words(
     let is_explained = is_explained || explains(texts.as_slice());
     match read_task(alloc, texts.as_slice()) {
         Ok(task) => {
-            let hint = ending_hint(texts.as_slice(), &task);
-            let (end, output) = answer_given(memory, task, is_explained, input, characters);
-            if is_explained && is_answered(end.status()) {
-                show_hint(memory, hint);
+            let note = ending_note(texts.as_slice(), &task);
+            let telling = Telling {
+                is_explained,
+                is_quiet: is_quiet(texts.as_slice()),
+            };
+            let (end, output) = answer_given(memory, task, telling, input, characters);
+            if is_explained && !telling.is_quiet && is_answered(end.status()) {
+                show_note(memory, note);
             }
             Ok((end, output))
         }

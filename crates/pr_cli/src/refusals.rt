@@ -9,12 +9,43 @@ use crate::shown::Shown;
 use crate::statuses::End;
 use clap::error::{Error as UsageError, ErrorKind as UsageKind};
 use pr_jobs::CliFault;
-use pr_options::{JobFault, bad_value, read_task};
+use pr_options::{JobFault, Opt, bad_value, read_task};
 use std::alloc::{AllocError, Global};
 
 /// What is said of a word that is no argument and no command, which may be a file's name.
 const FILE_USAGE: &str =
     "A file is named after a command, as in `print1525 pages FILE`; without one, standard input is read.";
+
+/// What is said of a second file.
+const OUTPUT_USAGE: &str =
+    "One file is read; -o names the file that is written, as in `print1525 pages FILE -o OUTPUT`.";
+
+/// How a program comes out of an image of a disk.
+const DISK: &str = "this is an image of a disk: VICE's c1541 takes a program out of it, as in \
+     c1541 -attach IMAGE -read NAME name.prg";
+
+/// The same of a tape.
+const TAPE: &str = "this is an image of a tape: an emulator loads the program, and saves it as name.prg";
+
+/// The same of a file that has a program behind a header.
+const HEADER: &str =
+    "this is a program behind a header of 26 bytes: tail -c +27 FILE > name.prg leaves the program";
+
+/// The same of a cartridge.
+const CARTRIDGE: &str = "this is an image of a cartridge, which has no listing";
+
+/// What is done with an archive.
+const ARCHIVE: &str = "unpack the file first";
+
+/// What reads a recording.
+const RECORDING: &str = "this is a recording: print1525 decode reads one";
+
+/// How a dump of another form becomes one that is read.
+const DUMP: &str = "make a Value Change Dump of it first: fst2vcd does so with FST, \
+     and ghdl writes one with --vcd=FILE";
+
+/// How a value is given that begins with a minus.
+const MINUS: &str = "a value that begins with a minus follows =, as in --from-time=-500";
 
 /// Reports why the words ask for no task, and gives how the program ends.
 pub fn refuse_task(
@@ -54,25 +85,98 @@ fn refuse_line(
 {
     let end = End::of_refusal(&fault);
     if let JobFault::Line(error) = fault {
-        let shown = error.print(rt);
         if error.use_stderr() {
-            if may_be_file_name(rt.alloc(), &error) {
-                let _ = rt.eprintln(format_args!("{FILE_USAGE}"));
-            }
-        } else if shown.is_err() {
+            show_error(rt, &error);
+        } else if error.print(rt).is_err() {
             return tell(rt, CliFault::WriteFailed);
         }
         return end;
     }
     show_fault(rt, &fault, value);
     if is_explained {
-        if let Some(values) = fault.values() {
-            for line in values.lines() {
-                let _ = rt.eprintln(format_args!("  {line}"));
-            }
-        }
+        show_values(rt, &fault, value);
     }
     end
+}
+
+/// Reports what to do with a file whose name has led to a bad value, or which values are good.
+fn show_values(rt: &impl Eprint, fault: &JobFault, value: Option<&str>) {
+    if let Some(hint) = foreign_hint(fault, value) {
+        let _ = rt.eprintln(format_args!("  {hint}"));
+    } else if let Some(values) = fault.values() {
+        for line in values.lines() {
+            let _ = rt.eprintln(format_args!("  {line}"));
+        }
+    }
+}
+
+/// Reports why clap refuses the words, and what they were meant for, as it seems.
+fn show_error(rt: &(impl Print + Eprint + AllocGlobal), error: &UsageError) {
+    let Ok(text) = format!(in rt.alloc(); "{error}") else {
+        let _ = error.print(rt);
+        return;
+    };
+    let word = quoted(text.as_str());
+    if error.kind() == UsageKind::UnknownArgument && is_negative(word) {
+        for line in text.lines() {
+            if !line.starts_with("  tip: ") {
+                let _ = rt.eprintln(format_args!("{line}"));
+            }
+        }
+        let _ = rt.eprintln(format_args!("{MINUS}"));
+        return;
+    }
+    let _ = error.print(rt);
+    match error.kind() {
+        UsageKind::InvalidSubcommand if may_be_file(word, text.as_str()) => {
+            let _ = rt.eprintln(format_args!("{FILE_USAGE}"));
+        }
+        UsageKind::UnknownArgument if word == "-" || !word.starts_with('-') => {
+            let _ = rt.eprintln(format_args!("{OUTPUT_USAGE}"));
+        }
+        _ => {}
+    }
+}
+
+/// The first text in quotation marks; empty where there is none.
+fn quoted(text: &str) -> &str {
+    match text.split_once('\'') {
+        Some((_, rest)) => match rest.split_once('\'') {
+            Some((word, _)) => word,
+            None => rest,
+        },
+        None => "",
+    }
+}
+
+/// Whether a word that stands where a command is wanted may be a file's name, and no command that is spelled wrong.
+fn may_be_file(word: &str, text: &str) -> bool {
+    word.contains('.') || word.contains('/') || !text.contains("similar subcommand")
+}
+
+/// Whether a word is a minus with a digit behind it.
+fn is_negative(word: &str) -> bool {
+    match word.as_bytes() {
+        [b'-', digit, ..] => digit.is_ascii_digit(),
+        _ => false,
+    }
+}
+
+/// What to do with an input whose name has an ending that gives a bad value.
+fn foreign_hint(fault: &JobFault, value: Option<&str>) -> Option<&'static str> {
+    let JobFault::Bad(Opt::ListingFrom | Opt::From | Opt::ReadingFrom) = fault else {
+        return None;
+    };
+    match value? {
+        "d64" | "d71" | "d81" | "g64" => Some(DISK),
+        "t64" | "tap" => Some(TAPE),
+        "p00" => Some(HEADER),
+        "crt" => Some(CARTRIDGE),
+        "gz" | "zip" => Some(ARCHIVE),
+        "vcd" => Some(RECORDING),
+        "fst" | "ghw" | "lxt" => Some(DUMP),
+        _ => None,
+    }
 }
 
 /// Reports a fault of the command line in one line on standard error: with the bad value and the good
@@ -127,41 +231,21 @@ fn refuse_shown(
     }
 }
 
-/// Whether the word for which a command line is refused may be a file name. clap's error gives no
-/// word, so it is taken from the error's text. Where there is no memory for that text, it is taken
-/// for none.
-fn may_be_file_name(alloc: Global, error: &UsageError) -> bool {
-    let kind = error.kind();
-    if kind != UsageKind::UnknownArgument && kind != UsageKind::InvalidSubcommand {
-        return false;
-    }
-    match format!(in alloc; "{error}") {
-        Ok(text) => is_no_option(text.as_str(), kind == UsageKind::InvalidSubcommand),
-        Err(AllocError) => false,
-    }
-}
-
-/// Whether the first word in quotation marks, by a text on it, is neither an option nor, where a
-/// subcommand was wanted, one that is spelled wrong.
-fn is_no_option(text: &str, is_subcommand: bool) -> bool {
-    let Some((_, quoted)) = text.split_once('\'') else {
-        return false;
-    };
-    let word = match quoted.split_once('\'') {
-        Some((word, _)) => word,
-        None => quoted,
-    };
-    if is_subcommand {
-        word.contains('.') || word.contains('/') || !text.contains("similar subcommand")
-    } else {
-        word == "-" || !word.starts_with('-')
-    }
-}
-
 /// Reports in one line on standard error why the command line is refused, and gives how the program ends.
 pub fn refuse(rt: &impl Eprint, reason: &str) -> End
     ensures { result ≡ end.Words }
 {
     let _ = rt.eprintln(format_args!("print1525: {reason}"));
+    End::Words
+}
+
+/// Reports that the file that is read is also the one that is to be written, and gives how the program ends.
+pub fn refuse_same(rt: &impl Eprint, name: &str) -> End
+    ensures { result ≡ end.Words }
+{
+    let name = Shown(name);
+    let _ = rt.eprintln(format_args!(
+        "print1525: {name}: the input is the file of --output too"
+    ));
     End::Words
 }

@@ -1,15 +1,13 @@
 //! What more there is to say of a job's input, on standard error.
 
+use crate::notes::{is_typed, note_bytes, note_script};
 use pr_basic::{ScriptFault, StatusMode, cut_line};
 use pr_capture::{Source, TraceFormat, TraceInput};
 use pr_explain::{
     explain_line, explain_reading, explain_script, explain_stop, explain_trace, remark_on,
 };
 use pr_jobs::{CliFault, PictureFault, RunEnd};
-use pr_listing::{
-    ListingFault, ListingForm, TextFault, has_typed_strings, looks_like_disk, looks_like_text,
-    looks_saved,
-};
+use pr_listing::{ListingFault, ListingForm, TextFault, looks_like_text, looks_saved};
 use pr_options::{CheckOutput, DecodeOutput, Job, PagesOutput, Task};
 use pr_recording::Heard;
 use pr_render::Format;
@@ -19,11 +17,6 @@ use std::alloc::{AllocError, Global};
 
 /// What is said of a refused script that looks like a saved program.
 const SAVED_PROGRAM: &str = "this looks like a saved program: --from prg reads one";
-
-/// What is said of a script with small letters or braces in its strings.
-const TYPED_STRINGS: &str =
-    "strings are sent as they are: small letters print graphics, or capitals \
-     after OPEN file,device,7, and {name} prints its letters; --from petcat reads both as typed";
 
 /// What is said of a refused script whose strings have them too, or that begins with petcat's heading.
 const PETCAT_TEXT: &str = "this may be petcat's text: --from petcat reads it";
@@ -42,13 +35,6 @@ const PETCAT_NAMES: &str =
 /// What is said of petcat's text with a byte that it never has.
 const PETCAT_BYTES: &str = "a string of petcat's text has the bytes 32 to 126";
 
-/// What is said of a printer's bytes that look like a saved program.
-const SAVED_BYTES: &str =
-    "this looks like a saved program, and not like a printer's bytes: pages --from prg runs one";
-
-/// What is said of a printer's bytes that look like a disk.
-const DISK_BYTES: &str = "this looks like an image of a disk, and not like a printer's bytes";
-
 /// What is said of bytes that come in the lower/upper case set.
 const LOWER_SET: &str = "the bytes are for the lower case set: raw --set lower prints them";
 
@@ -61,7 +47,7 @@ const BOTH_SETS_LOWER: &str =
     "the character set changes after the first byte: raw prints all bytes in one set, \
      with --set lower in that of the first byte";
 
-/// What is said of an output whose name has an ending that says no format.
+/// What is noted of an output whose name has an ending that says no format.
 const OTHER_ENDING: &str =
     "no format has the ending of the output's name, so the output is in the default format: \
      --as FORMAT chooses another";
@@ -69,8 +55,8 @@ const OTHER_ENDING: &str =
 /// The endings that this project's own texts of the default formats have.
 const OWN_ENDINGS: [&str; 4] = [".page", ".trace", ".frames", ".txt"];
 
-/// What is said of the name of a task's output: nothing where the words or its ending say the format.
-pub fn ending_hint(words: &[&str], task: &Task<'_>) -> Option<&'static str> {
+/// What is noted of the name of a task's output: nothing where the words or its ending say the format.
+pub fn ending_note(words: &[&str], task: &Task<'_>) -> Option<&'static str> {
     match task.output {
         Some(name) if is_default(&task.job) && !say_format(words) && has_other_ending(name) => {
             Some(OTHER_ENDING)
@@ -117,10 +103,10 @@ fn has_other_ending(name: &str) -> bool {
     }
 }
 
-/// Reports what the bytes of a printer do not say, if there is anything, in one line on standard error.
+/// Notes what the bytes of a printer do not say, if there is anything.
 pub fn tell_heard(rt: &impl Eprint, heard: Heard) {
     if let Some(line) = heard_told(heard) {
-        let _ = rt.eprintln(format_args!("print1525: {line}"));
+        let _ = rt.eprintln(format_args!("print1525: note: {line}"));
     }
 }
 
@@ -143,6 +129,35 @@ pub fn tell_more(
 ) {
     show(rt, told(rt, bytes, subject, answer));
     show_hint(rt, hint_of(bytes, subject, answer));
+}
+
+/// Writes what is to be noted of an input, by the answer of its job.
+pub fn tell_notes(
+    rt: &impl Eprint,
+    bytes: &[u8],
+    subject: Subject<'_>,
+    answer: Result<RunEnd, CliFault>,
+) {
+    match (subject, answer) {
+        (Subject::Script(job), Ok(_)) => note_script(rt, bytes, job.form),
+        (Subject::Bytes, Ok(_)) => note_bytes(rt, bytes),
+        _ => {}
+    }
+}
+
+/// Whether notes can be of an input: those of a trace or a recording are not of its bytes.
+pub fn has_notes(subject: Subject<'_>) -> bool {
+    matches!(subject, Subject::Script(_) | Subject::Bytes)
+}
+
+/// Whether an input is a script.
+pub fn is_script(subject: Subject<'_>) -> bool {
+    matches!(subject, Subject::Script(_))
+}
+
+/// Whether more can be said of a job's fault than its one line.
+pub fn has_more(fault: CliFault) -> bool {
+    matches!(fault, CliFault::Script(_)) || is_of_input(fault)
 }
 
 /// A run of a script, but for its delays and what it writes.
@@ -217,7 +232,6 @@ fn hint_of(
 ) -> Option<&'static str> {
     match (subject, answer) {
         (Subject::Script(job), _) => script_hint(bytes, job.form, answer),
-        (Subject::Bytes, Ok(_)) => raw_hint(bytes),
         _ => None,
     }
 }
@@ -236,7 +250,6 @@ fn script_hint(
             if form == ListingForm::Text && may_be_petcat(script) && !is_letter(script, fault) => {
             Some(PETCAT_TEXT)
         }
-        Ok(_) if form == ListingForm::Text && is_typed(script) => Some(TYPED_STRINGS),
         _ => None,
     }
 }
@@ -258,21 +271,6 @@ fn is_letter(script: &[u8], fault: ScriptFault) -> bool {
 /// Whether a script that is refused may be petcat's text: its heading is a line that begins with `;`.
 fn may_be_petcat(script: &[u8]) -> bool {
     is_typed(script) || begins_with_heading(script)
-}
-
-/// Whether a string of a script has a small letter or a brace. Most scripts have none at all, which is soon seen.
-fn is_typed(script: &[u8]) -> bool {
-    has_typed_byte(script) && has_typed_strings(script)
-}
-
-/// Whether there is a small letter or a brace.
-fn has_typed_byte(bytes: &[u8]) -> bool {
-    for byte in bytes {
-        if byte.is_ascii_lowercase() || *byte == b'{' {
-            return true;
-        }
-    }
-    false
 }
 
 /// Whether the first byte that is no blank or end of a line is `;`.
@@ -300,21 +298,17 @@ pub fn tell_listing(rt: &impl Eprint, bytes: &[u8], fault: TextFault) {
     }
 }
 
+/// Writes a note on standard error, if there is one.
+pub fn show_note(rt: &impl Eprint, note: Option<&'static str>) {
+    if let Some(note) = note {
+        let _ = rt.eprintln(format_args!("print1525: note: {note}"));
+    }
+}
+
 /// Writes a hint on standard error, if there is one.
 pub fn show_hint(rt: &impl Eprint, hint: Option<&'static str>) {
     if let Some(hint) = hint {
         let _ = rt.eprintln(format_args!("  {hint}"));
-    }
-}
-
-/// What bytes look like that a printer hardly gets.
-fn raw_hint(bytes: &[u8]) -> Option<&'static str> {
-    if looks_saved(bytes) {
-        Some(SAVED_BYTES)
-    } else if looks_like_disk(bytes) {
-        Some(DISK_BYTES)
-    } else {
-        None
     }
 }
 

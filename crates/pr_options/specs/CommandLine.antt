@@ -19,10 +19,11 @@ input_rule name = record (new_rule name) { value_names = 1 }
 abbrev pub output_rule : Text → Rule
 output_rule name = record (new_rule name) { long = Some name; short = Some 111; value_names = 1 }
 
--- an option by what follows its name: a value, which has a default; nothing; or the name of a file
+-- an option by what follows its name: a value, which has a default; nothing, and then a letter may serve for its name;
+-- or the name of a file
 abbrev pub kind_rule : Kind → OptionRow → Rule
 kind_rule Value o = record (new_rule o.name) { long = Some o.name; value_names = 1; defaults = o.default ∷ [] }
-kind_rule Flag o = record (new_rule o.name) { long = Some o.name; action = Some SetTrue }
+kind_rule Flag o = record (new_rule o.name) { long = Some o.name; short = o.letter; action = Some SetTrue }
 kind_rule File o = record (new_rule o.name) { long = Some o.name; value_names = 1 }
 
 abbrev pub rule : Opt → Rule

@@ -1,6 +1,6 @@
 -- Trusted: what the words of a command line give an option, by the rows of clap's matches.
-use Rattle.std.specs.Prelude.{◌-◌, ◌&&◌, Bool, true, false, List, Option, Some, None, codes, drop, find, if◌then◌else◌, length, nat_le, option_and_then, option_map, unwrap_or}
-use Rattle.std.specs.Option.{option_map_or}
+use Rattle.std.specs.Prelude.{◌-◌, ◌&&◌, ◌||◌, ◌==◌, ◌∷◌, Bool, true, false, List, Option, Some, None, codes, drop, find, if◌then◌else◌, length, nat_le, option_and_then, option_map, unwrap_or}
+use Rattle.std.specs.Option.{option_map_or, option_or}
 use Rattle.std.specs.Str.{bytes_eq, str_eq_ignore_ascii_case}
 use Rattle.clap.specs.Words.{Row, Text, first_of}
 use Rattle.clap.specs.declared.parser.matches.ValueSource.{ValueSource}
@@ -33,10 +33,14 @@ has_ending name ending = nat_le (length ending) (length name)
 abbrev pub value_by_ending : List (Text × Text) → Text → Option Text
 value_by_ending endings name = option_map (λ e. e.1) (find (λ e. has_ending name e.0) endings)
 
+-- the same by the endings of an option, or else by those that no format has
+abbrev pub value_by_name : OptionRow → Text → Option Text
+value_by_name option name = option_or (value_by_ending option.endings name) (value_by_ending option.foreign name)
+
 -- the value that the ending of a file's name gives, where words do not give the option itself
 abbrev pub ending_value : OptionRow → List Row → Option Text
 ending_value option rows = if is_named option.name rows then None
-    else option_and_then (value_by_ending option.endings) (first_of option.file rows)
+    else option_and_then (value_by_name option) (first_of option.file rows)
 
 -- the value of an option: the one that words give; else the one that a file's name gives; else its default, which
 -- serves in a subcommand that does not have the option too
@@ -54,3 +58,12 @@ file_in argument rows = option_and_then named (first_of argument rows)
 -- the file of characters that words name, whatever its name
 abbrev pub characters_in : List Row → Option Text
 characters_in rows = first_of (row opt.Characters).name rows
+
+-- a word begins with `-q`
+abbrev pub begins_with_letter : Text → Bool
+begins_with_letter (first ∷ second ∷ rest) = (first == 45) && (second == 113)
+begins_with_letter _ = false
+
+-- a word asks for no notes: the flag, or its letter with or without others behind it
+abbrev pub is_quiet_word : Text → Bool
+is_quiet_word word = bytes_eq word (codes "--quiet") || begins_with_letter word

@@ -1,6 +1,6 @@
 -- Trusted: the program's options, a row for each: their names, their defaults, what the endings of file names say, and
 -- what help says of them; and the options of each subcommand.
-use Rattle.std.specs.Prelude.{◌∷◌, [], List, codes}
+use Rattle.std.specs.Prelude.{◌∷◌, ℕ, [], List, Option, Some, None, codes}
 use Rattle.clap.specs.Words.{Text}
 use Rattle.pr_options.specs.declared.options.Kind.{Kind}
 use Rattle.pr_options.specs.declared.options.Kind.TheVariants.{Value, Flag, File}
@@ -8,17 +8,19 @@ use Rattle.pr_options.specs.declared.options.Opt.{Opt}
 use Rattle.pr_options.specs.declared.options.Opt.TheVariants as opt
 use Rattle.pr_options.specs.declared.options.Subcommand.{Subcommand}
 use Rattle.pr_options.specs.declared.options.Subcommand.TheVariants.{Pages, Bus, Check, Decode, Raw}
-use Rattle.pr_options.specs.declared.options.TheConstants.{BOUNDS_HELP, BOUNDS_VALUES, CHARACTERS_HELP, DELAYS_HELP, DELAYS_VALUES, DEVICE_HELP, DEVICE_VALUES, EXPLAIN_HELP, FROM_HELP, FROM_TIME_HELP, FROM_TIME_VALUES, FROM_VALUES, INTERVALS_HELP, INVERT_HELP, LISTING_FROM_HELP, LISTING_FROM_VALUES, NAMES_HELP, NAMES_VALUES, PAGE_AS_HELP, PAGE_AS_VALUES, PRESENT_HELP, PRESENT_VALUES, RATE_HELP, RATE_VALUES, RAW_AS_HELP, RAW_AS_VALUES, RAW_DEVICE_HELP, READING_AS_HELP, READING_AS_VALUES, READING_FROM_HELP, READING_FROM_VALUES, REPORT_AS_HELP, REPORT_AS_VALUES, SET_HELP, SET_VALUES, SHEET_HELP, SHEET_VALUES, STATUS_HELP, STATUS_VALUES, TRACE_AS_HELP, TRACE_AS_VALUES}
+use Rattle.pr_options.specs.declared.options.TheConstants.{BOUNDS_HELP, BOUNDS_VALUES, CHARACTERS_HELP, DELAYS_HELP, DELAYS_VALUES, DEVICE_HELP, DEVICE_VALUES, EXPLAIN_HELP, FROM_HELP, FROM_TIME_HELP, FROM_TIME_VALUES, FROM_VALUES, INTERVALS_HELP, INVERT_HELP, LISTING_FROM_HELP, LISTING_FROM_VALUES, NAMES_HELP, NAMES_VALUES, PAGE_AS_HELP, PAGE_AS_VALUES, PRESENT_HELP, PRESENT_VALUES, QUIET_HELP, RATE_HELP, RATE_VALUES, RAW_AS_HELP, RAW_AS_VALUES, RAW_DEVICE_HELP, READING_AS_HELP, READING_AS_VALUES, READING_FROM_HELP, READING_FROM_VALUES, REPORT_AS_HELP, REPORT_AS_VALUES, SET_HELP, SET_VALUES, SHEET_HELP, SHEET_VALUES, STATUS_HELP, STATUS_VALUES, TRACE_AS_HELP, TRACE_AS_VALUES}
 
--- an option: what follows its name (a value, nothing, or a file's name); its name; the value where nothing else gives
--- one; the values that the endings of a file's name give, where the argument `file` names one; and its values, in a few
--- words and as help says them
+-- an option: what follows its name (a value, nothing, or a file's name); its name, and a letter that serves for it;
+-- the value where nothing else gives one; the values that the endings of a file's name give, where the argument `file`
+-- names one, and what endings give that no format has; and its values, in a few words and as help says them
 pub record OptionRow : Type 0 where
   pub kind : Kind
   pub name : Text
+  pub letter : Option ℕ
   pub default : Text
   pub file : Text
   pub endings : List (Text × Text)
+  pub foreign : List (Text × Text)
   pub values : Text
   pub help : Text
 
@@ -33,11 +35,11 @@ output = codes "output"
 -- an option whose value no file's name gives: its name, its default, its values and its help
 abbrev pub plain : (name default values help : Text) → OptionRow
 plain name default values help =
-    record { kind = Value; name = name; default = default; file = []; endings = []; values = values; help = help }
+    record { kind = Value; name = name; letter = None; default = default; file = []; endings = []; foreign = []; values = values; help = help }
 
 -- an option whose value the ending of a file's name can give
-abbrev pub by_file : Text → List (Text × Text) → OptionRow → OptionRow
-by_file file endings option = record option { file = file; endings = endings }
+abbrev pub by_file : Text → (endings foreign : List (Text × Text)) → OptionRow → OptionRow
+by_file file endings foreign option = record option { file = file; endings = endings; foreign = foreign }
 
 -- an option without a value, or one that names a file
 abbrev pub no_value : Kind → (name help : Text) → OptionRow
@@ -72,13 +74,35 @@ report_endings = (codes ".json", codes "json") ∷ []
 abbrev pub reading_endings : List (Text × Text)
 reading_endings = (codes ".svg", codes "svg") ∷ (codes ".png", codes "png") ∷ (codes ".pdf", codes "pdf") ∷ (codes ".json", codes "json") ∷ []
 
+-- what the endings of files say that are no listing: values that are none
+abbrev pub foreign_listings : List (Text × Text)
+foreign_listings = (codes ".d64", codes "d64") ∷ (codes ".d71", codes "d71") ∷ (codes ".d81", codes "d81")
+    ∷ (codes ".g64", codes "g64") ∷ (codes ".t64", codes "t64") ∷ (codes ".p00", codes "p00") ∷ (codes ".tap", codes "tap")
+    ∷ (codes ".crt", codes "crt") ∷ (codes ".gz", codes "gz") ∷ (codes ".zip", codes "zip") ∷ (codes ".vcd", codes "vcd") ∷ []
+
+-- the same of files that are no recording which is read
+abbrev pub foreign_recordings : List (Text × Text)
+foreign_recordings = (codes ".fst", codes "fst") ∷ (codes ".ghw", codes "ghw") ∷ (codes ".lxt", codes "lxt")
+    ∷ (codes ".gz", codes "gz") ∷ (codes ".zip", codes "zip") ∷ []
+
+-- the same of files that other programs write, or other subcommands
+abbrev pub foreign_outputs : List (Text × Text)
+foreign_outputs = (codes ".svg", codes "svg") ∷ (codes ".png", codes "png") ∷ (codes ".pdf", codes "pdf")
+    ∷ (codes ".json", codes "json") ∷ (codes ".vcd", codes "vcd") ∷ (codes ".csv", codes "csv")
+    ∷ (codes ".jpg", codes "jpg") ∷ (codes ".jpeg", codes "jpeg") ∷ (codes ".gif", codes "gif") ∷ (codes ".bmp", codes "bmp")
+    ∷ (codes ".tif", codes "tif") ∷ (codes ".tiff", codes "tiff") ∷ (codes ".webp", codes "webp") ∷ (codes ".ps", codes "ps")
+    ∷ (codes ".eps", codes "eps") ∷ (codes ".htm", codes "htm") ∷ (codes ".html", codes "html") ∷ (codes ".doc", codes "doc")
+    ∷ (codes ".docx", codes "docx") ∷ (codes ".odt", codes "odt") ∷ (codes ".rtf", codes "rtf") ∷ (codes ".gz", codes "gz")
+    ∷ (codes ".zip", codes "zip") ∷ (codes ".bas", codes "bas") ∷ (codes ".prg", codes "prg")
+    ∷ (codes ".petcat", codes "petcat") ∷ []
+
 -- the row of an option
 abbrev pub row : Opt → OptionRow
 row opt.ListingFrom =
-    by_file input listing_endings (plain (codes "from") (codes "text") LISTING_FROM_VALUES.now LISTING_FROM_HELP.now)
-row opt.From = by_file input recording_endings (plain (codes "from") (codes "text") FROM_VALUES.now FROM_HELP.now)
+    by_file input listing_endings foreign_listings (plain (codes "from") (codes "text") LISTING_FROM_VALUES.now LISTING_FROM_HELP.now)
+row opt.From = by_file input recording_endings foreign_recordings (plain (codes "from") (codes "text") FROM_VALUES.now FROM_HELP.now)
 row opt.ReadingFrom =
-    by_file input reading_from_endings (plain (codes "from") (codes "auto") READING_FROM_VALUES.now READING_FROM_HELP.now)
+    by_file input reading_from_endings foreign_recordings (plain (codes "from") (codes "auto") READING_FROM_VALUES.now READING_FROM_HELP.now)
 row opt.Present = plain (codes "present") (codes "both") PRESENT_VALUES.now PRESENT_HELP.now
 row opt.Delays = plain (codes "delays") [] DELAYS_VALUES.now DELAYS_HELP.now
 row opt.Status = plain (codes "status") (codes "each") STATUS_VALUES.now STATUS_HELP.now
@@ -87,15 +111,16 @@ row opt.Names = plain (codes "names") (codes "ATN,CLOCK,DATA") NAMES_VALUES.now 
 row opt.Invert = no_value Flag (codes "invert") INVERT_HELP.now
 row opt.FromTime = plain (codes "from-time") (codes "0") FROM_TIME_VALUES.now FROM_TIME_HELP.now
 row opt.Rate = plain (codes "rate") (codes "none") RATE_VALUES.now RATE_HELP.now
-row opt.PageAs = by_file output page_endings (plain (codes "as") (codes "list") PAGE_AS_VALUES.now PAGE_AS_HELP.now)
-row opt.RawAs = by_file output page_endings (plain (codes "as") (codes "list") RAW_AS_VALUES.now RAW_AS_HELP.now)
+row opt.PageAs = by_file output page_endings foreign_outputs (plain (codes "as") (codes "list") PAGE_AS_VALUES.now PAGE_AS_HELP.now)
+row opt.RawAs = by_file output page_endings foreign_outputs (plain (codes "as") (codes "list") RAW_AS_VALUES.now RAW_AS_HELP.now)
 row opt.TraceAs =
-    by_file output trace_endings (plain (codes "as") (codes "text") TRACE_AS_VALUES.now TRACE_AS_HELP.now)
+    by_file output trace_endings foreign_outputs (plain (codes "as") (codes "text") TRACE_AS_VALUES.now TRACE_AS_HELP.now)
 row opt.ReportAs =
-    by_file output report_endings (plain (codes "as") (codes "frames") REPORT_AS_VALUES.now REPORT_AS_HELP.now)
+    by_file output report_endings foreign_outputs (plain (codes "as") (codes "frames") REPORT_AS_VALUES.now REPORT_AS_HELP.now)
 row opt.ReadingAs =
-    by_file output reading_endings (plain (codes "as") (codes "list") READING_AS_VALUES.now READING_AS_HELP.now)
+    by_file output reading_endings foreign_outputs (plain (codes "as") (codes "list") READING_AS_VALUES.now READING_AS_HELP.now)
 row opt.Explain = no_value Flag (codes "explain") EXPLAIN_HELP.now
+row opt.Quiet = record (no_value Flag (codes "quiet") QUIET_HELP.now) { letter = Some 113 }
 row opt.Device = plain (codes "device") [] DEVICE_VALUES.now DEVICE_HELP.now
 row opt.RawDevice = plain (codes "device") [] DEVICE_VALUES.now RAW_DEVICE_HELP.now
 row opt.Sheet = plain (codes "sheet") [] SHEET_VALUES.now SHEET_HELP.now
@@ -114,10 +139,12 @@ command_name Raw = codes "raw"
 -- the options of a subcommand, in the order in which help has them; a bad value is reported in this order too, after
 -- those of `--present`, `--delays` and `--status`
 abbrev pub options_of : Subcommand → List Opt
-options_of Pages = opt.ListingFrom ∷ opt.Present ∷ opt.Delays ∷ opt.Status ∷ opt.PageAs ∷ opt.Explain
+options_of Pages = opt.ListingFrom ∷ opt.Present ∷ opt.Delays ∷ opt.Status ∷ opt.PageAs ∷ opt.Explain ∷ opt.Quiet
     ∷ opt.Device ∷ opt.Sheet ∷ opt.Characters ∷ []
-options_of Bus = opt.ListingFrom ∷ opt.Present ∷ opt.Delays ∷ opt.Status ∷ opt.TraceAs ∷ opt.Explain ∷ []
-options_of Check = opt.From ∷ opt.Names ∷ opt.Invert ∷ opt.FromTime ∷ opt.Rate ∷ opt.ReportAs ∷ opt.Explain ∷ []
+options_of Bus = opt.ListingFrom ∷ opt.Present ∷ opt.Delays ∷ opt.Status ∷ opt.TraceAs ∷ opt.Explain
+    ∷ opt.Quiet ∷ []
+options_of Check = opt.From ∷ opt.Names ∷ opt.Invert ∷ opt.FromTime ∷ opt.Rate ∷ opt.ReportAs ∷ opt.Explain
+    ∷ opt.Quiet ∷ []
 options_of Decode = opt.ReadingFrom ∷ opt.Names ∷ opt.Invert ∷ opt.FromTime ∷ opt.Rate ∷ opt.ReadingAs
-    ∷ opt.Explain ∷ opt.Device ∷ opt.Sheet ∷ opt.Characters ∷ opt.Intervals ∷ opt.Bounds ∷ []
-options_of Raw = opt.Set ∷ opt.RawAs ∷ opt.Explain ∷ opt.RawDevice ∷ opt.Sheet ∷ opt.Characters ∷ []
+    ∷ opt.Explain ∷ opt.Quiet ∷ opt.Device ∷ opt.Sheet ∷ opt.Characters ∷ opt.Intervals ∷ opt.Bounds ∷ []
+options_of Raw = opt.Set ∷ opt.RawAs ∷ opt.Explain ∷ opt.Quiet ∷ opt.RawDevice ∷ opt.Sheet ∷ opt.Characters ∷ []

@@ -46,15 +46,19 @@ fn value_option<'a>(alloc: Global, row: OptionRow) -> Arg<'a>
         .hide_default_value(row.default.is_empty())
 }
 
-/// An option without a value.
+/// An option without a value, and with a letter if it has one.
 fn flag_option<'a>(alloc: Global, row: OptionRow) -> Arg<'a>
     ensures rule { rule_of result ≡ kind_rule Kind.Flag (row_view row) }
     ensures local { result.global ≡ false }
 {
-    Arg::new(alloc, row.name)
+    let flag = Arg::new(alloc, row.name)
         .long(row.name)
         .action(ArgAction::SetTrue)
-        .help(row.help)
+        .help(row.help);
+    match row.letter {
+        Some(letter) => flag.short(letter),
+        None => flag,
+    }
 }
 
 /// An option that names a file.

@@ -8,7 +8,7 @@ ghost use Rattle.pr_options.specs.CommandLine.{print1525};
 ghost use Rattle.pr_options.specs.CommandLaws.{NamesOurs};
 ghost use Rattle.pr_options.specs.Jobs.{IsRefused, asked, input_view, job_view, task_view, wanted, wanted_bus, wanted_check, wanted_decode, wanted_input, wanted_pages, wanted_raw, wanted_run};
 ghost use Rattle.pr_options.specs.Steps.{IsFaultIn, IsOfClap, IsOwn, job_result, run_view, wanted_of};
-ghost use Rattle.pr_options.specs.Given.{value_in};
+ghost use Rattle.pr_options.specs.Given.{begins_with_letter, is_quiet_word, value_in};
 ghost use Rattle.pr_options.specs.Values.{bad_value, good_values_of, option_of, value_given, values_of};
 
 use crate::clap_command::make_command;
@@ -255,6 +255,28 @@ pub fn explains(words: &[&str]) -> bool
     ensures { result ≡ list_any (λ word. bytes_eq word.now (codes "--explain")) words.now }
 {
     words.iter().any(|word| *word == "--explain")
+}
+
+/// Returns whether a word is `--quiet`, or begins with `-q`: notes and progress are left out then. No value of an option
+/// begins so in a command line that clap takes; a file's name does only after `--`. It takes no memory.
+pub fn is_quiet(words: &[&str]) -> bool
+    ensures { result ≡ list_any (λ word. is_quiet_word word.now) words.now }
+{
+    words.iter().any(|word| is_quiet_word(*word))
+}
+
+/// Whether a word is the flag or its letter, maybe with other letters behind it.
+fn is_quiet_word(word: &str) -> bool
+    ensures { result ≡ is_quiet_word word.now }
+{
+    word == "--quiet" || begins_with_letter(word.as_bytes())
+}
+
+/// Whether a word begins with the flag's letter.
+fn begins_with_letter(word: &[u8]) -> bool
+    ensures { result ≡ begins_with_letter word.now }
+{
+    word.len() >= 2 && word[0] == b'-' && word[1] == b'q'
 }
 
 /// A law: words name `pages`, `bus`, `check`, `decode` or `raw`, or no subcommand.

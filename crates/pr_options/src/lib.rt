@@ -32,7 +32,7 @@ mod parts;
 mod values_given;
 
 pub use command_line::{
-    Job, JobFault, Task, bad_value, explains, read_task, subcommands_are_these,
+    Job, JobFault, Task, bad_value, explains, is_quiet, read_task, subcommands_are_these,
 };
 pub use delays::{DelayFault, read_delays};
 pub use option_values::{read_present, read_status};

@@ -46,6 +46,7 @@ impl Subcommand {
                 Opt::Status,
                 Opt::PageAs,
                 Opt::Explain,
+                Opt::Quiet,
                 Opt::Device,
                 Opt::Sheet,
                 Opt::Characters,
@@ -57,6 +58,7 @@ impl Subcommand {
                 Opt::Status,
                 Opt::TraceAs,
                 Opt::Explain,
+                Opt::Quiet,
             ],
             Subcommand::Check => &[
                 Opt::From,
@@ -66,6 +68,7 @@ impl Subcommand {
                 Opt::Rate,
                 Opt::ReportAs,
                 Opt::Explain,
+                Opt::Quiet,
             ],
             Subcommand::Decode => &[
                 Opt::ReadingFrom,
@@ -75,6 +78,7 @@ impl Subcommand {
                 Opt::Rate,
                 Opt::ReadingAs,
                 Opt::Explain,
+                Opt::Quiet,
                 Opt::Device,
                 Opt::Sheet,
                 Opt::Characters,
@@ -85,6 +89,7 @@ impl Subcommand {
                 Opt::Set,
                 Opt::RawAs,
                 Opt::Explain,
+                Opt::Quiet,
                 Opt::RawDevice,
                 Opt::Sheet,
                 Opt::Characters,
@@ -131,6 +136,8 @@ pub enum Opt {
     ReadingAs,
     /// A flag: more is said about a fault or a BASIC error.
     Explain,
+    /// A flag: nothing is said but faults.
+    Quiet,
     /// The printer whose pages a picture shows, or whose bytes are written.
     Device,
     /// The same of `raw`, which has no other help.
@@ -163,6 +170,8 @@ pub struct OptionRow {
     pub kind: Kind,
     /// Its name, after `--`.
     pub name: &'static str,
+    /// The letter that serves for its name, after `-`, if one does.
+    pub letter: Option<char>,
     /// What help calls its value.
     pub value: &'static str,
     /// The value where nothing else gives one.
@@ -172,6 +181,8 @@ pub struct OptionRow {
     /// What the endings of that file's name say: each ending with its point, in small letters (capitals are the
     /// same), and the value, as words would give it.
     pub endings: &'static [Ending],
+    /// What the endings say that no format has: a value that is none of its values, so that it is refused.
+    pub foreign: &'static [Ending],
     /// Its values, in a few words.
     pub values: &'static str,
     /// What it is for, and what its values are, as help says it.
@@ -251,6 +262,60 @@ const READING_ENDINGS: &[Ending] = &[
     (".json", "json"),
 ];
 
+/// The endings of files that are no listing: images of disks and tapes, archives, and recordings.
+const FOREIGN_LISTINGS: &[Ending] = &[
+    (".d64", "d64"),
+    (".d71", "d71"),
+    (".d81", "d81"),
+    (".g64", "g64"),
+    (".t64", "t64"),
+    (".p00", "p00"),
+    (".tap", "tap"),
+    (".crt", "crt"),
+    (".gz", "gz"),
+    (".zip", "zip"),
+    (".vcd", "vcd"),
+];
+
+/// The endings of files that are no recording which is read: dumps in other forms, and archives.
+const FOREIGN_RECORDINGS: &[Ending] = &[
+    (".fst", "fst"),
+    (".ghw", "ghw"),
+    (".lxt", "lxt"),
+    (".gz", "gz"),
+    (".zip", "zip"),
+];
+
+/// The endings of files of other programs, and of formats that only other subcommands write.
+const FOREIGN_OUTPUTS: &[Ending] = &[
+    (".svg", "svg"),
+    (".png", "png"),
+    (".pdf", "pdf"),
+    (".json", "json"),
+    (".vcd", "vcd"),
+    (".csv", "csv"),
+    (".jpg", "jpg"),
+    (".jpeg", "jpeg"),
+    (".gif", "gif"),
+    (".bmp", "bmp"),
+    (".tif", "tif"),
+    (".tiff", "tiff"),
+    (".webp", "webp"),
+    (".ps", "ps"),
+    (".eps", "eps"),
+    (".htm", "htm"),
+    (".html", "html"),
+    (".doc", "doc"),
+    (".docx", "docx"),
+    (".odt", "odt"),
+    (".rtf", "rtf"),
+    (".gz", "gz"),
+    (".zip", "zip"),
+    (".bas", "bas"),
+    (".prg", "prg"),
+    (".petcat", "petcat"),
+];
+
 /// No ending says anything.
 const NO_ENDINGS: &[Ending] = &[];
 
@@ -258,10 +323,12 @@ const NO_ENDINGS: &[Ending] = &[];
 const PLAIN: OptionRow = OptionRow {
     kind: Kind::Value,
     name: "",
+    letter: None,
     value: "",
     default: "",
     file: "",
     endings: NO_ENDINGS,
+    foreign: NO_ENDINGS,
     values: "",
     help: "",
 };
@@ -362,6 +429,8 @@ const READING_AS_VALUES: &str = "list, text, svg, png, pdf, json or bytes";
 const EXPLAIN_HELP: &str = "Says more about a fault or a BASIC error,\n\
      on standard error";
 
+const QUIET_HELP: &str = "Leaves out notes and progress on standard error";
+
 const DEVICE_HELP: &str = "4 or 5: the printer that svg, png and pdf draw\n\
      or whose bytes are written [default: all, the\n\
      first with a page for png, 4 for bytes]";
@@ -400,6 +469,7 @@ impl Opt {
                 default: "text",
                 file: INPUT_NAME,
                 endings: LISTING_ENDINGS,
+                foreign: FOREIGN_LISTINGS,
                 values: LISTING_FROM_VALUES,
                 help: LISTING_FROM_HELP,
                 ..PLAIN
@@ -410,6 +480,7 @@ impl Opt {
                 default: "text",
                 file: INPUT_NAME,
                 endings: RECORDING_ENDINGS,
+                foreign: FOREIGN_RECORDINGS,
                 values: FROM_VALUES,
                 help: FROM_HELP,
                 ..PLAIN
@@ -420,6 +491,7 @@ impl Opt {
                 default: "auto",
                 file: INPUT_NAME,
                 endings: READING_FROM_ENDINGS,
+                foreign: FOREIGN_RECORDINGS,
                 values: READING_FROM_VALUES,
                 help: READING_FROM_HELP,
                 ..PLAIN
@@ -491,6 +563,7 @@ impl Opt {
                 default: "list",
                 file: OUTPUT_NAME,
                 endings: PAGE_ENDINGS,
+                foreign: FOREIGN_OUTPUTS,
                 values: PAGE_AS_VALUES,
                 help: PAGE_AS_HELP,
                 ..PLAIN
@@ -501,6 +574,7 @@ impl Opt {
                 default: "list",
                 file: OUTPUT_NAME,
                 endings: PAGE_ENDINGS,
+                foreign: FOREIGN_OUTPUTS,
                 values: RAW_AS_VALUES,
                 help: RAW_AS_HELP,
                 ..PLAIN
@@ -511,6 +585,7 @@ impl Opt {
                 default: "text",
                 file: OUTPUT_NAME,
                 endings: TRACE_ENDINGS,
+                foreign: FOREIGN_OUTPUTS,
                 values: TRACE_AS_VALUES,
                 help: TRACE_AS_HELP,
                 ..PLAIN
@@ -521,6 +596,7 @@ impl Opt {
                 default: "frames",
                 file: OUTPUT_NAME,
                 endings: REPORT_ENDINGS,
+                foreign: FOREIGN_OUTPUTS,
                 values: REPORT_AS_VALUES,
                 help: REPORT_AS_HELP,
                 ..PLAIN
@@ -531,6 +607,7 @@ impl Opt {
                 default: "list",
                 file: OUTPUT_NAME,
                 endings: READING_ENDINGS,
+                foreign: FOREIGN_OUTPUTS,
                 values: READING_AS_VALUES,
                 help: READING_AS_HELP,
                 ..PLAIN
@@ -539,6 +616,13 @@ impl Opt {
                 kind: Kind::Flag,
                 name: "explain",
                 help: EXPLAIN_HELP,
+                ..PLAIN
+            },
+            Opt::Quiet => OptionRow {
+                kind: Kind::Flag,
+                name: "quiet",
+                letter: Some('q'),
+                help: QUIET_HELP,
                 ..PLAIN
             },
             Opt::Device => OptionRow {

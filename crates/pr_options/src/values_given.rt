@@ -3,7 +3,7 @@
 ghost use Rattle.std.specs.Prelude.{◌≡◌, IfErr, IfOk, find, option_map, unwrap_or};
 ghost use Rattle.std.specs.Str.{str_eq_ignore_ascii_case};
 ghost use Rattle.clap.specs.Words.{first_of, found_of, rows_of};
-ghost use Rattle.pr_options.specs.Given.{characters_in, ending_value, file_in, has_ending, is_given, is_named, is_of_words, named, value_by_ending, value_in};
+ghost use Rattle.pr_options.specs.Given.{characters_in, ending_value, file_in, has_ending, is_given, is_named, is_of_words, named, value_by_ending, value_by_name, value_in};
 ghost use Rattle.pr_options.specs.Jobs.{decode_output, drawn, fitting, heard, is_picture, pages_output, read, read_if_given, shown, unless_found, unmeasured, wanted_detail, wanted_part, wants_readings, wants_recording, wants_table};
 ghost use Rattle.pr_options.specs.Options.{bounds_of, device_of, sheet_of};
 ghost use Rattle.pr_options.specs.SignalNames.{names_of};
@@ -292,8 +292,18 @@ fn ending_value(options: &ArgMatches<'_>, row: OptionRow) -> Option<&'static str
         return None;
     }
     match text_in(options, row.file) {
-        Some(name) => value_by_ending(row.endings, name),
+        Some(name) => value_by_name(row, name),
         None => None,
+    }
+}
+
+/// The value by the endings of an option, or else by those that no format has.
+fn value_by_name(row: OptionRow, name: &str) -> Option<&'static str>
+    ensures { option_map (λ value. value.now) result ≡ value_by_name (row_view row) name.now }
+{
+    match value_by_ending(row.endings, name) {
+        Some(value) => Some(value),
+        None => value_by_ending(row.foreign, name),
     }
 }
 

@@ -1,0 +1,182 @@
+//! Notes: what is lawful and probably not what was meant, a line each on standard error.
+
+use pr_basic::cut_line;
+use pr_listing::{ListingForm, has_typed_strings, looks_like_disk, looks_saved};
+
+/// What is said of a script with small letters or braces in its strings.
+const TYPED_STRINGS: &str =
+    "strings are sent as they are: small letters print graphics, or capitals \
+     after OPEN file,device,7, and {name} prints its letters; --from petcat reads both as typed";
+
+/// What is said of petcat's text whose strings have more capitals than small letters.
+const PETCAT_CAPITALS: &str =
+    "capitals in the strings of petcat's text print graphics; --from text sends strings as they are";
+
+/// What is said of a printer's bytes that look like a saved program.
+const SAVED_BYTES: &str =
+    "this looks like a saved program, and not like a printer's bytes: pages --from prg runs one";
+
+/// What is said of a printer's bytes that look like a disk.
+const DISK_BYTES: &str = "this looks like an image of a disk, and not like a printer's bytes";
+
+/// Writes a note.
+fn note(rt: &impl Eprint, text: &str) {
+    let _ = rt.eprintln(format_args!("print1525: note: {text}"));
+}
+
+/// Writes what is to be noted of the text of a script that has run. The text of a listing in another form was made of it.
+pub fn note_script(rt: &impl Eprint, script: &[u8], form: ListingForm) {
+    if form == ListingForm::Text && is_typed(script) {
+        note(rt, TYPED_STRINGS);
+    }
+    if let Some(line) = line_with_return(script) {
+        let _ = rt.eprintln(format_args!(
+            "print1525: note: line {line} has a remark with carriage returns in it, which do not end a line here: \
+             if lines were meant to end there, save the script with LF or CR LF line ends"
+        ));
+    }
+    if form != ListingForm::Program {
+        note_order(rt, script);
+    }
+}
+
+/// Writes what is to be noted of petcat's text.
+pub fn note_petcat(rt: &impl Eprint, text: &[u8]) {
+    if has_more_capitals(text) {
+        note(rt, PETCAT_CAPITALS);
+    }
+}
+
+/// Writes what is to be noted of bytes that a printer hardly gets.
+pub fn note_bytes(rt: &impl Eprint, bytes: &[u8]) {
+    if looks_saved(bytes) {
+        note(rt, SAVED_BYTES);
+    } else if looks_like_disk(bytes) {
+        note(rt, DISK_BYTES);
+    }
+}
+
+/// Whether a string of a script has a small letter or a brace. Most scripts have none at all, which is soon seen.
+pub fn is_typed(script: &[u8]) -> bool {
+    has_typed_byte(script) && has_typed_strings(script)
+}
+
+/// Whether there is a small letter or a brace.
+fn has_typed_byte(bytes: &[u8]) -> bool {
+    for byte in bytes {
+        if byte.is_ascii_lowercase() || *byte == b'{' {
+            return true;
+        }
+    }
+    false
+}
+
+/// The number, from 1, of the first line of a script whose remark has a byte 13 with another line behind it, as it seems.
+fn line_with_return(script: &[u8]) -> Option<usize> {
+    let mut rest = script;
+    let mut number: usize = 0;
+    while !rest.is_empty() {
+        let (line, more) = cut_line(rest);
+        number = number.wrapping_add(1);
+        if has_line_behind_return(remark_of(line)) {
+            return Some(number);
+        }
+        rest = more;
+    }
+    None
+}
+
+/// The remark of a line; empty where it has none.
+fn remark_of(line: &[u8]) -> &[u8] {
+    let mut is_quoted = false;
+    for i in 0..line.len() {
+        if line[i] == b'"' {
+            is_quoted = !is_quoted;
+        } else if !is_quoted && begins_remark(&line[i..]) {
+            return &line[i..];
+        }
+    }
+    &line[line.len()..]
+}
+
+/// Whether bytes begin with the keyword of a remark.
+fn begins_remark(bytes: &[u8]) -> bool {
+    bytes.len() >= 3 && bytes[..3].eq_ignore_ascii_case(b"rem")
+}
+
+/// Whether a byte 13 has a digit or a letter behind it, maybe after blanks.
+fn has_line_behind_return(remark: &[u8]) -> bool {
+    let mut is_behind = false;
+    for byte in remark {
+        match *byte {
+            b'\r' => is_behind = true,
+            b' ' => {}
+            _ if is_behind && byte.is_ascii_alphanumeric() => return true,
+            _ => is_behind = false,
+        }
+    }
+    false
+}
+
+/// Says which line has a number that does not follow the one before it, if a line does.
+fn note_order(rt: &impl Eprint, script: &[u8]) {
+    let mut rest = script;
+    let mut line_number: usize = 0;
+    let mut last: Option<(u64, usize)> = None;
+    while !rest.is_empty() {
+        let (line, more) = cut_line(rest);
+        line_number = line_number.wrapping_add(1);
+        if let Some(number) = label_of(line) {
+            if let Some((before, at)) = last {
+                if number <= before {
+                    let _ = rt.eprintln(format_args!(
+                        "print1525: note: line {line_number} has the number {number}, after {before} in line {at}: \
+                         lines run in the order of the file, where a C64 sorts them and keeps the last of each number"
+                    ));
+                    return;
+                }
+            }
+            last = Some((number, line_number));
+        }
+        rest = more;
+    }
+}
+
+/// The number with which a line of a script begins, if it does; the greatest one where it is too large.
+fn label_of(line: &[u8]) -> Option<u64> {
+    let mut number: Option<u64> = None;
+    for byte in line {
+        match *byte {
+            b' ' | b'\t' if number.is_none() => {}
+            b'0'..=b'9' => {
+                let digit = u64::from(*byte - b'0');
+                number = Some(number.unwrap_or(0).saturating_mul(10).saturating_add(digit));
+            }
+            _ => break,
+        }
+    }
+    number
+}
+
+/// Whether the strings of petcat's text have more capitals than small letters. What is between braces is a name.
+fn has_more_capitals(text: &[u8]) -> bool {
+    let mut capitals: usize = 0;
+    let mut smalls: usize = 0;
+    let mut is_quoted = false;
+    let mut is_name = false;
+    for byte in text {
+        match *byte {
+            b'\n' => {
+                is_quoted = false;
+                is_name = false;
+            }
+            b'"' => is_quoted = !is_quoted,
+            b'{' => is_name = true,
+            b'}' => is_name = false,
+            b'A'..=b'Z' if is_quoted && !is_name => capitals = capitals.wrapping_add(1),
+            b'a'..=b'z' if is_quoted && !is_name => smalls = smalls.wrapping_add(1),
+            _ => {}
+        }
+    }
+    capitals > smalls
+}
