@@ -10,7 +10,9 @@ ghost use Rattle.pr_explain.specs.ScriptSteps.{IsNumberedPlace, numbered};
 use crate::Explanation;
 use crate::context::{Problem, advice_at, cut_before, problem_at, takes_item};
 use crate::texts::{Cut, Escaped, without_end};
-use crate::words::{Foreign, foreign_word, is_number, word_at};
+use crate::words::{
+    Foreign, foreign_word, is_number, letter_in, typed_instead, word_at,
+};
 use pr_basic::{
     LineAt, ScriptFault, basic_number, faults_tell_their_line, line_at, read_script_at,
 };
@@ -219,21 +221,11 @@ fn push_letter(text: &mut String, rest: &[u8]) -> Result<(), NoMemory> {
             "  the letter {}, as UTF-8 has it, is no character of the C64 as typed\n",
             Escaped(letter)
         ),
-        _ => Ok(()),
-    }
-}
-
-/// The letter in front as UTF-8 has it, or else the byte; nothing at the end.
-fn letter_in(rest: &[u8]) -> &[u8] {
-    let len = match rest {
-        [0xc2..=0xdf, _, ..] => 2,
-        [0xe0..=0xef, _, _, ..] => 3,
-        [0xf0..=0xf4, _, _, _, ..] => 4,
-        _ => return &rest[..rest.len().min(1)],
-    };
-    match str::from_utf8(&rest[..len]) {
-        Ok(_) => &rest[..len],
-        Err(_) => &rest[..1],
+        _ => return Ok(()),
+    }?;
+    match typed_instead(letter) {
+        Some(sentence) => write!(text, "  {sentence}\n"),
+        None => Ok(()),
     }
 }
 
