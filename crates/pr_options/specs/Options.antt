@@ -1,5 +1,5 @@
 -- Trusted: the values of the program's options.
-use Rattle.std.specs.Prelude.{ℕ, ◌^◌, ◌==◌, ◌&&◌, ◌∷◌, [], Bool, List, length, nat_lt, Option, Some, None, true, false, codes, if◌then◌else◌, find, option_and_then, option_map}
+use Rattle.std.specs.Prelude.{ℕ, ◌*◌, ◌^◌, ◌==◌, ◌&&◌, ◌∷◌, [], Bool, List, length, nat_lt, Option, Some, None, true, false, codes, if◌then◌else◌, find, option_and_then, option_map}
 use Rattle.std.specs.List.{after_first, before_first, list_all}
 use Rattle.std.specs.Str.{bytes_eq}
 use Rattle.clap.specs.Words.{Text}
@@ -109,18 +109,32 @@ start_of text =
     if nat_lt 0 (length text) && (list_all is_digit text && nat_lt (number_of text) (2 ^ 64))
     then Some (number_of text) else None
 
--- nothing, or a minus in front, before a number of microseconds
+-- a number, multiplied, below 2^64
+abbrev pub scaled : (factor : ℕ) → Option ℕ → Option ℕ
+scaled factor None = None
+scaled factor (Some n) = if nat_lt (n * factor) (2 ^ 64) then Some (n * factor) else None
+
+-- a time in microseconds: a number of them, or one with a unit behind it: 1500, 1500us, 5ms, 2s
+abbrev pub moment_of : Text → Option ℕ
+moment_of text =
+    if bytes_eq (after_first (λ b. b == 117) text) (codes "s") then start_of (before_first (λ b. b == 117) text)
+    else (if bytes_eq (after_first (λ b. b == 109) text) (codes "s")
+        then scaled 1000 (start_of (before_first (λ b. b == 109) text))
+    else (if length (after_first (λ b. b == 115) text) == 0 && nat_lt (length (before_first (λ b. b == 115) text)) (length text)
+        then scaled 1000000 (start_of (before_first (λ b. b == 115) text)) else start_of text))
+
+-- nothing, or a minus in front, before a time
 abbrev pub is_back : Text → Bool
 is_back text = length (before_first (λ b. b == 45) text) == 0
 
 -- how long before the recording's own moment 0 a trace starts, where there is a minus
 abbrev pub before_of : Text → Option ℕ
-before_of text = if is_back text then start_of (after_first (λ b. b == 45) text) else None
+before_of text = if is_back text then moment_of (after_first (λ b. b == 45) text) else None
 
--- the moment of a recording at which a trace starts: a number as above, or a minus and such a number; for the latter
+-- the moment of a recording at which a trace starts: a time as above, or a minus and such a time; for the latter
 -- it is 0, the recording's first moment, until that of its own moment 0 is known
 abbrev pub from_time_of : Text → Option ℕ
-from_time_of text = if is_back text then option_map (λ n. 0) (before_of text) else start_of text
+from_time_of text = if is_back text then option_map (λ n. 0) (before_of text) else moment_of text
 
 -- the sheet of a number; sheets count from 1
 abbrev pub sheet_numbered : ℕ → Option ℕ

@@ -1,7 +1,7 @@
 //! The values of the program's options.
 
 ghost use Rattle.std.specs.Prelude.{◌≡◌, ◌∷◌, [], option_map, IfSome};
-ghost use Rattle.pr_options.specs.Options.{before_of, bounds_of, decode_output_of, device_of, form_of, format_of, from_time_of, mode_of, pages_output_of, present_of, rate_of, reading_source_of, report_of, set_of, sheet_numbered, sheet_of, source_of, start_of, trace_format_of};
+ghost use Rattle.pr_options.specs.Options.{before_of, bounds_of, decode_output_of, device_of, form_of, format_of, from_time_of, mode_of, moment_of, pages_output_of, present_of, rate_of, reading_source_of, report_of, scaled, set_of, sheet_numbered, sheet_of, source_of, start_of, trace_format_of};
 ghost use Rattle.pr_options.specs.SignalNames.{are_names, differ, is_clock_twice, is_name, names_of, names_of_signals, three_names};
 
 use crate::outputs::{CheckOutput, DecodeOutput, PagesOutput};
@@ -301,8 +301,38 @@ pub fn read_start(text: &str) -> Option<u64>
     text.parse().ok()
 }
 
-/// The moment of a recording at which its trace starts, in microseconds: as [`read_start`], or a minus and such a
-/// number, for which it is 0, the recording's first moment, until its own moment 0 is known (profile). None for any
+/// A time in microseconds: a number as [`read_start`] reads it, alone or with a unit behind it, `us`, `ms` or `s`; below 2^64
+/// microseconds (profile). None for any other text.
+fn read_moment(text: &str) -> Option<u64>
+    ensures { result ≡ moment_of text.now }
+{
+    let (micros, behind_micros) = cut(text, 'u');
+    if behind_micros == "s" {
+        return read_start(micros);
+    }
+    let (millis, behind_millis) = cut(text, 'm');
+    if behind_millis == "s" {
+        return scaled(1000, read_start(millis));
+    }
+    let (seconds, behind_seconds) = cut(text, 's');
+    if behind_seconds.is_empty() && seconds.len() < text.len() {
+        return scaled(1_000_000, read_start(seconds));
+    }
+    read_start(text)
+}
+
+/// A number, multiplied, if it is below 2^64.
+fn scaled(factor: u64, number: Option<u64>) -> Option<u64>
+    ensures { result ≡ scaled factor number }
+{
+    match number {
+        Some(number) => number.checked_mul(factor),
+        None => None,
+    }
+}
+
+/// The moment of a recording at which its trace starts, in microseconds: as [`read_moment`], or a minus and such a
+/// time, for which it is 0, the recording's first moment, until its own moment 0 is known (profile). None for any
 /// other text.
 pub fn read_from_time(text: &str) -> Option<u64>
     ensures { result ≡ from_time_of text.now }
@@ -312,18 +342,18 @@ pub fn read_from_time(text: &str) -> Option<u64>
         let _before = read_before(text)?;
         Some(0)
     } else {
-        read_start(text)
+        read_moment(text)
     }
 }
 
-/// How long before its recording's own moment 0 a trace starts, in microseconds: a minus and a number, as
-/// [`read_start`] reads it (profile). None for any other text.
+/// How long before its recording's own moment 0 a trace starts, in microseconds: a minus and a time, as
+/// [`read_moment`] reads it (profile). None for any other text.
 pub fn read_before(text: &str) -> Option<u64>
     ensures { result ≡ before_of text.now }
 {
     let (front, behind) = cut(text, '-');
     if front.is_empty() {
-        read_start(behind)
+        read_moment(behind)
     } else {
         None
     }

@@ -385,10 +385,10 @@ const NAMES_VALUES: &str = "three different names, as in ATN,CLOCK,DATA";
 const INVERT_HELP: &str = "The probes invert: 0 is released, 1 is pulled";
 
 const FROM_TIME_HELP: &str = "The time of the recording at which the trace\n\
-     starts, a whole number below 2^64; =-500 is\n\
-     before the table's own moment 0";
+     starts: microseconds, or as in 5ms or 2s; =-500\n\
+     is before the table's own moment 0";
 
-const FROM_TIME_VALUES: &str = "a whole number below 2^64, also with a minus";
+const FROM_TIME_VALUES: &str = "microseconds below 2^64, as in 1500, 5ms, 2s or -500";
 
 const RATE_HELP: &str = "The samples in a second of a table that has no\n\
      times: a number, also with k, M, G (12.5M), or\n\
@@ -543,7 +543,7 @@ impl Opt {
             },
             Opt::FromTime => OptionRow {
                 name: "from-time",
-                value: "MICROSECONDS",
+                value: "TIME",
                 default: "0",
                 values: FROM_TIME_VALUES,
                 help: FROM_TIME_HELP,
