@@ -1,9 +1,9 @@
 -- Trusted: the program's command line, as a simple command of clap.
-use Rattle.std.specs.Prelude.{◌∷◌, [], List, Some, codes, false, map, true}
+use Rattle.std.specs.Prelude.{◌∷◌, ℕ, [], List, Option, Some, codes, false, map, true}
 use Rattle.clap.specs.Words.{App, Rule, Shape, Text, new_rule}
 use Rattle.clap.specs.Simple.{new_shape}
 use Rattle.clap.specs.declared.builder.action.ArgAction.TheVariants.{SetTrue}
-use Rattle.pr_options.specs.Rows.{OptionRow, command_name, options_of, row}
+use Rattle.pr_options.specs.Rows.{OptionRow, command_name, letter, options_of, row}
 use Rattle.pr_options.specs.Rows as option
 use Rattle.pr_options.specs.declared.options.Kind.{Kind}
 use Rattle.pr_options.specs.declared.options.Kind.TheVariants.{Value, Flag, File}
@@ -21,13 +21,13 @@ output_rule name = record (new_rule name) { long = Some name; short = Some 111; 
 
 -- an option by what follows its name: a value, which has a default; nothing, and then a letter may serve for its name;
 -- or the name of a file
-abbrev pub kind_rule : Kind → OptionRow → Rule
-kind_rule Value o = record (new_rule o.name) { long = Some o.name; value_names = 1; defaults = o.default ∷ [] }
-kind_rule Flag o = record (new_rule o.name) { long = Some o.name; short = o.letter; action = Some SetTrue }
-kind_rule File o = record (new_rule o.name) { long = Some o.name; value_names = 1 }
+abbrev pub kind_rule : Kind → (letter : Option ℕ) → OptionRow → Rule
+kind_rule Value letter o = record (new_rule o.name) { long = Some o.name; value_names = 1; defaults = o.default ∷ [] }
+kind_rule Flag letter o = record (new_rule o.name) { long = Some o.name; short = letter; action = Some SetTrue }
+kind_rule File letter o = record (new_rule o.name) { long = Some o.name; value_names = 1 }
 
 abbrev pub rule : Opt → Rule
-rule o = kind_rule (row o).kind (row o)
+rule o = kind_rule (row o).kind (letter o) (row o)
 
 -- a subcommand: the file that it reads, the one that it writes, and its options
 abbrev pub subcommand : Subcommand → Shape

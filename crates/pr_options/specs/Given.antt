@@ -5,7 +5,7 @@ use Rattle.std.specs.Str.{bytes_eq, str_eq_ignore_ascii_case}
 use Rattle.clap.specs.Words.{Row, Text, first_of}
 use Rattle.clap.specs.declared.parser.matches.ValueSource.{ValueSource}
 use Rattle.clap.specs.declared.parser.matches.ValueSource.TheVariants.{CommandLine, DefaultValue}
-use Rattle.pr_options.specs.Rows.{OptionRow, row}
+use Rattle.pr_options.specs.Rows.{OptionRow, foreign, row}
 use Rattle.pr_options.specs.declared.options.Opt.{Opt}
 use Rattle.pr_options.specs.declared.options.Opt.TheVariants as opt
 
@@ -34,18 +34,18 @@ abbrev pub value_by_ending : List (Text × Text) → Text → Option Text
 value_by_ending endings name = option_map (λ e. e.1) (find (λ e. has_ending name e.0) endings)
 
 -- the same by the endings of an option, or else by those that no format has
-abbrev pub value_by_name : OptionRow → Text → Option Text
-value_by_name option name = option_or (value_by_ending option.endings name) (value_by_ending option.foreign name)
+abbrev pub value_by_name : (endings foreign : List (Text × Text)) → Text → Option Text
+value_by_name endings foreign name = option_or (value_by_ending endings name) (value_by_ending foreign name)
 
 -- the value that the ending of a file's name gives, where words do not give the option itself
-abbrev pub ending_value : OptionRow → List Row → Option Text
-ending_value option rows = if is_named option.name rows then None
-    else option_and_then (value_by_name option) (first_of option.file rows)
+abbrev pub ending_value : OptionRow → (foreign : List (Text × Text)) → List Row → Option Text
+ending_value option foreign rows = if is_named option.name rows then None
+    else option_and_then (value_by_name option.endings foreign) (first_of option.file rows)
 
 -- the value of an option: the one that words give; else the one that a file's name gives; else its default, which
 -- serves in a subcommand that does not have the option too
 abbrev pub value_in : Opt → List Row → Text
-value_in o rows = unwrap_or (ending_value (row o) rows) (unwrap_or (first_of (row o).name rows) (row o).default)
+value_in o rows = unwrap_or (ending_value (row o) (foreign o) rows) (unwrap_or (first_of (row o).name rows) (row o).default)
 
 -- the name of a file; `-` is none
 abbrev pub named : Text → Option Text

@@ -10,17 +10,15 @@ use Rattle.pr_options.specs.declared.options.Subcommand.{Subcommand}
 use Rattle.pr_options.specs.declared.options.Subcommand.TheVariants.{Pages, Bus, Check, Decode, Raw}
 use Rattle.pr_options.specs.declared.options.TheConstants.{BOUNDS_HELP, BOUNDS_VALUES, CHARACTERS_HELP, DELAYS_HELP, DELAYS_VALUES, DEVICE_HELP, DEVICE_VALUES, EXPLAIN_HELP, FROM_HELP, FROM_TIME_HELP, FROM_TIME_VALUES, FROM_VALUES, INTERVALS_HELP, INVERT_HELP, LISTING_FROM_HELP, LISTING_FROM_VALUES, NAMES_HELP, NAMES_VALUES, PAGE_AS_HELP, PAGE_AS_VALUES, PRESENT_HELP, PRESENT_VALUES, QUIET_HELP, RATE_HELP, RATE_VALUES, RAW_AS_HELP, RAW_AS_VALUES, RAW_DEVICE_HELP, READING_AS_HELP, READING_AS_VALUES, READING_FROM_HELP, READING_FROM_VALUES, REPORT_AS_HELP, REPORT_AS_VALUES, SET_HELP, SET_VALUES, SHEET_HELP, SHEET_VALUES, STATUS_HELP, STATUS_VALUES, TRACE_AS_HELP, TRACE_AS_VALUES}
 
--- an option: what follows its name (a value, nothing, or a file's name); its name, and a letter that serves for it;
--- the value where nothing else gives one; the values that the endings of a file's name give, where the argument `file`
--- names one, and what endings give that no format has; and its values, in a few words and as help says them
+-- an option: what follows its name (a value, nothing, or a file's name); its name; the value where nothing else gives
+-- one; the values that the endings of a file's name give, where the argument `file` names one; and its values, in a few
+-- words and as help says them
 pub record OptionRow : Type 0 where
   pub kind : Kind
   pub name : Text
-  pub letter : Option ℕ
   pub default : Text
   pub file : Text
   pub endings : List (Text × Text)
-  pub foreign : List (Text × Text)
   pub values : Text
   pub help : Text
 
@@ -35,11 +33,11 @@ output = codes "output"
 -- an option whose value no file's name gives: its name, its default, its values and its help
 abbrev pub plain : (name default values help : Text) → OptionRow
 plain name default values help =
-    record { kind = Value; name = name; letter = None; default = default; file = []; endings = []; foreign = []; values = values; help = help }
+    record { kind = Value; name = name; default = default; file = []; endings = []; values = values; help = help }
 
 -- an option whose value the ending of a file's name can give
-abbrev pub by_file : Text → (endings foreign : List (Text × Text)) → OptionRow → OptionRow
-by_file file endings foreign option = record option { file = file; endings = endings; foreign = foreign }
+abbrev pub by_file : Text → List (Text × Text) → OptionRow → OptionRow
+by_file file endings option = record option { file = file; endings = endings }
 
 -- an option without a value, or one that names a file
 abbrev pub no_value : Kind → (name help : Text) → OptionRow
@@ -99,10 +97,10 @@ foreign_outputs = (codes ".svg", codes "svg") ∷ (codes ".png", codes "png") �
 -- the row of an option
 abbrev pub row : Opt → OptionRow
 row opt.ListingFrom =
-    by_file input listing_endings foreign_listings (plain (codes "from") (codes "text") LISTING_FROM_VALUES.now LISTING_FROM_HELP.now)
-row opt.From = by_file input recording_endings foreign_recordings (plain (codes "from") (codes "text") FROM_VALUES.now FROM_HELP.now)
+    by_file input listing_endings (plain (codes "from") (codes "text") LISTING_FROM_VALUES.now LISTING_FROM_HELP.now)
+row opt.From = by_file input recording_endings (plain (codes "from") (codes "text") FROM_VALUES.now FROM_HELP.now)
 row opt.ReadingFrom =
-    by_file input reading_from_endings foreign_recordings (plain (codes "from") (codes "auto") READING_FROM_VALUES.now READING_FROM_HELP.now)
+    by_file input reading_from_endings (plain (codes "from") (codes "auto") READING_FROM_VALUES.now READING_FROM_HELP.now)
 row opt.Present = plain (codes "present") (codes "both") PRESENT_VALUES.now PRESENT_HELP.now
 row opt.Delays = plain (codes "delays") [] DELAYS_VALUES.now DELAYS_HELP.now
 row opt.Status = plain (codes "status") (codes "each") STATUS_VALUES.now STATUS_HELP.now
@@ -111,22 +109,39 @@ row opt.Names = plain (codes "names") (codes "ATN,CLOCK,DATA") NAMES_VALUES.now 
 row opt.Invert = no_value Flag (codes "invert") INVERT_HELP.now
 row opt.FromTime = plain (codes "from-time") (codes "0") FROM_TIME_VALUES.now FROM_TIME_HELP.now
 row opt.Rate = plain (codes "rate") (codes "none") RATE_VALUES.now RATE_HELP.now
-row opt.PageAs = by_file output page_endings foreign_outputs (plain (codes "as") (codes "list") PAGE_AS_VALUES.now PAGE_AS_HELP.now)
-row opt.RawAs = by_file output page_endings foreign_outputs (plain (codes "as") (codes "list") RAW_AS_VALUES.now RAW_AS_HELP.now)
+row opt.PageAs = by_file output page_endings (plain (codes "as") (codes "list") PAGE_AS_VALUES.now PAGE_AS_HELP.now)
+row opt.RawAs = by_file output page_endings (plain (codes "as") (codes "list") RAW_AS_VALUES.now RAW_AS_HELP.now)
 row opt.TraceAs =
-    by_file output trace_endings foreign_outputs (plain (codes "as") (codes "text") TRACE_AS_VALUES.now TRACE_AS_HELP.now)
+    by_file output trace_endings (plain (codes "as") (codes "text") TRACE_AS_VALUES.now TRACE_AS_HELP.now)
 row opt.ReportAs =
-    by_file output report_endings foreign_outputs (plain (codes "as") (codes "frames") REPORT_AS_VALUES.now REPORT_AS_HELP.now)
+    by_file output report_endings (plain (codes "as") (codes "frames") REPORT_AS_VALUES.now REPORT_AS_HELP.now)
 row opt.ReadingAs =
-    by_file output reading_endings foreign_outputs (plain (codes "as") (codes "list") READING_AS_VALUES.now READING_AS_HELP.now)
+    by_file output reading_endings (plain (codes "as") (codes "list") READING_AS_VALUES.now READING_AS_HELP.now)
 row opt.Explain = no_value Flag (codes "explain") EXPLAIN_HELP.now
-row opt.Quiet = record (no_value Flag (codes "quiet") QUIET_HELP.now) { letter = Some 113 }
+row opt.Quiet = no_value Flag (codes "quiet") QUIET_HELP.now
 row opt.Device = plain (codes "device") [] DEVICE_VALUES.now DEVICE_HELP.now
 row opt.RawDevice = plain (codes "device") [] DEVICE_VALUES.now RAW_DEVICE_HELP.now
 row opt.Sheet = plain (codes "sheet") [] SHEET_VALUES.now SHEET_HELP.now
 row opt.Characters = no_value File (codes "characters") CHARACTERS_HELP.now
 row opt.Intervals = no_value Flag (codes "intervals") INTERVALS_HELP.now
 row opt.Bounds = plain (codes "bounds") (codes "profile") BOUNDS_VALUES.now BOUNDS_HELP.now
+
+-- what the endings of a file's name say that no format has: values that are none of the option
+abbrev pub foreign : Opt → List (Text × Text)
+foreign opt.ListingFrom = foreign_listings
+foreign opt.From = foreign_recordings
+foreign opt.ReadingFrom = foreign_recordings
+foreign opt.PageAs = foreign_outputs
+foreign opt.RawAs = foreign_outputs
+foreign opt.TraceAs = foreign_outputs
+foreign opt.ReportAs = foreign_outputs
+foreign opt.ReadingAs = foreign_outputs
+foreign _ = []
+
+-- the letter that serves for the name of a flag: `-q` (113)
+abbrev pub letter : Opt → Option ℕ
+letter opt.Quiet = Some 113
+letter _ = None
 
 -- the name of a subcommand
 abbrev pub command_name : Subcommand → Text

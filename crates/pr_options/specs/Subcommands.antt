@@ -36,11 +36,9 @@ abbrev pub row_view : CodeRow → OptionRow
 row_view r = record {
   kind = r.kind;
   name = r.name.now;
-  letter = r.letter;
   default = r.default.now;
   file = r.file.now;
   endings = endings_view r.endings.now;
-  foreign = endings_view r.foreign.now;
   values = r.values.now;
   help = r.help.now;
 }

@@ -1,6 +1,6 @@
 //! The program's command with its subcommands and options, as clap takes it.
 
-ghost use Rattle.std.specs.Prelude.{◌≡◌, IfOk, false};
+ghost use Rattle.std.specs.Prelude.{◌≡◌, IfOk, None, false};
 ghost use Rattle.clap.specs.Words.{app_of, new_app, rule_of};
 ghost use Rattle.pr_options.specs.CommandLine.{input_rule, kind_rule, output_rule, print1525, rule, subcommand};
 ghost use Rattle.pr_options.specs.Rows.{command_name};
@@ -28,14 +28,14 @@ fn option_argument<'a>(alloc: Global, opt: Opt) -> Arg<'a>
     let row = opt.row();
     match row.kind {
         Kind::Value => value_option(alloc, row),
-        Kind::Flag => flag_option(alloc, row),
+        Kind::Flag => flag_option(alloc, row, opt.letter()),
         Kind::File => file_option(alloc, row),
     }
 }
 
 /// An option with a value.
 fn value_option<'a>(alloc: Global, row: OptionRow) -> Arg<'a>
-    ensures rule { rule_of result ≡ kind_rule Kind.Value (row_view row) }
+    ensures rule { rule_of result ≡ kind_rule Kind.Value None (row_view row) }
     ensures local { result.global ≡ false }
 {
     Arg::new(alloc, row.name)
@@ -47,15 +47,15 @@ fn value_option<'a>(alloc: Global, row: OptionRow) -> Arg<'a>
 }
 
 /// An option without a value, and with a letter if it has one.
-fn flag_option<'a>(alloc: Global, row: OptionRow) -> Arg<'a>
-    ensures rule { rule_of result ≡ kind_rule Kind.Flag (row_view row) }
+fn flag_option<'a>(alloc: Global, row: OptionRow, letter: Option<char>) -> Arg<'a>
+    ensures rule { rule_of result ≡ kind_rule Kind.Flag letter (row_view row) }
     ensures local { result.global ≡ false }
 {
     let flag = Arg::new(alloc, row.name)
         .long(row.name)
         .action(ArgAction::SetTrue)
         .help(row.help);
-    match row.letter {
+    match letter {
         Some(letter) => flag.short(letter),
         None => flag,
     }
@@ -63,7 +63,7 @@ fn flag_option<'a>(alloc: Global, row: OptionRow) -> Arg<'a>
 
 /// An option that names a file.
 fn file_option<'a>(alloc: Global, row: OptionRow) -> Arg<'a>
-    ensures rule { rule_of result ≡ kind_rule Kind.File (row_view row) }
+    ensures rule { rule_of result ≡ kind_rule Kind.File None (row_view row) }
     ensures local { result.global ≡ false }
 {
     Arg::new(alloc, row.name)

@@ -5,8 +5,8 @@
 //! specification; so a changed default or ending is refused.
 
 ghost use Rattle.std.specs.Prelude.{◌≡◌};
-ghost use Rattle.pr_options.specs.Rows.{command_name, options_of, row};
-ghost use Rattle.pr_options.specs.Subcommands.{row_view};
+ghost use Rattle.pr_options.specs.Rows.{command_name, foreign, letter, options_of, row};
+ghost use Rattle.pr_options.specs.Subcommands.{endings_view, row_view};
 
 use std::fmt;
 
@@ -170,8 +170,6 @@ pub struct OptionRow {
     pub kind: Kind,
     /// Its name, after `--`.
     pub name: &'static str,
-    /// The letter that serves for its name, after `-`, if one does.
-    pub letter: Option<char>,
     /// What help calls its value.
     pub value: &'static str,
     /// The value where nothing else gives one.
@@ -181,8 +179,6 @@ pub struct OptionRow {
     /// What the endings of that file's name say: each ending with its point, in small letters (capitals are the
     /// same), and the value, as words would give it.
     pub endings: &'static [Ending],
-    /// What the endings say that no format has: a value that is none of its values, so that it is refused.
-    pub foreign: &'static [Ending],
     /// Its values, in a few words.
     pub values: &'static str,
     /// What it is for, and what its values are, as help says it.
@@ -323,12 +319,10 @@ const NO_ENDINGS: &[Ending] = &[];
 const PLAIN: OptionRow = OptionRow {
     kind: Kind::Value,
     name: "",
-    letter: None,
     value: "",
     default: "",
     file: "",
     endings: NO_ENDINGS,
-    foreign: NO_ENDINGS,
     values: "",
     help: "",
 };
@@ -429,7 +423,8 @@ const READING_AS_VALUES: &str = "list, text, svg, png, pdf, json or bytes";
 const EXPLAIN_HELP: &str = "Says more about a fault or a BASIC error,\n\
      on standard error";
 
-const QUIET_HELP: &str = "Leaves out notes and progress on standard error";
+const QUIET_HELP: &str = "Leaves out notes and progress on standard\n\
+     error";
 
 const DEVICE_HELP: &str = "4 or 5: the printer that svg, png and pdf draw\n\
      or whose bytes are written [default: all, the\n\
@@ -469,7 +464,6 @@ impl Opt {
                 default: "text",
                 file: INPUT_NAME,
                 endings: LISTING_ENDINGS,
-                foreign: FOREIGN_LISTINGS,
                 values: LISTING_FROM_VALUES,
                 help: LISTING_FROM_HELP,
                 ..PLAIN
@@ -480,7 +474,6 @@ impl Opt {
                 default: "text",
                 file: INPUT_NAME,
                 endings: RECORDING_ENDINGS,
-                foreign: FOREIGN_RECORDINGS,
                 values: FROM_VALUES,
                 help: FROM_HELP,
                 ..PLAIN
@@ -491,7 +484,6 @@ impl Opt {
                 default: "auto",
                 file: INPUT_NAME,
                 endings: READING_FROM_ENDINGS,
-                foreign: FOREIGN_RECORDINGS,
                 values: READING_FROM_VALUES,
                 help: READING_FROM_HELP,
                 ..PLAIN
@@ -563,7 +555,6 @@ impl Opt {
                 default: "list",
                 file: OUTPUT_NAME,
                 endings: PAGE_ENDINGS,
-                foreign: FOREIGN_OUTPUTS,
                 values: PAGE_AS_VALUES,
                 help: PAGE_AS_HELP,
                 ..PLAIN
@@ -574,7 +565,6 @@ impl Opt {
                 default: "list",
                 file: OUTPUT_NAME,
                 endings: PAGE_ENDINGS,
-                foreign: FOREIGN_OUTPUTS,
                 values: RAW_AS_VALUES,
                 help: RAW_AS_HELP,
                 ..PLAIN
@@ -585,7 +575,6 @@ impl Opt {
                 default: "text",
                 file: OUTPUT_NAME,
                 endings: TRACE_ENDINGS,
-                foreign: FOREIGN_OUTPUTS,
                 values: TRACE_AS_VALUES,
                 help: TRACE_AS_HELP,
                 ..PLAIN
@@ -596,7 +585,6 @@ impl Opt {
                 default: "frames",
                 file: OUTPUT_NAME,
                 endings: REPORT_ENDINGS,
-                foreign: FOREIGN_OUTPUTS,
                 values: REPORT_AS_VALUES,
                 help: REPORT_AS_HELP,
                 ..PLAIN
@@ -607,7 +595,6 @@ impl Opt {
                 default: "list",
                 file: OUTPUT_NAME,
                 endings: READING_ENDINGS,
-                foreign: FOREIGN_OUTPUTS,
                 values: READING_AS_VALUES,
                 help: READING_AS_HELP,
                 ..PLAIN
@@ -621,7 +608,6 @@ impl Opt {
             Opt::Quiet => OptionRow {
                 kind: Kind::Flag,
                 name: "quiet",
-                letter: Some('q'),
                 help: QUIET_HELP,
                 ..PLAIN
             },
@@ -667,6 +653,33 @@ impl Opt {
                 help: BOUNDS_HELP,
                 ..PLAIN
             },
+        }
+    }
+}
+
+impl Opt {
+    /// What the endings of a file's name say that no format has: values that are none of this option, so that they are
+    /// refused.
+    pub(crate) fn foreign(self) -> &'static [Ending]
+        ensures { endings_view result.now ≡ foreign self }
+    {
+        match self {
+            Opt::ListingFrom => FOREIGN_LISTINGS,
+            Opt::From | Opt::ReadingFrom => FOREIGN_RECORDINGS,
+            Opt::PageAs | Opt::RawAs | Opt::TraceAs | Opt::ReportAs | Opt::ReadingAs => {
+                FOREIGN_OUTPUTS
+            }
+            _ => NO_ENDINGS,
+        }
+    }
+
+    /// The letter that serves for the name of a flag, after `-`, if one does.
+    pub(crate) fn letter(self) -> Option<char>
+        ensures { result ≡ letter self }
+    {
+        match self {
+            Opt::Quiet => Some('q'),
+            _ => None,
         }
     }
 }

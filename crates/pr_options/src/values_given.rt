@@ -271,7 +271,7 @@ pub fn value_in<'a>(options: &ArgMatches<'a>, opt: Opt) -> &'a str
     ensures { result.now ≡ value_in opt (rows_of (found_of options.now)) }
 {
     let row = opt.row();
-    match ending_value(options, row) {
+    match ending_value(options, row, opt.foreign()) {
         Some(value) => value,
         None => given_value(options, row),
     }
@@ -285,25 +285,29 @@ fn given_value<'a>(options: &ArgMatches<'a>, row: OptionRow) -> &'a str
 }
 
 /// The value that a file's name gives an option, where words do not give it.
-fn ending_value(options: &ArgMatches<'_>, row: OptionRow) -> Option<&'static str>
-    ensures { option_map (λ value. value.now) result ≡ ending_value (row_view row) (rows_of (found_of options.now)) }
+fn ending_value(
+    options: &ArgMatches<'_>,
+    row: OptionRow,
+    foreign: &[Ending],
+) -> Option<&'static str>
+    ensures { option_map (λ value. value.now) result ≡ ending_value (row_view row) (endings_view foreign.now) (rows_of (found_of options.now)) }
 {
     if is_named(options, row.name) {
         return None;
     }
     match text_in(options, row.file) {
-        Some(name) => value_by_name(row, name),
+        Some(name) => value_by_name(row.endings, foreign, name),
         None => None,
     }
 }
 
 /// The value by the endings of an option, or else by those that no format has.
-fn value_by_name(row: OptionRow, name: &str) -> Option<&'static str>
-    ensures { option_map (λ value. value.now) result ≡ value_by_name (row_view row) name.now }
+fn value_by_name(endings: &[Ending], foreign: &[Ending], name: &str) -> Option<&'static str>
+    ensures { option_map (λ value. value.now) result ≡ value_by_name (endings_view endings.now) (endings_view foreign.now) name.now }
 {
-    match value_by_ending(row.endings, name) {
+    match value_by_ending(endings, name) {
         Some(value) => Some(value),
-        None => value_by_ending(row.foreign, name),
+        None => value_by_ending(foreign, name),
     }
 }
 
