@@ -7,9 +7,10 @@ use Rattle.pr_wire.specs.declared.Frame.{Frame}
 use Rattle.pr_receiver.specs.Heard.{heard_of}
 use Rattle.pr_receiver.specs.Kept.{kept_of}
 use Rattle.pr_decode.specs.declared.reading.Reading.{Reading}
+use Rattle.pr_decode.specs.Frames.{acknowledged_frames}
 use Rattle.pr_recording.specs.declared.bus_printer.BusPrinter.{BusPrinter}
 use Rattle.pr_recording.specs.declared.printer_pair.BusPrinters.{BusPrinters}
-use Rattle.pr_recording.specs.PrintedPages.{acknowledged_frames, is_byte}
+use Rattle.pr_recording.specs.PrintedPages.{is_byte}
 
 -- a printer's listening part has heard some frames
 abbrev pub HasListened : ℕ → BusPrinter → Type 0
