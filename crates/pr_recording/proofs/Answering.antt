@@ -36,7 +36,8 @@ use Rattle.pr_recording.specs.declared.decode_report.Ended.{Ended}
 use Rattle.pr_recording.specs.declared.wording.Wording.TheVariants.{Json}
 use Rattle.pr_recording.specs.Checked.{AnswersJson}
 use Rattle.pr_recording.specs.Decoded.{AnswersDecode, AnswersDecodeJson, IsDecodeFault, Leaves, back_in, stop_at, told_of, without_odd}
-use Rattle.pr_recording.specs.Narrated.{AnswersTold, EndsEdges, EndsNarrated, GivesUp, HasNarrated, HasReadTo, IsRefusal, IsStop, NarratesMore, Refuses, WritesEnd, lines_in, refused_for}
+use Rattle.pr_recording.specs.Narrated.{EndsEdges, EndsNarrated, GivesUp, HasNarrated, IsStop, NarratesMore, Refuses, WritesEnd, lines_in}
+use Rattle.pr_recording.specs.Told.{AnswersTold, HasReadTo, IsRefusal, refused_for}
 use Rattle.pr_recording.proofs.Coming.{Laws, coming}
 use Rattle.pr_recording.proofs.Judging.{no_memory}
 use Rattle.pr_recording.proofs.ReadInto.{is_stop, no_own}

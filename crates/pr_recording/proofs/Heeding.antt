@@ -17,8 +17,9 @@ use Rattle.pr_recording.specs.declared.decode_report.DecodeReport.{DecodeReport}
 use Rattle.pr_recording.specs.declared.tape.TapeEnd.{TapeEnd}
 use Rattle.pr_recording.specs.Decoded.{back_in, last_lines, readings_text, readings_up_to, stop_at, told_of}
 use Rattle.pr_recording.specs.Judged.{HasJudged, JudgesMore}
-use Rattle.pr_recording.specs.Narrated.{AccountsMore, EndsEdges, HasAccounted, HasNarrated, NarratesMore, refused_by}
+use Rattle.pr_recording.specs.Narrated.{AccountsMore, EndsEdges, HasAccounted, HasNarrated, NarratesMore}
 use Rattle.pr_recording.specs.Taped.{EndsTape, IsEnd, TapesMore}
+use Rattle.pr_recording.specs.Told.{refused_by}
 
 -- all edges more are judged, and taken up to where time goes back
 pub narrates : (old new : DecodeReport) (more : List Edge) → JudgesMore more old.judge new.judge → TapesMore AccountsMore more old.tape new.tape old.log new.log → NarratesMore more old new
