@@ -30,17 +30,6 @@ narrates old new more judges tapes = λ s w edges written h. record {
   accounted = tapes.taken w h.given written h.accounted;
 }
 
--- lines are given up
-pub narrated_cleared : (old new : DecodeReport) → new.judge ≡ old.judge → new.tape ≡ old.tape
-    → ((w : Wording) (given : List Reading) (written : List ℕ) → HasAccounted w given written old.log → HasAccounted w given (written ++ old.log.lines.items) new.log) → (s : Source) (w : Wording) (edges : List Edge) (written : List ℕ)
-    → HasNarrated s w edges written old → HasNarrated s w edges (written ++ old.log.lines.items) new
-narrated_cleared old new j t clears = λ s w edges written h. record {
-  judged = rw j h.judged;
-  given = h.given;
-  taped = rw t h.taped;
-  accounted = clears w h.given written h.accounted;
-}
-
 -- the lines at the end of edges, by why they stop
 pub record EndsLines (input : TraceInput) (fault : Option WaveFault) (n : DecodeReport) (log : ReadingLog) (end : TapeEnd) (e : Ended) : Type 0 where
   pub stopped : is_some end.stop ≡ true → e.lines ≡ log.lines
