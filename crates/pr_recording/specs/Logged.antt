@@ -1,4 +1,5 @@
--- Linking words, for proofs: which inputs and readings were taken for the bytes that a device hears. No reader needs to believe them.
+-- Linking words, for proofs: which inputs and readings were taken for the bytes that a device hears. No reader needs to
+-- believe them.
 use Rattle.std.specs.Prelude.{◌≡◌, ◌≤◌, ℕ, Bool, false, not, List, [], ◌∷◌, ◌++◌, Option, Some, None}
 use Rattle.std.specs.List.{list_any}
 use Rattle.pr_page.specs.declared.input.Input.{Input}

@@ -64,7 +64,8 @@ AccountsMore more old new = (w : Wording) (given : List Reading) (written : List
 -- Reports on edges.
 
 -- edges of an input in this format were taken up to where time goes back, their lines were made, and all were judged
-pub record HasNarrated (s : Source) (w : Wording) (edges : List Edge) (written : List ℕ) (n : DecodeReport) : Type 0 where
+pub record HasNarrated (s : Source) (w : Wording) (edges : List Edge) (written : List ℕ) (n : DecodeReport)
+    : Type 0 where
   pub judged : HasJudged s edges n.judge
   pub given : List Reading
   pub taped : HasTaped edges given n.tape

@@ -1,5 +1,5 @@
--- Linking words: which readings were given to both printers. The clauses of `PrinterPair` say all that a caller needs of them. No reader
--- needs to believe them.
+-- Linking words: which readings were given to both printers. The clauses of `PrinterPair` say all that a caller needs
+-- of them. No reader needs to believe them.
 use Rattle.std.specs.Prelude.{◌≡◌, ℕ, max, Bool, false, List}
 use Rattle.std.specs.List.{list_any}
 use Rattle.pr_page.specs.Taken as page

@@ -1,5 +1,5 @@
--- Trusted: what `tell_input` answers for a recording of at most `limit` bytes, in lines or in JSON, checked or not, and what
--- it leaves in the reader and in the writer.
+-- Trusted: what `tell_input` answers for a recording of at most `limit` bytes, in lines or in JSON, checked or not, and
+-- what it leaves in the reader and in the writer.
 use Rattle.std.specs.Prelude.{◌≡◌, ℕ, Bool, true, false, List, length, Option, None, Result, IfOk}
 use Rattle.pr_wire.specs.declared.Edge.{Edge}
 use Rattle.pr_wire.specs.declared.WaveFault.{WaveFault}
@@ -27,8 +27,8 @@ abbrev pub refused_for : (checked : Bool) → Source → List Edge → (own : Op
 refused_for checked source edges own =
     refused_by checked (stop_at (back_in edges) own) own (fault_of (edges_checked source edges))
 
--- the answer, by the limit, by the text, and by what the writer held before and after: the lines are those of `decode`, and
--- where nothing stops it the answer says what is odd
+-- the answer, by the limit, by the text, and by what the writer held before and after: the lines are those of `decode`,
+-- and where nothing stops it the answer says what is odd
 pub record AnswersTold (limit : ℕ) (w : Wording) (checked : Bool) (input : TraceInput) (text : List ℕ)
     (old new : Option (List ℕ)) (result : Result Oddities CliFault) : Type 0 where
   pub edges : List Edge
