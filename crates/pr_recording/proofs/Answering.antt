@@ -40,7 +40,7 @@ use Rattle.pr_recording.specs.Narrated.{EndsEdges, EndsNarrated, GivesUp, HasNar
 use Rattle.pr_recording.specs.Told.{AnswersTold, HasReadTo, IsRefusal, refused_for}
 use Rattle.pr_recording.proofs.Coming.{Laws, coming}
 use Rattle.pr_recording.proofs.Judging.{no_memory}
-use Rattle.pr_recording.proofs.ReadInto.{by_no_reading, by_own, if_known, is_stop, known_error, no_own, taken_before}
+use Rattle.pr_recording.proofs.ReadInto.{by_no_reading, by_own, if_known, is_stop, known_error, known_fault, no_own, taken_before}
 use Rattle.pr_recording.proofs.Writing.{front_behind, front_none, whole_behind}
 
 -- these edges were reported, and the lines that were given up were written
@@ -209,11 +209,6 @@ no_picture : (checked : Bool) (x : PictureFault) → Refuses checked (Picture x)
 no_picture true x h = h
 no_picture false x h = h
 
--- a known refusal
-known_refusal : (checked : Bool) (v : Option CliFault) (f : CliFault) → v ≡ Some f → IfSome v (Refuses checked) → Refuses checked f
-known_refusal checked None f e h = absurd (cc)
-known_refusal checked (Some g) f e h = let k : g ≡ f = cc in let P : CliFault → Type 0 = λ x. Refuses checked x in subst P k h
-
 -- where nothing is refused, the input has no fault
 no_own_fault : (checked : Bool) (s : Source) (edges : List Edge) (own : Option CliFault) → refused_for checked s edges own ≡ None → own ≡ None
 no_own_fault false s edges own h = no_own (back_in edges) own h
@@ -238,7 +233,7 @@ leaves_end input w limit len checked edges written own e old now new v short end
     all k = whole_behind old now new written e.lines.items (told_of w input (stop_at (back_in edges) own) edges) ends.lines wrote k
 
     known : (f : CliFault) → e.refused ≡ Some f → Refuses checked f
-    known f is = known_refusal checked (refused_for checked input.source edges own) f (sym ends.refused ∙ is) (refuses checked input.source edges own is_own)
+    known f is = known_fault (Refuses checked) (refused_for checked input.source edges own) f (sym ends.refused ∙ is) (refuses checked input.source edges own is_own)
 
     by : (v : Result Oddities CliFault) → WritesEnd e now new v → Leaves limit len (refused_for checked input.source edges own) (told_of w input (stop_at (back_in edges) own) edges) old new (without_odd v)
     by (Ok u) w = (short (no_own_fault checked input.source edges own (sym ends.refused ∙ w.0)), sym ends.refused ∙ w.0, all w.2)
@@ -261,14 +256,14 @@ odd_end input w checked edges written own e now new (Err f) ends k none = tt
 
 -- a refusal is no failed write
 pub no_write : (checked : Bool) (v : Option CliFault) → IfSome v (Refuses checked) → v ≡ Some WriteFailed → ⊥
-no_write checked v h e = (no_other checked).3 (known_refusal checked v WriteFailed e h)
+no_write checked v h e = (no_other checked).3 (known_fault (Refuses checked) v WriteFailed e h)
 
 -- nor a failed read
 no_read : (checked : Bool) (e : Ended) (now new : Option (List ℕ)) (v : Result Oddities CliFault) → IfSome e.refused (Refuses checked) → WritesEnd e now new v → v ≡ Err ReadFailed → ⊥
 no_read checked e now new v h w k =
     let P : Result Oddities CliFault → Type 0 = λ x. WritesEnd e now new x in
     let u : WritesEnd e now new (Err ReadFailed) = subst P k w in
-    (no_other checked).2 (known_refusal checked e.refused ReadFailed u.0 h)
+    (no_other checked).2 (known_fault (Refuses checked) e.refused ReadFailed u.0 h)
 
 -- a fault of any recording is one of a recording that is checked or not
 any_fault : (checked : Bool) → IsRefusal checked TooLarge × IsRefusal checked NoMemory × IsRefusal checked ReadFailed × IsRefusal checked WriteFailed
@@ -281,7 +276,7 @@ own_fault checked e now new (Ok u) h w = tt
 own_fault checked e now new (Err f) h w = by f w
   where
     known : (f : CliFault) → e.refused ≡ Some f → IsRefusal checked f
-    known f is = refusal_fault checked f (known_refusal checked e.refused f is h)
+    known f is = refusal_fault checked f (known_fault (Refuses checked) e.refused f is h)
 
     by : (f : CliFault) → WritesEnd e now new (Err f) → IsRefusal checked f
     by (Script x) w = known (Script x) w.0

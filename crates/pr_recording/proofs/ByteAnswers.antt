@@ -25,7 +25,7 @@ use Rattle.pr_recording.specs.Narrated.{IsStop}
 use Rattle.pr_recording.specs.PrintedPages.{heard_in}
 use Rattle.pr_recording.specs.Taped.{ReadsInto, ReadsWhole}
 use Rattle.pr_recording.specs.Writes.{WritesHeard}
-use Rattle.pr_recording.proofs.ReadInto.{by_no_reading, known_error, no_own}
+use Rattle.pr_recording.proofs.ReadInto.{by_no_reading, known_error, known_fault, no_own}
 
 -- what is written of the bytes, and what is answered
 answered : (input : TraceInput) (device : Device) (text : List ℕ) (a b : Ear) (o : HeardBytes) (end : TapeEnd) (old new : Option (List ℕ)) (v : Result (Heard × Oddities) CliFault)
@@ -50,19 +50,16 @@ answered input device text a b o end old new v h are stop w = record {
     all : Appends old new o.bytes.items → Appends old new (bytes_of inputs)
     all k = rw (← heard.bytes) k
 
-    never : (f : CliFault) → end.stop ≡ Some f → (IsStop f → ⊥) → ⊥
-    never f e n = n (let k : IfSome (Some f) IsStop = rw e at stop in k)
-
     leaves : (v : Result (Heard × Oddities) CliFault) → WritesHeard o end old new v → LeavesBytes (length text) end.stop inputs odd old new v
     leaves (Ok answer) w = (h.says.short (no_own (back_in h.edges) h.own (sym h.takes_all.is_end.stop ∙ w.0)), w.0, w.1 ∙ heard.heard, w.2 ∙ h.takes_all.is_end.odd w.0, all w.3)
-    leaves (Err (Script fault)) w = never (Script fault) w.0 (λ o. o)
+    leaves (Err (Script fault)) w = known_fault IsStop end.stop (Script fault) w.0 stop
     leaves (Err (Trace fault)) w = (w.0, all w.1)
     leaves (Err (Wave fault)) w = (w.0, all w.1)
     leaves (Err (Capture fault)) w = (w.0, all w.1)
-    leaves (Err (Picture fault)) w = never (Picture fault) w.0 (λ o. o)
-    leaves (Err TooLarge) w = absurd (never TooLarge w.0 (λ o. o))
-    leaves (Err NoMemory) w = absurd (never NoMemory w.0 (λ o. o))
-    leaves (Err ReadFailed) w = absurd (never ReadFailed w.0 (λ o. o))
+    leaves (Err (Picture fault)) w = known_fault IsStop end.stop (Picture fault) w.0 stop
+    leaves (Err TooLarge) w = absurd (known_fault IsStop end.stop TooLarge w.0 stop)
+    leaves (Err NoMemory) w = absurd (known_fault IsStop end.stop NoMemory w.0 stop)
+    leaves (Err ReadFailed) w = absurd (known_fault IsStop end.stop ReadFailed w.0 stop)
     leaves (Err WriteFailed) w = rw (← heard.bytes) w
 
 -- what is answered where nothing was heard

@@ -24,7 +24,7 @@ use Rattle.pr_recording.specs.PrintedPages.{ArePapers}
 use Rattle.pr_recording.specs.Taking.{HasReprinted}
 use Rattle.pr_recording.specs.Taped.{ReadsInto, ReadsWhole}
 use Rattle.pr_recording.specs.Writes.{WritesPrint, text_of_pages}
-use Rattle.pr_recording.proofs.ReadInto.{by_no_reading, known_error, no_own}
+use Rattle.pr_recording.proofs.ReadInto.{by_no_reading, known_error, known_fault, no_own}
 
 -- what is written of the pages, and what is answered
 answered : (shapes : Shapes) (input : TraceInput) (format : Format) (text : List ℕ) (a b : BusPrinters) (p : PrintedPages) (end : TapeEnd) (old new : Option (List ℕ)) (v : Result Oddities CliFault)
@@ -43,20 +43,17 @@ answered shapes input format text a b p end old new v h are stop w = record {
     pages : (text : List ℕ) → text_of_pages shapes format p ≡ Ok text → IsPagesOf shapes format (readings_up_to end.stop h.edges) text
     pages text is = record { reprinted = p; are_papers = papers; is_text = is }
 
-    never : (f : CliFault) → end.stop ≡ Some f → (IsStop f → ⊥) → ⊥
-    never f e n = n (let k : IfSome (Some f) IsStop = rw e at stop in k)
-
     leaves : (v : Result Oddities CliFault) → WritesPrint shapes format p end old new v
         → LeavesPages (length text) end.stop shapes format (readings_up_to end.stop h.edges) (oddities_of h.edges (readings_of h.edges)) old new v
     leaves (Ok odd) w = (h.says.short (no_own (back_in h.edges) h.own (sym h.takes_all.is_end.stop ∙ w.2)), w.2, w.3 ∙ h.takes_all.is_end.odd w.2, (w.0, pages w.0 w.1, w.4))
-    leaves (Err (Script fault)) w = never (Script fault) w.2 (λ o. o)
+    leaves (Err (Script fault)) w = known_fault IsStop end.stop (Script fault) w.2 stop
     leaves (Err (Trace fault)) w = (w.2, (w.0, pages w.0 w.1, w.3))
     leaves (Err (Wave fault)) w = (w.2, (w.0, pages w.0 w.1, w.3))
     leaves (Err (Capture fault)) w = (w.2, (w.0, pages w.0 w.1, w.3))
     leaves (Err (Picture fault)) w = (record { reprinted = p; are_papers = papers; is_unshown = w.0 }, w.1)
-    leaves (Err TooLarge) w = absurd (never TooLarge w.2 (λ o. o))
+    leaves (Err TooLarge) w = absurd (known_fault IsStop end.stop TooLarge w.2 stop)
     leaves (Err NoMemory) w = w
-    leaves (Err ReadFailed) w = absurd (never ReadFailed w.2 (λ o. o))
+    leaves (Err ReadFailed) w = absurd (known_fault IsStop end.stop ReadFailed w.2 stop)
     leaves (Err WriteFailed) w = (w.0, pages w.0 w.1, w.2)
 
 -- what is answered where nothing was printed

@@ -29,6 +29,11 @@ pub known_error : {X : Type 0} (v : Result X CliFault) (f : CliFault) → IsErrA
 known_error (Ok x) f e P h = absurd e
 known_error (Err x) f e P h = rw e h
 
+-- and what holds of a fault, if there is one, holds of one that is known
+pub known_fault : (P : CliFault → Type 0) (v : Option CliFault) (f : CliFault) → v ≡ Some f → IfSome v P → P f
+known_fault P None f e h = absurd (cc)
+known_fault P (Some g) f e h = let k : g ≡ f = cc in subst P k h
+
 -- where nothing was read, the fault is one of three
 pub by_no_reading : (P : CliFault → Type 0) (f : CliFault) → IsNoReading f → (f ≡ TooLarge → P TooLarge) → P NoMemory → P ReadFailed → P f
 by_no_reading P TooLarge none large memory failed = large refl
