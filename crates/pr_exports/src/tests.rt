@@ -442,13 +442,13 @@ fn errors_of_absent_printers(rt: HostRuntime) {
     // Printer 5 answers the LISTEN for printer 4, but no byte after it.
     let absent: &[u8] = b"print1525\0pages\0--present\x005";
     let kept: &[u8] = b"print1525\0pages\0--present\x005\0--status\0kept";
-    for (command, script, fault, place) in [
-        (absent, &b"OPEN 4,4\nCMD 4\nPRINT#4"[..], 105, 3),
-        (absent, &b"OPEN 4,4\nPRINT#4\nPRINT#4"[..], 0, 0),
-        (kept, &b"OPEN 4,4\nPRINT#4\nPRINT#4"[..], 105, 3),
+    for (command, script, status, fault, place) in [
+        (absent, &b"OPEN 4,4\nCMD 4\nPRINT#4"[..], 1, 105, 3),
+        (absent, &b"OPEN 4,4\nPRINT#4\nPRINT#4"[..], 0, 0, 0),
+        (kept, &b"OPEN 4,4\nPRINT#4\nPRINT#4"[..], 1, 105, 3),
     ] {
         let end = run_of(rt.alloc(), command, script);
-        assert!(rt; end.fault == fault && end.place == place);
+        assert!(rt; end.status == status && end.fault == fault && end.place == place);
     }
 }
 

@@ -54,15 +54,6 @@ behind_add : (c : Context) (rs qs : List Reading) → behind_all c (rs ++ qs) �
 behind_add c [] qs = refl
 behind_add c (r ∷ rs) qs = behind_add (after_reading c r) rs qs
 
--- no reading
-text_none : (w : Wording) → readings_text w [] ≡ []
-text_none (Lines d) = refl
-text_none Json = refl
-
-pub accounted_none : (w : Wording) (a : ReadingLog) → a.wording ≡ w → survey.HasSurveyed (bounds_in w) [] a.survey → a.context ≡ at_start → a.lines.items ≡ []
-    → HasAccounted w [] [] a
-accounted_none w a is s c l = record { wording = is; surveyed = s; context = c; lines = l ∙ sym (text_none w) }
-
 -- a reading more
 pub accounts_one : (old new : ReadingLog) (r : Reading) → new.wording ≡ old.wording → new.lines.items ≡ old.lines.items ++ reading_text old.wording old.context r
     → new.context ≡ after_reading old.context r

@@ -8,8 +8,8 @@ use Rattle.pr_wire.specs.declared.Frame.{Frame}
 use Rattle.pr_receiver.specs.Heard.{heard_of, input_of}
 use Rattle.pr_receiver.specs.Laws.{HeardOfOneMore}
 use Rattle.pr_decode.specs.declared.reading.Reading.{Reading}
+use Rattle.pr_decode.specs.Frames.{acknowledged_frame, acknowledged_frames}
 use Rattle.pr_recording.specs.Laws.{InputsAreFew, MoreReadingsAddInputs}
-use Rattle.pr_recording.specs.PrintedPages.{acknowledged_frame, acknowledged_frames}
 
 -- more frames only add inputs
 heard-more : HeardOfOneMore → (device : ℕ) (frames more : List Frame)

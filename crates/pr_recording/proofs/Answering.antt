@@ -14,7 +14,7 @@ use Rattle.pr_capture.specs.declared.format.Source.{Source}
 use Rattle.pr_capture.specs.declared.format.TraceInput.{TraceInput}
 use Rattle.pr_input.specs.PartlyWritten.{AppendsFront}
 use Rattle.pr_input.specs.declared.watched.Watched.{Watched}
-use Rattle.pr_jobs.specs.Inputs.{EachTextSaysEdges, HasReadEdges, ReadEdgesComeFirst, SaysFirst, edges_read, fault_read}
+use Rattle.pr_jobs.specs.Inputs.{EachTextSaysEdges, ReadEdgesComeFirst, SaysFirst, edges_read, fault_read}
 use Rattle.pr_jobs.specs.EdgesTaken.{HasTakenAll, HasTakenBefore}
 use Rattle.pr_jobs.specs.Report.{IsNoReading, IsOwnFault, IsReportFault, SaysWhole, edges_checked}
 use Rattle.pr_jobs.specs.Report as report
@@ -36,10 +36,11 @@ use Rattle.pr_recording.specs.declared.decode_report.Ended.{Ended}
 use Rattle.pr_recording.specs.declared.wording.Wording.TheVariants.{Json}
 use Rattle.pr_recording.specs.Checked.{AnswersJson}
 use Rattle.pr_recording.specs.Decoded.{AnswersDecode, AnswersDecodeJson, IsDecodeFault, Leaves, back_in, stop_at, told_of, without_odd}
-use Rattle.pr_recording.specs.Narrated.{AnswersTold, EndsEdges, EndsNarrated, GivesUp, HasNarrated, HasReadTo, IsRefusal, IsStop, NarratesMore, Refuses, WritesEnd, lines_in, refused_for}
+use Rattle.pr_recording.specs.Narrated.{EndsEdges, EndsNarrated, GivesUp, HasNarrated, IsStop, NarratesMore, Refuses, WritesEnd, lines_in}
+use Rattle.pr_recording.specs.Told.{AnswersTold, HasReadTo, IsRefusal, refused_for}
 use Rattle.pr_recording.proofs.Coming.{Laws, coming}
 use Rattle.pr_recording.proofs.Judging.{no_memory}
-use Rattle.pr_recording.proofs.ReadInto.{is_stop, no_own}
+use Rattle.pr_recording.proofs.ReadInto.{by_no_reading, by_own, if_known, is_stop, known_error, known_fault, no_own, taken_before}
 use Rattle.pr_recording.proofs.Writing.{front_behind, front_none, whole_behind}
 
 -- these edges were reported, and the lines that were given up were written
@@ -49,23 +50,13 @@ pub record HasWritten (s : Source) (w : Wording) (old now : Option (List ℕ)) (
   pub wrote : Appends old now written
 
 -- before the first block
-pub told_none : (w : Wording) (limit : ℕ) (start old : Option (List ℕ)) (input : TraceInput) (r : InputReader) (n : DecodeReport) → HasReadEdges limit start start input [] r → edges_read r ≡ [] → HasNarrated input.source w [] [] n
-    → HasTakenAll limit start start input r (HasWritten input.source w old old n)
-told_none w limit start old input r n read none h = record { given = []; read = read; taken = rw none (record { written = []; narrated = h; wrote = Appends-nil old }) }
+pub writes_none : (s : Source) (w : Wording) (old : Option (List ℕ)) (n : DecodeReport) → HasNarrated s w [] [] n → HasWritten s w old old n []
+writes_none s w old n h = record { written = []; narrated = h; wrote = Appends-nil old }
 
--- a block was read
-pub told_before : (w : Wording) (limit : ℕ) (start a b old now : Option (List ℕ)) (input : TraceInput) (r s : InputReader) (n : DecodeReport) → HasTakenAll limit start a input r (HasWritten input.source w old now n) → ReadsEdges a b r s
-    → HasTakenBefore limit start b input s (HasWritten input.source w old now n)
-told_before w limit start a b old now input r s n h reads = record { given = h.given ++ edges_read r; read = reads limit start input h.given h.read; taken = h.taken }
-
--- its edges were reported
-pub told_all : (w : Wording) (limit : ℕ) (start now old out : Option (List ℕ)) (input : TraceInput) (r : InputReader) (n m : DecodeReport) → HasTakenBefore limit start now input r (HasWritten input.source w old out n)
-    → NarratesMore (edges_read r) n m → HasTakenAll limit start now input r (HasWritten input.source w old out m)
-told_all w limit start now old out input r n m h narrates = record {
-  given = h.given;
-  read = h.read;
-  taken = record { written = h.taken.written; narrated = narrates input.source w h.given h.taken.written h.taken.narrated; wrote = h.taken.wrote };
-}
+-- the edges of a block were reported
+pub writes_more : (s : Source) (w : Wording) (old now : Option (List ℕ)) (n m : DecodeReport) (more edges : List Edge) → NarratesMore more n m
+    → HasWritten s w old now n edges → HasWritten s w old now m (edges ++ more)
+writes_more s w old now n m more edges narrates h = record { written = h.written; narrated = narrates s w edges h.written h.narrated; wrote = h.wrote }
 
 -- and its lines were written
 pub told_written : (w : Wording) (limit : ℕ) (start a old now new : Option (List ℕ)) (input : TraceInput) (r : InputReader) (n m : DecodeReport) → HasTakenAll limit start a input r (HasWritten input.source w old now n)
@@ -96,27 +87,27 @@ begins laws w limit checked input text edges n old now new v f h short leaves =
       odd = λ none. tt;
     }
 
--- what holds of known bytes
-if_known : (known : Option (List ℕ)) (P Q : List ℕ → Type 0) → IfSome known P → ((text : List ℕ) → P text → Q text) → IfSome known Q
-if_known None P Q h f = tt
-if_known (Some text) P Q h f = f text h
-
 -- the answer where no more is read, or written
 pub partly : Laws → ReadEdgesComeFirst → (w : Wording) (limit : ℕ) (checked : Bool) (start now old mid new : Option (List ℕ)) (input : TraceInput) (r : InputReader) (n : DecodeReport) (v : Result Oddities CliFault) (f : CliFault)
     → HasTakenAll limit start now input r (HasWritten input.source w old mid n) → IsErrAnd v (λ x. x ≡ f) → f ≡ WriteFailed → AppendsFront mid new (lines_in n)
     → IfSome start (λ text. AnswersTold limit w checked input text old new v)
-partly laws first w limit checked start now old mid new input r n (Ok u) f h e failed k = absurd e
-partly laws first w limit checked start now old mid new input r n (Err x) f h e failed k =
-    rw (e, failed) (if_known start (λ text. SaysFirst input text (h.given ++ edges_read r)) (λ text. AnswersTold limit w checked input text old new (Err WriteFailed)) (first limit start now input h.given r h.read)
-    (λ text says. begins laws w limit checked input text (h.given ++ edges_read r) n old mid new WriteFailed says h.taken k (λ stop told front. front)))
+partly laws first w limit checked start now old mid new input r n v f h e failed k =
+    known_error v f e (λ v. IfSome start (λ text. AnswersTold limit w checked input text old new v))
+    (rw failed (if_known start (λ text. SaysFirst input text (h.given ++ edges_read r)) (λ text. AnswersTold limit w checked input text old new (Err WriteFailed)) (first limit start now input h.given r h.read)
+    (λ text says. begins laws w limit checked input text (h.given ++ edges_read r) n old mid new WriteFailed says h.taken k (λ stop told front. front))))
 
 -- the answer where nothing more is written
 pub unwritten : Laws → ReadEdgesComeFirst → (w : Wording) (limit : ℕ) (checked : Bool) (start now old mid : Option (List ℕ)) (input : TraceInput) (r : InputReader) (n : DecodeReport) (v : Result Oddities CliFault) (f : CliFault)
     → HasTakenAll limit start now input r (HasWritten input.source w old mid n) → IsErrAnd v (λ x. x ≡ f) → IsNoReading f → (f ≡ TooLarge → IsTooLong now r)
     → IfSome start (λ text. AnswersTold limit w checked input text old mid v)
-unwritten laws first w limit checked start now old mid input r n (Ok u) f h e none long = absurd e
-unwritten laws first w limit checked start now old mid input r n (Err x) f h e none long =
-    rw e (by f none (λ is. long is limit start input h.given h.read))
+unwritten laws first w limit checked start now old mid input r n v f h e none long =
+    let Told : Result Oddities CliFault → Type 0 = λ v. IfSome start (λ text. AnswersTold limit w checked input text old mid v) in
+    known_error v f e Told
+    (by_no_reading (λ f. Told (Err f)) f none
+    (λ is. both start (λ text. SaysFirst input text (h.given ++ edges_read r)) (λ text. limit < length text) (λ text. AnswersTold limit w checked input text old mid (Err TooLarge)) says (long is limit start input h.given h.read)
+    (λ text s more. begins laws w limit checked input text (h.given ++ edges_read r) n old mid mid TooLarge s h.taken (front_none mid (lines_in n)) (λ stop told front. (more, front))))
+    (all NoMemory (λ text stop told front. front))
+    (all ReadFailed (λ text stop told front. front)))
   where
     says : IfSome start (λ text. SaysFirst input text (h.given ++ edges_read r))
     says = first limit start now input h.given r h.read
@@ -130,19 +121,6 @@ unwritten laws first w limit checked start now old mid input r n (Err x) f h e n
     both : (start : Option (List ℕ)) (P Q R : List ℕ → Type 0) → IfSome start P → IfSome start Q → ((text : List ℕ) → P text → Q text → R text) → IfSome start R
     both None P Q R p q f = tt
     both (Some text) P Q R p q f = f text p q
-
-    by : (f : CliFault) → IsNoReading f → (f ≡ TooLarge → IfSome start (λ text. limit < length text)) → IfSome start (λ text. AnswersTold limit w checked input text old mid (Err f))
-    by NoMemory none long = all NoMemory (λ text stop told front. front)
-    by ReadFailed none long = all ReadFailed (λ text stop told front. front)
-    by TooLarge none long =
-        both start (λ text. SaysFirst input text (h.given ++ edges_read r)) (λ text. limit < length text) (λ text. AnswersTold limit w checked input text old mid (Err TooLarge)) says (long refl)
-        (λ text s more. begins laws w limit checked input text (h.given ++ edges_read r) n old mid mid TooLarge s h.taken (front_none mid (lines_in n)) (λ stop told front. (more, front)))
-    by (Script fault) none long = absurd none
-    by (Trace fault) none long = absurd none
-    by (Wave fault) none long = absurd none
-    by (Capture fault) none long = absurd none
-    by (Picture fault) none long = absurd none
-    by WriteFailed none long = absurd none
 
 -- the answer where memory was refused
 pub refused : Laws → ReadEdgesComeFirst → (w : Wording) (limit : ℕ) (checked : Bool) (start now old mid : Option (List ℕ)) (input : TraceInput) (r : InputReader) (n : DecodeReport) (v : Result Oddities CliFault)
@@ -158,8 +136,8 @@ first_refused some w limit checked (Some text) old input =
 
 pub at_first : EachTextSaysEdges → (w : Wording) (limit : ℕ) (checked : Bool) (a old : Option (List ℕ)) (input : TraceInput) (v : Result Oddities CliFault) → IsErrAnd v (λ f. f ≡ NoMemory)
     → IfSome a (λ text. AnswersTold limit w checked input text old old v)
-at_first some w limit checked a old input (Ok u) e = absurd e
-at_first some w limit checked a old input (Err f) e = rw e (first_refused some w limit checked a old input)
+at_first some w limit checked a old input v e =
+    known_error v NoMemory e (λ v. IfSome a (λ text. AnswersTold limit w checked input text old old v)) (first_refused some w limit checked a old input)
 
 -- a stop is a fault of a recording
 pub stop_fault : (f : CliFault) → IsStop f → IsDecodeFault f
@@ -195,21 +173,10 @@ edge_fault (Some (wave.TooLate n)) none = tt
 edge_fault (Some (wave.Shape n)) none = tt
 edge_fault (Some (wave.Truncated n)) none = tt
 
-own_refuses : (f : CliFault) → IsOwnFault f → Refuses true f
-own_refuses (Script x) h = h
-own_refuses (Trace x) h = h
-own_refuses (Wave x) h = absurd h
-own_refuses (Capture x) h = h
-own_refuses (Picture x) h = h
-own_refuses TooLarge h = h
-own_refuses NoMemory h = h
-own_refuses ReadFailed h = h
-own_refuses WriteFailed h = h
-
 refuses : (checked : Bool) (s : Source) (edges : List Edge) (own : Option CliFault) → IfSome own IsOwnFault → IfSome (refused_for checked s edges own) (Refuses checked)
 refuses false s edges own h = is_stop (back_in edges) own h
 refuses true s edges None h = edge_fault (fault_of (edges_checked s edges)) (no_memory (edges_checked s edges))
-refuses true s edges (Some f) h = own_refuses f h
+refuses true s edges (Some f) h = by_own (Refuses true) f h (λ n. tt) (λ x h. h)
 
 -- that is a fault of a recording that is checked or not
 refusal_fault : (checked : Bool) (f : CliFault) → Refuses checked f → IsRefusal checked f
@@ -242,11 +209,6 @@ no_picture : (checked : Bool) (x : PictureFault) → Refuses checked (Picture x)
 no_picture true x h = h
 no_picture false x h = h
 
--- a known refusal
-known_refusal : (checked : Bool) (v : Option CliFault) (f : CliFault) → v ≡ Some f → IfSome v (Refuses checked) → Refuses checked f
-known_refusal checked None f e h = absurd (cc)
-known_refusal checked (Some g) f e h = let k : g ≡ f = cc in let P : CliFault → Type 0 = λ x. Refuses checked x in subst P k h
-
 -- where nothing is refused, the input has no fault
 no_own_fault : (checked : Bool) (s : Source) (edges : List Edge) (own : Option CliFault) → refused_for checked s edges own ≡ None → own ≡ None
 no_own_fault false s edges own h = no_own (back_in edges) own h
@@ -271,7 +233,7 @@ leaves_end input w limit len checked edges written own e old now new v short end
     all k = whole_behind old now new written e.lines.items (told_of w input (stop_at (back_in edges) own) edges) ends.lines wrote k
 
     known : (f : CliFault) → e.refused ≡ Some f → Refuses checked f
-    known f is = known_refusal checked (refused_for checked input.source edges own) f (sym ends.refused ∙ is) (refuses checked input.source edges own is_own)
+    known f is = known_fault (Refuses checked) (refused_for checked input.source edges own) f (sym ends.refused ∙ is) (refuses checked input.source edges own is_own)
 
     by : (v : Result Oddities CliFault) → WritesEnd e now new v → Leaves limit len (refused_for checked input.source edges own) (told_of w input (stop_at (back_in edges) own) edges) old new (without_odd v)
     by (Ok u) w = (short (no_own_fault checked input.source edges own (sym ends.refused ∙ w.0)), sym ends.refused ∙ w.0, all w.2)
@@ -294,14 +256,14 @@ odd_end input w checked edges written own e now new (Err f) ends k none = tt
 
 -- a refusal is no failed write
 pub no_write : (checked : Bool) (v : Option CliFault) → IfSome v (Refuses checked) → v ≡ Some WriteFailed → ⊥
-no_write checked v h e = (no_other checked).3 (known_refusal checked v WriteFailed e h)
+no_write checked v h e = (no_other checked).3 (known_fault (Refuses checked) v WriteFailed e h)
 
 -- nor a failed read
 no_read : (checked : Bool) (e : Ended) (now new : Option (List ℕ)) (v : Result Oddities CliFault) → IfSome e.refused (Refuses checked) → WritesEnd e now new v → v ≡ Err ReadFailed → ⊥
 no_read checked e now new v h w k =
     let P : Result Oddities CliFault → Type 0 = λ x. WritesEnd e now new x in
     let u : WritesEnd e now new (Err ReadFailed) = subst P k w in
-    (no_other checked).2 (known_refusal checked e.refused ReadFailed u.0 h)
+    (no_other checked).2 (known_fault (Refuses checked) e.refused ReadFailed u.0 h)
 
 -- a fault of any recording is one of a recording that is checked or not
 any_fault : (checked : Bool) → IsRefusal checked TooLarge × IsRefusal checked NoMemory × IsRefusal checked ReadFailed × IsRefusal checked WriteFailed
@@ -314,7 +276,7 @@ own_fault checked e now new (Ok u) h w = tt
 own_fault checked e now new (Err f) h w = by f w
   where
     known : (f : CliFault) → e.refused ≡ Some f → IsRefusal checked f
-    known f is = refusal_fault checked f (known_refusal checked e.refused f is h)
+    known f is = refusal_fault checked f (known_fault (Refuses checked) e.refused f is h)
 
     by : (f : CliFault) → WritesEnd e now new (Err f) → IsRefusal checked f
     by (Script x) w = known (Script x) w.0
@@ -392,50 +354,25 @@ pub at_last_block : (w : Wording) (limit : ℕ) (checked : Bool) (start a left o
     → AnswersLast w limit checked start left old new input e v
 at_last_block w limit checked start a left old now new input r s n e v going h reads ended stopped ends writes =
     let stops : StopsWell false left s = rw ended at stopped in
-    at_last w limit checked start left old now new input s n e v (told_before w limit start a left old now input r s n h reads) stops ends writes
+    at_last w limit checked start left old now new input s n e v (taken_before limit start a left input r s (HasWritten input.source w old now n) h reads) stops ends writes
 
 -- a fault of reading is one of a recording
 pub reading_fault : (checked : Bool) (v : Result Oddities CliFault) (f : CliFault) → IsErrAnd v (λ x. x ≡ f) → IsNoReading f → IfErr v (IsRefusal checked)
-reading_fault checked (Ok u) f e none = tt
-reading_fault checked (Err x) f e none = rw e (by f none)
-  where
-    by : (f : CliFault) → IsNoReading f → IsRefusal checked f
-    by TooLarge none = (any_fault checked).0
-    by NoMemory none = (any_fault checked).1
-    by ReadFailed none = (any_fault checked).2
-    by (Script fault) none = absurd none
-    by (Trace fault) none = absurd none
-    by (Wave fault) none = absurd none
-    by (Capture fault) none = absurd none
-    by (Picture fault) none = absurd none
-    by WriteFailed none = absurd none
+reading_fault checked v f e none =
+    known_error v f e (λ v. IfErr v (IsRefusal checked)) (by_no_reading (IsRefusal checked) f none (λ is. (any_fault checked).0) (any_fault checked).1 (any_fault checked).2)
 
 -- and so is one of writing
 pub writing_fault : (checked : Bool) (v : Result Oddities CliFault) (f : CliFault) → IsErrAnd v (λ x. x ≡ f) → f ≡ WriteFailed → IfErr v (IsRefusal checked)
-writing_fault checked (Ok u) f e is = tt
-writing_fault checked (Err x) f e is = rw (e, is) ((any_fault checked).3)
+writing_fault checked v f e is = known_error v f e (λ v. IfErr v (IsRefusal checked)) (rw is ((any_fault checked).3))
 
 -- where no more is read or written, nothing is said of what is left
 pub left_unread : (checked : Bool) (left : Option (List ℕ)) (v : Result Oddities CliFault) (f : CliFault) → IsErrAnd v (λ x. x ≡ f) → IsNoReading f → HasReadTo checked left v
-left_unread checked left (Ok u) f e none = absurd e
-left_unread false left (Err x) f e none = tt
-left_unread true left (Err x) f e none = rw e (by f none)
-  where
-    by : (f : CliFault) → IsNoReading f → report.ReadsAll Story left (Err f)
-    by TooLarge none = tt
-    by NoMemory none = tt
-    by ReadFailed none = tt
-    by (Script fault) none = absurd none
-    by (Trace fault) none = absurd none
-    by (Wave fault) none = absurd none
-    by (Capture fault) none = absurd none
-    by (Picture fault) none = absurd none
-    by WriteFailed none = absurd none
+left_unread false left v f e none = known_error v f e (HasReadTo false left) tt
+left_unread true left v f e none = known_error v f e (HasReadTo true left) (by_no_reading (λ f. HasReadTo true left (Err f)) f none (λ is. tt) tt tt)
 
 pub left_unwritten : (checked : Bool) (left : Option (List ℕ)) (v : Result Oddities CliFault) (f : CliFault) → IsErrAnd v (λ x. x ≡ f) → f ≡ WriteFailed → HasReadTo checked left v
-left_unwritten checked left (Ok u) f e is = absurd e
-left_unwritten false left (Err x) f e is = tt
-left_unwritten true left (Err x) f e is = rw (e, is) tt
+left_unwritten false left v f e is = known_error v f e (HasReadTo false left) tt
+left_unwritten true left v f e is = known_error v f e (HasReadTo true left) (rw is tt)
 
 -- a fault that is handed on has the meaning that it had: it is a failed read exactly if the input has failed
 pub failed_read : (v : Result Oddities CliFault) (r : Result Bool CliFault) (f : CliFault) (b : Type 0) → IsErrAnd v (λ x. x ≡ f) → r ≡ Err f → (IsErrOf r ReadFailed ↔ b) → (IsErrOf v ReadFailed ↔ b)

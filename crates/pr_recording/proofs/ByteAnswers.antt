@@ -1,5 +1,5 @@
 -- What is answered for an input of which a device has heard the bytes.
-use Rattle.std.proofs.Common.{◌≡◌, ◌<◌, ℕ, List, [], length, refl, sym, subst, ◌∙◌, Option, Some, None, Result, Ok, Err}
+use Rattle.std.proofs.Common.{◌≡◌, ◌<◌, ℕ, List, [], length, sym, subst, ◌∙◌, Option, Some, None, Result, Ok, Err}
 use Rattle.std.specs.Prelude.{IfSome, IsErrAnd}
 use Rattle.std.specs.Io.KnownBytes.{Appends, Keeps}
 use Rattle.pr_page.specs.declared.input.Input.{Input}
@@ -25,7 +25,7 @@ use Rattle.pr_recording.specs.Narrated.{IsStop}
 use Rattle.pr_recording.specs.PrintedPages.{heard_in}
 use Rattle.pr_recording.specs.Taped.{ReadsInto, ReadsWhole}
 use Rattle.pr_recording.specs.Writes.{WritesHeard}
-use Rattle.pr_recording.proofs.ReadInto.{no_own}
+use Rattle.pr_recording.proofs.ReadInto.{by_no_reading, known_error, known_fault, no_own}
 
 -- what is written of the bytes, and what is answered
 answered : (input : TraceInput) (device : Device) (text : List ℕ) (a b : Ear) (o : HeardBytes) (end : TapeEnd) (old new : Option (List ℕ)) (v : Result (Heard × Oddities) CliFault)
@@ -50,19 +50,16 @@ answered input device text a b o end old new v h are stop w = record {
     all : Appends old new o.bytes.items → Appends old new (bytes_of inputs)
     all k = rw (← heard.bytes) k
 
-    never : (f : CliFault) → end.stop ≡ Some f → (IsStop f → ⊥) → ⊥
-    never f e n = n (let k : IfSome (Some f) IsStop = rw e at stop in k)
-
     leaves : (v : Result (Heard × Oddities) CliFault) → WritesHeard o end old new v → LeavesBytes (length text) end.stop inputs odd old new v
     leaves (Ok answer) w = (h.says.short (no_own (back_in h.edges) h.own (sym h.takes_all.is_end.stop ∙ w.0)), w.0, w.1 ∙ heard.heard, w.2 ∙ h.takes_all.is_end.odd w.0, all w.3)
-    leaves (Err (Script fault)) w = never (Script fault) w.0 (λ o. o)
+    leaves (Err (Script fault)) w = known_fault IsStop end.stop (Script fault) w.0 stop
     leaves (Err (Trace fault)) w = (w.0, all w.1)
     leaves (Err (Wave fault)) w = (w.0, all w.1)
     leaves (Err (Capture fault)) w = (w.0, all w.1)
-    leaves (Err (Picture fault)) w = never (Picture fault) w.0 (λ o. o)
-    leaves (Err TooLarge) w = absurd (never TooLarge w.0 (λ o. o))
-    leaves (Err NoMemory) w = absurd (never NoMemory w.0 (λ o. o))
-    leaves (Err ReadFailed) w = absurd (never ReadFailed w.0 (λ o. o))
+    leaves (Err (Picture fault)) w = known_fault IsStop end.stop (Picture fault) w.0 stop
+    leaves (Err TooLarge) w = absurd (known_fault IsStop end.stop TooLarge w.0 stop)
+    leaves (Err NoMemory) w = absurd (known_fault IsStop end.stop NoMemory w.0 stop)
+    leaves (Err ReadFailed) w = absurd (known_fault IsStop end.stop ReadFailed w.0 stop)
     leaves (Err WriteFailed) w = rw (← heard.bytes) w
 
 -- what is answered where nothing was heard
@@ -70,24 +67,9 @@ unanswered : EachTextSaysEdges → (input : TraceInput) (device : Device) (text 
     → AnswersBytes input device text old new (Err f)
 unanswered some input device text old new f none large keeps =
     let s = some input text in
-    record {
-      edges = s.edges;
-      own = s.fault;
-      says = s.says;
-      leaves = by (stop_at (back_in s.edges) s.fault) (heard_in (number_of device) (readings_up_to (stop_at (back_in s.edges) s.fault) s.edges)) (oddities_of s.edges (readings_of s.edges)) f none large;
-    }
-  where
-    by : (stop : Option CliFault) (inputs : List Input) (odd : Oddities) (f : CliFault) → IsNoReading f → (f ≡ TooLarge → trace_limit < length text)
-        → LeavesBytes (length text) stop inputs odd old new (Err f)
-    by stop inputs odd TooLarge n l = (l refl, keeps)
-    by stop inputs odd NoMemory n l = keeps
-    by stop inputs odd ReadFailed n l = keeps
-    by stop inputs odd (Script fault) n l = absurd n
-    by stop inputs odd (Trace fault) n l = absurd n
-    by stop inputs odd (Wave fault) n l = absurd n
-    by stop inputs odd (Capture fault) n l = absurd n
-    by stop inputs odd (Picture fault) n l = absurd n
-    by stop inputs odd WriteFailed n l = absurd n
+    let stop = stop_at (back_in s.edges) s.fault in
+    let Left : CliFault → Type 0 = λ f. LeavesBytes (length text) stop (heard_in (number_of device) (readings_up_to stop s.edges)) (oddities_of s.edges (readings_of s.edges)) old new (Err f) in
+    record { edges = s.edges; own = s.fault; says = s.says; leaves = by_no_reading Left f none (λ is. (large is, keeps)) keeps keeps }
 
 -- the same, where it is known what the reader gives
 pub all_answered : (start old new : Option (List ℕ)) (input : TraceInput) (device : Device) (a b : Ear) (o : HeardBytes) (end : TapeEnd) (v : Result (Heard × Oddities) CliFault)
@@ -101,6 +83,6 @@ all_answered (Some text) old new input device a b o end v h none are stop writes
 pub none_answered : EachTextSaysEdges → (start old : Option (List ℕ)) (input : TraceInput) (device : Device) (a b : Ear) (f : CliFault) (v : Result (Heard × Oddities) CliFault) → IsErrAnd v (λ x. x ≡ f) → IsNoReading f
     → Keeps old old → IfSome start (λ text. ReadsInto HearsMore trace_limit input text a b (Err f)) → IfSome start (λ text. AnswersBytes input device text old old v)
 none_answered some None old input device a b f v is none keeps h = tt
-none_answered some (Some text) old input device a b f (Ok u) is none keeps h = absurd is
-none_answered some (Some text) old input device a b f (Err x) is none keeps h =
-    rw is (unanswered some input device text old old f none (λ e. let P : CliFault → Type 0 = λ y. ReadsInto HearsMore trace_limit input text a b (Err y) in subst P e h) keeps)
+none_answered some (Some text) old input device a b f v is none keeps h =
+    known_error v f is (λ v. AnswersBytes input device text old old v)
+    (unanswered some input device text old old f none (λ e. let P : CliFault → Type 0 = λ y. ReadsInto HearsMore trace_limit input text a b (Err y) in subst P e h) keeps)

@@ -17,8 +17,9 @@ use Rattle.pr_recording.specs.declared.decode_report.DecodeReport.{DecodeReport}
 use Rattle.pr_recording.specs.declared.tape.TapeEnd.{TapeEnd}
 use Rattle.pr_recording.specs.Decoded.{back_in, last_lines, readings_text, readings_up_to, stop_at, told_of}
 use Rattle.pr_recording.specs.Judged.{HasJudged, JudgesMore}
-use Rattle.pr_recording.specs.Narrated.{AccountsMore, EndsEdges, HasAccounted, HasNarrated, NarratesMore, refused_by}
+use Rattle.pr_recording.specs.Narrated.{AccountsMore, EndsEdges, HasAccounted, HasNarrated, NarratesMore}
 use Rattle.pr_recording.specs.Taped.{EndsTape, IsEnd, TapesMore}
+use Rattle.pr_recording.specs.Told.{refused_by}
 
 -- all edges more are judged, and taken up to where time goes back
 pub narrates : (old new : DecodeReport) (more : List Edge) → JudgesMore more old.judge new.judge → TapesMore AccountsMore more old.tape new.tape old.log new.log → NarratesMore more old new
@@ -27,17 +28,6 @@ narrates old new more judges tapes = λ s w edges written h. record {
   given = h.given ++ tapes.later;
   taped = tapes.tapes edges h.given h.taped;
   accounted = tapes.taken w h.given written h.accounted;
-}
-
--- lines are given up
-pub narrated_cleared : (old new : DecodeReport) → new.judge ≡ old.judge → new.tape ≡ old.tape
-    → ((w : Wording) (given : List Reading) (written : List ℕ) → HasAccounted w given written old.log → HasAccounted w given (written ++ old.log.lines.items) new.log) → (s : Source) (w : Wording) (edges : List Edge) (written : List ℕ)
-    → HasNarrated s w edges written old → HasNarrated s w edges (written ++ old.log.lines.items) new
-narrated_cleared old new j t clears = λ s w edges written h. record {
-  judged = rw j h.judged;
-  given = h.given;
-  taped = rw t h.taped;
-  accounted = clears w h.given written h.accounted;
 }
 
 -- the lines at the end of edges, by why they stop

@@ -14,7 +14,6 @@ pub mod Answering
 pub mod Adding
 pub mod BusPrinting
 pub mod Taken
-pub mod Traces
 pub mod Logging
 pub mod RunLogging
 pub mod RunAnswering

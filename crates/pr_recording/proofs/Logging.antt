@@ -13,11 +13,12 @@ use Rattle.pr_receiver.specs.Kept.{kept_of}
 use Rattle.pr_receiver.specs.Laws.{HeardOfOneMore}
 use Rattle.pr_receiver.specs.declared.listener.Listener.{Listener}
 use Rattle.pr_decode.specs.declared.reading.Reading.{Reading}
+use Rattle.pr_decode.specs.Frames.{acknowledged_frame, acknowledged_frames}
 use Rattle.pr_recording.specs.declared.byte_log.ByteLog.{ByteLog}
 use Rattle.pr_recording.specs.declared.device_log.Ear.{Ear}
 use Rattle.pr_recording.specs.Bytes.{byte_of, bytes_of, sets_from, sets_of}
 use Rattle.pr_recording.specs.Logged.{HasLogged, HearsMore, LogsInput, first_of, selected_after}
-use Rattle.pr_recording.specs.PrintedPages.{acknowledged_frame, acknowledged_frames, heard_in}
+use Rattle.pr_recording.specs.PrintedPages.{heard_in}
 use Rattle.pr_recording.proofs.Adding.{one-frame}
 
 -- the sets of one input more

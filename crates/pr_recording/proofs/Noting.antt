@@ -1,6 +1,6 @@
 -- What follows of what a call gives, and of an input that has ended.
 use Rattle.std.proofs.Common.{◌≡◌, ℕ, List, ◌++◌, append_assoc, ap, ◌∙◌, Option, Result, Ok, Err}
-use Rattle.std.specs.Prelude.{IfOk, OnOk}
+use Rattle.std.specs.Prelude.{IfOk}
 use Rattle.pr_wire.specs.declared.Edge.{Edge}
 use Rattle.pr_jobs.specs.InputReads.{EndsInputs}
 use Rattle.pr_jobs.specs.EdgesTaken.{EndsReading}
@@ -9,10 +9,6 @@ use Rattle.pr_jobs.specs.declared.input_reader.InputReader.{InputReader}
 use Rattle.pr_jobs.specs.declared.fault.CliFault.{CliFault}
 
 -- what holds where a call went well holds of what follows from it
-pub on_ok : {X E : Type 0} (r : Result X E) (P Q : Type 0) → OnOk r P → (P → Q) → OnOk r Q
-on_ok (Ok x) P Q p f = f p
-on_ok (Err e) P Q p f = tt
-
 pub if_ok : {X E : Type 0} (r : Result X E) (P Q : X → Type 0) → IfOk r P → ((x : X) → P x → Q x) → IfOk r Q
 if_ok (Ok x) P Q p f = f x p
 if_ok (Err e) P Q p f = tt

@@ -1,9 +1,11 @@
 -- An input that is read block by block.
-use Rattle.std.proofs.Common.{◌≡◌, ◌<◌, ℕ, List, [], ◌++◌, length, refl, sym, subst, ◌∙◌, Option, Some, None, Result, Ok, Err}
+use Rattle.std.proofs.Common.{◌≡◌, ℕ, List, [], ◌++◌, refl, sym, subst, ◌∙◌, Option, Some, None, Result, Ok, Err}
 use Rattle.std.specs.Prelude.{IfSome, IsErrAnd}
 use Rattle.std.specs.Io.KnownBytes.{IsAtEnd}
 use Rattle.pr_wire.specs.declared.Edge.{Edge}
+use Rattle.pr_wire.specs.declared.text.TraceFault.TheVariants as trace
 use Rattle.pr_decode.specs.declared.reading.Reading.{Reading}
+use Rattle.pr_capture.specs.declared.fault.CaptureFault.{CaptureFault}
 use Rattle.pr_capture.specs.declared.format.TraceInput.{TraceInput}
 use Rattle.pr_jobs.specs.Inputs.{HasReadEdges, edges_read, fault_read}
 use Rattle.pr_jobs.specs.EdgesTaken.{HasTakenAll, HasTakenBefore}
@@ -19,6 +21,35 @@ use Rattle.pr_recording.specs.Decoded.{back_in, stop_at}
 use Rattle.pr_recording.specs.Narrated.{IsStop}
 use Rattle.pr_recording.specs.Taped.{EndsInput, EndsTape, HasTaped, HasTakenTo, ReadsInto, ReadsWhole, TakesAll, TapesMore}
 use Rattle.pr_recording.proofs.Noting.{reading_ends}
+
+-- Errors.
+
+-- what holds of an error that is known holds of the answer
+pub known_error : {X : Type 0} (v : Result X CliFault) (f : CliFault) → IsErrAnd v (λ x. x ≡ f) → (P : Result X CliFault → Type 0) → P (Err f) → P v
+known_error (Ok x) f e P h = absurd e
+known_error (Err x) f e P h = rw e h
+
+-- and what holds of a fault, if there is one, holds of one that is known
+pub known_fault : (P : CliFault → Type 0) (v : Option CliFault) (f : CliFault) → v ≡ Some f → IfSome v P → P f
+known_fault P None f e h = absurd (cc)
+known_fault P (Some g) f e h = let k : g ≡ f = cc in subst P k h
+
+-- where nothing was read, the fault is one of three
+pub by_no_reading : (P : CliFault → Type 0) (f : CliFault) → IsNoReading f → (f ≡ TooLarge → P TooLarge) → P NoMemory → P ReadFailed → P f
+by_no_reading P TooLarge none large memory failed = large refl
+by_no_reading P NoMemory none large memory failed = memory
+by_no_reading P ReadFailed none large memory failed = failed
+by_no_reading P (Script fault) none large memory failed = absurd none
+by_no_reading P (Trace fault) none large memory failed = absurd none
+by_no_reading P (Wave fault) none large memory failed = absurd none
+by_no_reading P (Capture fault) none large memory failed = absurd none
+by_no_reading P (Picture fault) none large memory failed = absurd none
+by_no_reading P WriteFailed none large memory failed = absurd none
+
+-- what holds of known bytes
+pub if_known : (known : Option (List ℕ)) (P Q : List ℕ → Type 0) → IfSome known P → ((text : List ℕ) → P text → Q text) → IfSome known Q
+if_known None P Q h f = tt
+if_known (Some text) P Q h f = f text h
 
 -- Whoever takes the edges.
 
@@ -39,21 +70,24 @@ taken_all limit start now input r before after h takes = record { given = h.give
 
 -- Why an input stops.
 
+-- a fault of an input itself is a bad line, or one of a recording
+pub by_own : (P : CliFault → Type 0) (f : CliFault) → IsOwnFault f → ((n : ℕ) → P (Trace (trace.BadLine n)))
+    → ((x : CaptureFault) → IsOwnFault (Capture x) → P (Capture x)) → P f
+by_own P (Trace (trace.BadLine n)) h line recording = line n
+by_own P (Trace trace.NoMemory) h line recording = absurd h
+by_own P (Capture x) h line recording = recording x h
+by_own P (Script x) h line recording = absurd h
+by_own P (Wave x) h line recording = absurd h
+by_own P (Picture x) h line recording = absurd h
+by_own P TooLarge h line recording = absurd h
+by_own P NoMemory h line recording = absurd h
+by_own P ReadFailed h line recording = absurd h
+by_own P WriteFailed h line recording = absurd h
+
 pub is_stop : (back : Option ℕ) (own : Option CliFault) → IfSome own IsOwnFault → IfSome (stop_at back own) IsStop
 is_stop (Some n) own h = tt
 is_stop None None h = tt
-is_stop None (Some f) h = own_stop f h
-  where
-    own_stop : (f : CliFault) → IsOwnFault f → IsStop f
-    own_stop (Script x) h = h
-    own_stop (Trace x) h = h
-    own_stop (Wave x) h = absurd h
-    own_stop (Capture x) h = h
-    own_stop (Picture x) h = h
-    own_stop TooLarge h = h
-    own_stop NoMemory h = h
-    own_stop ReadFailed h = h
-    own_stop WriteFailed h = h
+is_stop None (Some f) h = by_own IsStop f h (λ n. tt) (λ x h. h)
 
 -- where nothing stops, the input has no fault
 pub no_own : (back : Option ℕ) (own : Option CliFault) → stop_at back own ≡ None → own ≡ None
@@ -89,23 +123,13 @@ ends_input takes both r last old mid before between after e ends tapes tape = λ
 -- nothing is said of what was handed on where the input was not read, or memory was refused
 pub reads_none : {S : Type 0} (takes : List Reading → S → S → Type 0) (limit : ℕ) (start now : Option (List ℕ)) (input : TraceInput) (r : InputReader) (claim : List Edge → Type 0) (a b : S) (v : Result TapeEnd CliFault) (f : CliFault)
     → HasTakenAll limit start now input r claim → IsErrAnd v (λ x. x ≡ f) → IsNoReading f → (f ≡ TooLarge → IsTooLong now r) → IfSome start (λ text. ReadsInto takes limit input text a b v)
-reads_none takes limit start now input r claim a b (Ok p) f h e none long = absurd e
-reads_none takes limit start now input r claim a b (Err x) f h e none long = rw e (by f none (λ is. long is limit start input h.given h.read))
+reads_none takes limit start now input r claim a b v f h e none long =
+    let Reads : Result TapeEnd CliFault → Type 0 = λ v. IfSome start (λ text. ReadsInto takes limit input text a b v) in
+    known_error v f e Reads (by_no_reading (λ f. Reads (Err f)) f none (λ is. long is limit start input h.given h.read) (all start) (all start))
   where
-    all : (start : Option (List ℕ)) (P : List ℕ → Type 0) → ((text : List ℕ) → P text) → IfSome start P
-    all None P p = tt
-    all (Some text) P p = p text
-
-    by : (f : CliFault) → IsNoReading f → (f ≡ TooLarge → IfSome start (λ text. limit < length text)) → IfSome start (λ text. ReadsInto takes limit input text a b (Err f))
-    by TooLarge none long = long refl
-    by NoMemory none long = all start (λ text. ReadsInto takes limit input text a b (Err NoMemory)) (λ text. tt)
-    by ReadFailed none long = all start (λ text. ReadsInto takes limit input text a b (Err ReadFailed)) (λ text. tt)
-    by (Script fault) none long = absurd none
-    by (Trace fault) none long = absurd none
-    by (Wave fault) none long = absurd none
-    by (Capture fault) none long = absurd none
-    by (Picture fault) none long = absurd none
-    by WriteFailed none long = absurd none
+    all : (start : Option (List ℕ)) → IfSome start (λ text. Unit {0})
+    all None = tt
+    all (Some text) = tt
 
 -- what was handed on at an input's end, or at its fault
 pub record ReadsLast {S : Type 0} (takes : List Reading → S → S → Type 0) (limit : ℕ) (start left : Option (List ℕ)) (input : TraceInput) (a b : S) (e : TapeEnd) : Type 0 where

@@ -3,8 +3,8 @@ use Rattle.std.proofs.Common.{◌≡◌, List, [], ◌∷◌, ◌++◌, Some, No
 use Rattle.std.specs.declared.alloc.AllocError.{AllocError}
 use Rattle.pr_wire.specs.declared.Frame.{Frame}
 use Rattle.pr_decode.specs.declared.reading.Reading.{Reading}
+use Rattle.pr_decode.specs.Frames.{acknowledged_frame, acknowledged_frames}
 use Rattle.pr_recording.specs.declared.printer_pair.BusPrinters.{BusPrinters}
-use Rattle.pr_recording.specs.PrintedPages.{acknowledged_frame, acknowledged_frames}
 use Rattle.pr_recording.specs.Taking.{HasPrinted, HasReprinted}
 use Rattle.pr_recording.proofs.Adding.{one-frame}
 

@@ -114,10 +114,6 @@ first_read takes (y ∷ edges) x r old mid new a b same some later reads last by
     let P : Head → Type 0 = λ z. ReadsMore takes (y ∷ []) z new a b in
     subst P same (record { later = option_to_list r; taken = taken; reads = reads; byte = byte; order = (later, tt); last = last })
 
-pub first_back : (edges : List Edge) (x : Edge) (mid new : Head) → new ≡ mid → 0 < length edges → IsBefore (get_or edges 0 x) mid.decoder → BeginsBack edges new
-first_back [] x mid new same some before = absurd (omega (arith, some))
-first_back (y ∷ edges) x mid new same some before = let P : Head → Type 0 = λ z. IsBefore y z.decoder in subst P (sym same) before
-
 -- Tapes.
 
 -- nothing is there

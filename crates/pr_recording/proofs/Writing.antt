@@ -8,10 +8,6 @@ use Rattle.pr_input.specs.PartlyWritten.{AppendsFront}
 pub front_none : (a : Option (List ℕ)) (text : List ℕ) → AppendsFront a a text
 front_none a text = ([], text, refl, Appends-nil a)
 
--- all of it was
-pub front_whole : (a b : Option (List ℕ)) (text : List ℕ) → Appends a b text → AppendsFront a b text
-front_whole a b text h = (text, [], sym (append-nil text), h)
-
 -- a beginning after what was written before
 pub front_behind : (a b d : Option (List ℕ)) (xs ys zs rest : List ℕ) → zs ≡ (xs ++ ys) ++ rest → Appends a b xs → AppendsFront b d ys → AppendsFront a d zs
 front_behind a b d xs ys zs rest is h k = (

@@ -1,5 +1,5 @@
--- Linking words, for proofs: what is known of readings, as more of them come, with its laws. They stand here since a ghost item
--- of the code can cite nothing of proofs/. No reader needs to believe them: the prover has proved them.
+-- Linking words, for proofs: what is known of readings, as more of them come, with its laws. They stand here since a
+-- ghost item of the code can cite nothing of proofs/. No reader needs to believe them: the prover has proved them.
 use Rattle.std.proofs.Common.{ℕ, ◌+◌, ◌≤◌, List, [], ◌++◌, sym, subst, append-nil, append_assoc, arith}
 use Rattle.pr_decode.specs.declared.reading.Reading.{Reading}
 
@@ -12,8 +12,8 @@ pub adds_none : {S : Type 0} (Has : List Reading → S → Type 0) (s : S) → A
 adds_none Has s = λ given h. let P : List Reading → Type 0 = λ l. Has l s in subst P (sym (append-nil given)) h
 
 -- with readings and then others
-pub adds_both : {S : Type 0} (Has : List Reading → S → Type 0) (xs ys : List Reading) (a b c : S) → Adds Has xs a b → Adds Has ys b c
-    → Adds Has (xs ++ ys) a c
+pub adds_both : {S : Type 0} (Has : List Reading → S → Type 0) (xs ys : List Reading) (a b c : S) → Adds Has xs a b
+    → Adds Has ys b c → Adds Has (xs ++ ys) a c
 adds_both Has xs ys a b c h k = λ given g.
     let P : List Reading → Type 0 = λ l. Has l c in subst P (append_assoc given xs ys) (k (given ++ xs) (h given g))
 

@@ -1,5 +1,5 @@
--- Trusted: the bytes that a device hears, what they do not say of its inputs, and what `decode` answers for a recording where they are
--- wanted: with what is odd about the recording.
+-- Trusted: the bytes that a device hears, what they do not say of its inputs, and what `decode` answers for a recording
+-- where they are wanted: with what is odd about the recording.
 use Rattle.std.specs.Prelude.{◌≡◌, ℕ, ◌<◌, ◌≤◌, Bool, false, not, ◌&&◌, List, [], ◌∷◌, length, Option, Some, None, Result, Ok, Err}
 use Rattle.std.specs.Io.KnownBytes.{Appends, IsAtEnd, Keeps}
 use Rattle.std.specs.List.{filter_map, list_any}
@@ -34,7 +34,8 @@ byte_of (Select lower) = None
 abbrev pub bytes_of : List Input → List ℕ
 bytes_of inputs = filter_map byte_of inputs
 
--- the set that is selected when each byte comes, true for lower/upper case, where this one is selected before the inputs
+-- the set that is selected when each byte comes, true for lower/upper case, where this one is selected before the
+-- inputs
 abbrev pub sets_from : (lower : Bool) → List Input → List Bool
 sets_from lower [] = []
 sets_from lower (Select other ∷ inputs) = sets_from other inputs
@@ -57,8 +58,8 @@ are_both sets = list_any (λ lower. lower) sets && list_any (λ lower. not lower
 abbrev pub heard_with : List Input → Heard
 heard_with inputs = record { lower = first_set (sets_of inputs); reselected = are_both (sets_of inputs) }
 
--- what the writer holds with each answer, by the length of the recording, why it stops, what the device hears, and what is
--- odd about the recording
+-- what the writer holds with each answer, by the length of the recording, why it stops, what the device hears, and what
+-- is odd about the recording
 abbrev pub LeavesBytes :
     (len : ℕ) → (stop : Option CliFault) → List Input → Oddities → Option (List ℕ) → Option (List ℕ)
     → Result (Heard × Oddities) CliFault
@@ -69,7 +70,8 @@ LeavesBytes len stop inputs odd old new (Ok answer) =
 LeavesBytes len stop inputs odd old new (Err (Script fault)) = ⊥
 LeavesBytes len stop inputs odd old new (Err (Trace fault)) =
     (stop ≡ Some (Trace fault)) × Appends old new (bytes_of inputs)
-LeavesBytes len stop inputs odd old new (Err (Wave fault)) = (stop ≡ Some (Wave fault)) × Appends old new (bytes_of inputs)
+LeavesBytes len stop inputs odd old new (Err (Wave fault)) =
+    (stop ≡ Some (Wave fault)) × Appends old new (bytes_of inputs)
 LeavesBytes len stop inputs odd old new (Err (Capture fault)) =
     (stop ≡ Some (Capture fault)) × Appends old new (bytes_of inputs)
 LeavesBytes len stop inputs odd old new (Err (Picture fault)) = ⊥

@@ -9,8 +9,8 @@ use Rattle.pr_jobs.specs.declared.fault.CliFault.{CliFault}
 use Rattle.pr_recording.specs.declared.wording.Wording.TheVariants.{Json}
 use Rattle.pr_recording.specs.Decoded.{Leaves, back_in, stop_at, told_of}
 
--- the answer, by the text and by what the writer held before and after: the lines are those of `decode`, and the trace is
--- refused for the fault of its input, or else for the first fault of its edges, counted as `check` counts them
+-- the answer, by the text and by what the writer held before and after: the lines are those of `decode`, and the trace
+-- is refused for the fault of its input, or else for the first fault of its edges, counted as `check` counts them
 pub record AnswersJson (input : TraceInput) (text : List ℕ) (old new : Option (List ℕ))
     (result : Result (Unit {0}) CliFault) : Type 0 where
   pub edges : List Edge

@@ -65,7 +65,8 @@ last_lines (Lines d) input fault edges rs =
     summary d.bounds rs ++ (conclusion d.bounds fault rs ++ oddities_text input (oddities_of edges rs))
 last_lines Json input fault edges rs = json_verdict fault
 
--- for a whole recording both, with the fault that `check` finds; for any other the text of what its edges settle up to where it stops
+-- for a whole recording both, with the fault that `check` finds; for any other the text of what its edges settle up to
+-- where it stops
 abbrev pub told_of : Wording → TraceInput → (stop : Option CliFault) → List Edge → List ℕ
 told_of w input None edges =
     readings_text w (readings_up_to None edges)

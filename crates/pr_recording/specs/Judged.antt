@@ -20,7 +20,8 @@ pub record HasJudged (source : Source) (edges : List Edge) (j : Judge) : Type 0 
 
 -- with more edges
 abbrev pub JudgesMore : (more : List Edge) → (old new : Judge) → Type 0
-JudgesMore more old new = (source : Source) (edges : List Edge) → HasJudged source edges old → HasJudged source (edges ++ more) new
+JudgesMore more old new =
+    (source : Source) (edges : List Edge) → HasJudged source edges old → HasJudged source (edges ++ more) new
 
 -- how many edges were judged
 abbrev pub edges_judged : Judge → ℕ

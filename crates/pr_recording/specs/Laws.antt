@@ -1,5 +1,5 @@
--- Laws: what printers hear of more readings, and of lawful traces. The functions of src/laws.rt prove them, and callers take them from
--- there.
+-- Laws: what printers hear of more readings, and of lawful traces. The functions of src/laws.rt prove them, and callers
+-- take them from there.
 use Rattle.std.specs.Prelude.{◌≡◌, ℕ, ◌≤◌, List, ◌++◌, length}
 use Rattle.pr_page.specs.declared.input.Input.{Input}
 use Rattle.pr_wire.specs.declared.Edge.{Edge}

@@ -1,5 +1,6 @@
 pub mod Decoded
 pub mod Checked
+pub mod Told
 pub mod Judged
 pub mod Narrated
 pub mod Pages

@@ -1,4 +1,5 @@
--- Linking words, for proofs: which inputs and readings were taken for the bytes that a device hears. No reader needs to believe them.
+-- Linking words, for proofs: which inputs and readings were taken for the bytes that a device hears. No reader needs to
+-- believe them.
 use Rattle.std.specs.Prelude.{◌≡◌, ◌≤◌, ℕ, Bool, false, not, List, [], ◌∷◌, ◌++◌, Option, Some, None}
 use Rattle.std.specs.List.{list_any}
 use Rattle.pr_page.specs.declared.input.Input.{Input}
@@ -6,11 +7,12 @@ use Rattle.pr_page.specs.declared.input.Input.TheVariants.{Select, Byte}
 use Rattle.pr_wire.specs.declared.Frame.{Frame}
 use Rattle.pr_receiver.specs.Kept.{kept_of}
 use Rattle.pr_decode.specs.declared.reading.Reading.{Reading}
+use Rattle.pr_decode.specs.Frames.{acknowledged_frames}
 use Rattle.pr_recording.specs.declared.byte_log.ByteLog.{ByteLog}
 use Rattle.pr_recording.specs.declared.byte_log.HeardBytes.{HeardBytes}
 use Rattle.pr_recording.specs.declared.device_log.Ear.{Ear}
 use Rattle.pr_recording.specs.Bytes.{bytes_of, heard_with, sets_of}
-use Rattle.pr_recording.specs.PrintedPages.{acknowledged_frames, heard_in}
+use Rattle.pr_recording.specs.PrintedPages.{heard_in}
 
 -- Inputs.
 

@@ -1,10 +1,9 @@
--- Linking words, for proofs: which edges were taken, and which lines were made and written of them. No reader needs to believe them.
-use Rattle.std.specs.Prelude.{◌≡◌, ℕ, ◌+◌, Bool, true, false, List, ◌++◌, length, Option, Some, None, Result, Ok, Err, IfOk}
+-- Linking words, for proofs: which edges were taken, and which lines were made and written of them. No reader needs to
+-- believe them.
+use Rattle.std.specs.Prelude.{◌≡◌, ℕ, ◌+◌, Bool, true, false, List, ◌++◌, Option, Some, None, Result, Ok, Err}
 use Rattle.std.specs.Io.KnownBytes.{Appends}
 use Rattle.pr_wire.specs.declared.Edge.{Edge}
-use Rattle.pr_wire.specs.declared.WaveFault.{WaveFault}
 use Rattle.pr_wire.specs.declared.WaveFault.TheVariants as wave
-use Rattle.pr_wire.specs.Table.{fault_of}
 use Rattle.pr_capture.specs.declared.format.Source.{Source}
 use Rattle.pr_capture.specs.declared.format.TraceInput.{TraceInput}
 use Rattle.pr_decode.specs.declared.reading.Reading.{Reading}
@@ -18,11 +17,9 @@ use Rattle.pr_report.specs.ReadingText.{reading_lines}
 use Rattle.pr_report.specs.Oddities.{oddities_of}
 use Rattle.pr_report.specs.declared.oddities.Oddities.{Oddities}
 use Rattle.pr_report.specs.Taking as survey
-use Rattle.pr_report.specs.declared.report.Report.TheVariants.{Story}
 use Rattle.pr_input.specs.PartlyWritten.{AppendsFront}
 use Rattle.pr_jobs.specs.EdgesTaken.{EndsReading}
-use Rattle.pr_jobs.specs.Report.{IsOwnFault, IsReportFault, Says, edges_checked, refusal}
-use Rattle.pr_jobs.specs.Report as report
+use Rattle.pr_jobs.specs.Report.{IsOwnFault, IsReportFault}
 use Rattle.pr_jobs.specs.declared.fault.CliFault.{CliFault}
 use Rattle.pr_jobs.specs.declared.fault.CliFault.TheVariants.{Wave, WriteFailed}
 use Rattle.pr_jobs.specs.declared.input_reader.InputReader.{InputReader}
@@ -33,18 +30,8 @@ use Rattle.pr_recording.specs.declared.decode_report.Ended.{Ended}
 use Rattle.pr_recording.specs.declared.decode_report.DecodeReport.{DecodeReport}
 use Rattle.pr_recording.specs.Taped.{HasTaped, edges_taped}
 use Rattle.pr_recording.specs.Judged.{HasJudged, edges_judged}
-use Rattle.pr_recording.specs.Decoded.{IsDecodeFault, Leaves, ReadsAll, back_in, readings_text, stop_at, told_of, without_odd}
-
--- Verdicts.
-
--- why a recording is refused that is checked or not, by why it stops, by a fault of its own, and by the first fault of its edges
-abbrev pub refused_by : (checked : Bool) → (stop own : Option CliFault) → Option WaveFault → Option CliFault
-refused_by true stop own fault = refusal own fault
-refused_by false stop own fault = stop
-
--- the same, by its format and its edges
-abbrev pub refused_for : (checked : Bool) → Source → List Edge → (own : Option CliFault) → Option CliFault
-refused_for checked s edges own = refused_by checked (stop_at (back_in edges) own) own (fault_of (edges_checked s edges))
+use Rattle.pr_recording.specs.Decoded.{back_in, readings_text, stop_at, told_of}
+use Rattle.pr_recording.specs.Told.{refused_for}
 
 -- Logs of readings.
 
@@ -65,7 +52,7 @@ pub record HasAccounted (w : Wording) (given : List Reading) (written : List ℕ
   pub context : a.context ≡ behind_all at_start given
   pub lines : written ++ a.lines.items ≡ readings_text w given
 
--- how many readings an log has
+-- how many readings a log has
 abbrev pub readings_told : ReadingLog → ℕ
 readings_told a = survey.number_taken a.survey
 
@@ -77,7 +64,8 @@ AccountsMore more old new = (w : Wording) (given : List Reading) (written : List
 -- Reports on edges.
 
 -- edges of an input in this format were taken up to where time goes back, their lines were made, and all were judged
-pub record HasNarrated (s : Source) (w : Wording) (edges : List Edge) (written : List ℕ) (n : DecodeReport) : Type 0 where
+pub record HasNarrated (s : Source) (w : Wording) (edges : List Edge) (written : List ℕ) (n : DecodeReport)
+    : Type 0 where
   pub judged : HasJudged s edges n.judge
   pub given : List Reading
   pub taped : HasTaped edges given n.tape
@@ -120,11 +108,6 @@ EndsNarrated input c r n e =
 
 -- What is answered.
 
--- a fault of a recording that is checked or not
-abbrev pub IsRefusal : (checked : Bool) → CliFault → Type 0
-IsRefusal true fault = IsReportFault fault
-IsRefusal false fault = IsDecodeFault fault
-
 -- why no more is reported of an input: time goes back, or it has a fault of its own
 abbrev pub IsStop : CliFault → Type 0
 IsStop (Wave (wave.Order n)) = Unit {0}
@@ -141,18 +124,3 @@ abbrev pub WritesEnd : Ended → Option (List ℕ) → Option (List ℕ) → Res
 WritesEnd e old new (Ok odd) = (e.refused ≡ None) × (odd ≡ e.odd) × Appends old new e.lines.items
 WritesEnd e old new (Err WriteFailed) = AppendsFront old new e.lines.items
 WritesEnd e old new (Err fault) = (e.refused ≡ Some fault) × Appends old new e.lines.items
-
--- the answer for a recording that is checked or not, by its text and by what the writer held before and after
-pub record AnswersTold (limit : ℕ) (w : Wording) (checked : Bool) (input : TraceInput) (text : List ℕ) (old new : Option (List ℕ))
-    (result : Result Oddities CliFault) : Type 0 where
-  pub edges : List Edge
-  pub own : Option CliFault
-  pub says : Says input text edges own
-  pub leaves : Leaves limit (length text) (refused_for checked input.source edges own)
-      (told_of w input (stop_at (back_in edges) own) edges) old new (without_odd result)
-  pub odd : stop_at (back_in edges) own ≡ None → IfOk result (λ odd. odd ≡ oddities_of edges (readings_of edges))
-
--- how far the input has been read where it is answered
-abbrev pub HasReadTo : (checked : Bool) → Option (List ℕ) → Result Oddities CliFault → Type 0
-HasReadTo true left result = report.ReadsAll Story left (without_odd result)
-HasReadTo false left result = ReadsAll left (without_odd result)

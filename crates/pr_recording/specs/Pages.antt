@@ -1,5 +1,5 @@
--- Trusted: what `decode` answers for a recording when its pages are wanted, and what it leaves in the writer, with characters
--- of some shapes.
+-- Trusted: what `decode` answers for a recording when its pages are wanted, and what it leaves in the writer, with
+-- characters of some shapes.
 use Rattle.std.specs.Prelude.{◌≡◌, ℕ, ◌<◌, ◌≤◌, List, [], length, Option, Some, None, Result, Ok, Err}
 use Rattle.std.specs.Io.KnownBytes.{Appends, IsAtEnd, Keeps}
 use Rattle.pr_wire.specs.declared.Edge.{Edge}
@@ -52,8 +52,8 @@ abbrev pub WritesFrontOfPages : Shapes → Format → List Reading → Option (L
 WritesFrontOfPages shapes format readings old new =
     (text : List ℕ) × IsPagesOf shapes format readings text × AppendsFront old new text
 
--- what the writer holds with each answer, by the length of the input, why it stops, the readings that are printed, and what is odd
--- about the recording
+-- what the writer holds with each answer, by the length of the input, why it stops, the readings that are printed, and
+-- what is odd about the recording
 abbrev pub LeavesPages :
     (len : ℕ) → (stop : Option CliFault) → Shapes → Format → List Reading → Oddities → Option (List ℕ) → Option (List ℕ)
     → Result Oddities CliFault → Type 0
@@ -66,7 +66,8 @@ LeavesPages len stop shapes format rs odd old new (Err (Wave fault)) =
     (stop ≡ Some (Wave fault)) × WritesPages shapes format rs old new
 LeavesPages len stop shapes format rs odd old new (Err (Capture fault)) =
     (stop ≡ Some (Capture fault)) × WritesPages shapes format rs old new
-LeavesPages len stop shapes format rs odd old new (Err (Picture fault)) = AreUnshown shapes format rs fault × Keeps old new
+LeavesPages len stop shapes format rs odd old new (Err (Picture fault)) =
+    AreUnshown shapes format rs fault × Keeps old new
 LeavesPages len stop shapes format rs odd old new (Err TooLarge) = (print_limit < len) × Keeps old new
 LeavesPages len stop shapes format rs odd old new (Err NoMemory) = Keeps old new
 LeavesPages len stop shapes format rs odd old new (Err ReadFailed) = Keeps old new
@@ -80,7 +81,8 @@ pub record AnswersPages (shapes : Shapes) (input : TraceInput) (format : Format)
   pub says : Says input text edges own
   pub leaves :
       let stop = stop_at (back_in edges) own in
-      LeavesPages (length text) stop shapes format (readings_up_to stop edges) (oddities_of edges (readings_of edges)) old new result
+      LeavesPages (length text) stop shapes format (readings_up_to stop edges)
+      (oddities_of edges (readings_of edges)) old new result
 
 -- the recording has been read to its end where all of it is answered
 abbrev pub ReadsPages : Option (List ℕ) → Result Oddities CliFault → Type 0

@@ -1,31 +1,16 @@
 -- Trusted: what printers 4 and 5 print of a recording of the bus: the pages of what they hear of
 -- its acknowledged bytes.
-use Rattle.std.specs.Prelude.{◌≡◌, ℕ, Bool, true, false, List, Option, Some, None}
-use Rattle.std.specs.List.{filter_map, list_any}
+use Rattle.std.specs.Prelude.{◌≡◌, ℕ, Bool, true, false, List}
+use Rattle.std.specs.List.{list_any}
 use Rattle.pr_page.specs.declared.input.Input.{Input}
 use Rattle.pr_page.specs.declared.input.Input.TheVariants.{Select, Byte}
 use Rattle.pr_page.specs.Page.{IsPage}
-use Rattle.pr_wire.specs.declared.Frame.{Frame}
 use Rattle.pr_receiver.specs.Heard.{heard_of}
-use Rattle.pr_decode.specs.declared.reading.FrameEnd.TheVariants.{Acknowledged, Unacknowledged, Cut}
 use Rattle.pr_decode.specs.declared.reading.Reading.{Reading}
-use Rattle.pr_decode.specs.declared.reading.Reading.TheVariants as read
-use Rattle.pr_decode.specs.PieceReadings.{is_answered}
+use Rattle.pr_decode.specs.Frames.{acknowledged_frames}
 use Rattle.pr_recording.specs.declared.printer_pair.PrintedPages.{PrintedPages}
 
--- the frame of a reading that is a whole byte, acknowledged; no listener has taken any other
-abbrev pub acknowledged_frame : Reading → Option Frame
-acknowledged_frame (read.Frame t (Acknowledged time)) =
-    Some (record { attention = t.opening.command; byte = t.byte; eoi = is_answered t.opening.pulse })
-acknowledged_frame (read.Frame t (Unacknowledged time)) = None
-acknowledged_frame (read.Frame t Cut) = None
-acknowledged_frame (read.IncompleteByte t end) = None
-
--- the frames of readings, in order
-abbrev pub acknowledged_frames : List Reading → List Frame
-acknowledged_frames readings = filter_map acknowledged_frame readings
-
--- what the printer with this device number hears of them
+-- what the printer with this device number hears of the frames of readings that listeners have taken
 abbrev pub heard_in : ℕ → List Reading → List Input
 heard_in device readings = heard_of device (acknowledged_frames readings)
 

@@ -1,4 +1,5 @@
--- Trusted: what `pages` answers for a script where the bytes that a printer hears in its run are wanted, and what it leaves in the writer.
+-- Trusted: what `pages` answers for a script where the bytes that a printer hears in its run are wanted, and what it
+-- leaves in the writer.
 use Rattle.std.specs.Prelude.{◌≡◌, ℕ, ◌<◌, ◌≤◌, List, [], length, Option, Result, Ok, Err, if◌then◌else◌}
 use Rattle.std.specs.Io.KnownBytes.{Appends, Keeps}
 use Rattle.pr_page.specs.declared.input.Input.{Input}
@@ -20,8 +21,8 @@ use Rattle.pr_jobs.specs.declared.fault.CliFault.TheVariants.{Script, Trace, Wav
 use Rattle.pr_recording.specs.declared.byte_log.Heard.{Heard}
 use Rattle.pr_recording.specs.Bytes.{bytes_of, heard_with, number_of}
 
--- what a printer hears in a run: of the frames of what the run sends and of what is answered, which its trace spells; an absent printer
--- hears nothing
+-- what a printer hears in a run: of the frames of what the run sends and of what is answered, which its trace spells;
+-- an absent printer hears nothing
 abbrev pub heard_in_run : Start → Device → List Statement → List Input
 heard_in_run start device statements =
     if is_present start.present (number_of device)

@@ -1,4 +1,5 @@
--- Linking words, for proofs: which edges of a run were taken for the bytes that a printer hears in it. No reader needs to believe them.
+-- Linking words, for proofs: which edges of a run were taken for the bytes that a printer hears in it. No reader needs
+-- to believe them.
 use Rattle.std.specs.Prelude.{◌≡◌, ◌≢◌, ℕ, List, ◌++◌, None, Result, Ok, Err}
 use Rattle.pr_wire.specs.declared.Edge.{Edge}
 use Rattle.pr_decode.specs.declared.reading.Reading.{Reading}

@@ -1,5 +1,5 @@
--- Linking words: which readings were given to both printers. The clauses of `PrinterPair` say all that a caller needs of them. No reader
--- needs to believe them.
+-- Linking words: which readings were given to both printers. The clauses of `PrinterPair` say all that a caller needs
+-- of them. No reader needs to believe them.
 use Rattle.std.specs.Prelude.{◌≡◌, ℕ, max, Bool, false, List}
 use Rattle.std.specs.List.{list_any}
 use Rattle.pr_page.specs.Taken as page
@@ -7,9 +7,10 @@ use Rattle.pr_wire.specs.declared.Frame.{Frame}
 use Rattle.pr_receiver.specs.Heard.{heard_of}
 use Rattle.pr_receiver.specs.Kept.{kept_of}
 use Rattle.pr_decode.specs.declared.reading.Reading.{Reading}
+use Rattle.pr_decode.specs.Frames.{acknowledged_frames}
 use Rattle.pr_recording.specs.declared.bus_printer.BusPrinter.{BusPrinter}
 use Rattle.pr_recording.specs.declared.printer_pair.BusPrinters.{BusPrinters}
-use Rattle.pr_recording.specs.PrintedPages.{acknowledged_frames, is_byte}
+use Rattle.pr_recording.specs.PrintedPages.{is_byte}
 
 -- a printer's listening part has heard some frames
 abbrev pub HasListened : ℕ → BusPrinter → Type 0

@@ -1,4 +1,5 @@
--- Linking words, for proofs: which edges of a recording were taken, and which readings were handed on. No reader needs to believe them.
+-- Linking words, for proofs: which edges of a recording were taken, and which readings were handed on. No reader needs
+-- to believe them.
 use Rattle.std.specs.Prelude.{◌≡◌, ℕ, ◌<◌, Bool, ◌||◌, List, [], ◌∷◌, ◌++◌, length, Option, Some, None, Result, Ok, Err, IfSome}
 use Rattle.std.specs.Io.KnownBytes.{IsAtEnd}
 use Rattle.std.specs.List.{list_any}

@@ -1,4 +1,5 @@
--- Linking words, for proofs: what is written of what printers print, and of what one of them hears. No reader needs to believe them.
+-- Linking words, for proofs: what is written of what printers print, and of what one of them hears. No reader needs to
+-- believe them.
 use Rattle.std.specs.Prelude.{◌≡◌, ℕ, List, Option, Some, None, Result, Ok, Err}
 use Rattle.std.specs.Io.KnownBytes.{Appends, Keeps}
 use Rattle.pr_dots.specs.declared.character_sets.Shapes.{Shapes}

@@ -8,7 +8,8 @@ ghost use Rattle.pr_input.specs.PartlyWritten.{AppendsFront};
 ghost use Rattle.pr_jobs.specs.Inputs.{edges_read, lines_ahead};
 ghost use Rattle.pr_input.specs.Watched.{has_failed, is_flushed, wrapped};
 ghost use Rattle.pr_recording.specs.Decoded.{AnswersDecode, AnswersDecodeJson, IsDecodeFault, ReadsAll, without_odd};
-ghost use Rattle.pr_recording.specs.Narrated.{AnswersTold, EndsNarrated, GivesUp, HasReadTo, IsRefusal, WritesEnd, lines_in, load};
+ghost use Rattle.pr_recording.specs.Narrated.{EndsNarrated, GivesUp, WritesEnd, lines_in, load};
+ghost use Rattle.pr_recording.specs.Told.{AnswersTold, HasReadTo, IsRefusal};
 
 use crate::decode_report::{DecodeReport, Ended};
 use crate::wording::Wording;

@@ -4,7 +4,8 @@ ghost use Rattle.std.specs.Prelude.{◌≡◌, ◌+◌, ◌*◌, ◌^◌, ◌<�
 ghost use Rattle.pr_wire.specs.declared.Edge.{Edge};
 ghost use Rattle.pr_jobs.specs.Report.{refusal};
 ghost use Rattle.pr_recording.specs.declared.wording.Wording.{Wording};
-ghost use Rattle.pr_recording.specs.Narrated.{EndsEdges, GivesUp, HasNarrated, NarratesMore, lines_in, load, refused_by};
+ghost use Rattle.pr_recording.specs.Narrated.{EndsEdges, GivesUp, HasNarrated, NarratesMore, lines_in, load};
+ghost use Rattle.pr_recording.specs.Told.{refused_by};
 
 use crate::judge::Judge;
 use crate::reading_log::ReadingLog;

@@ -6,9 +6,8 @@ ghost use Rattle.pr_recording.specs.Logged.{AreHeard, HasHeard, HearsMore};
 ghost use Rattle.pr_recording.specs.PrintedPages.{heard_in};
 
 use crate::byte_log::{ByteLog, HeardBytes};
-use crate::frame::acknowledged_frame;
 use crate::tape::Takes;
-use pr_decode::Reading;
+use pr_decode::{Reading, acknowledged_frame};
 use pr_page::NoMemory;
 use pr_receiver::{Listener, frames_are_heard_in_turn};
 use std::alloc::Global;

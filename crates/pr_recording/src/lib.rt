@@ -13,9 +13,8 @@
 //!   which says whether they are a lawful trace, as `check` counts them. `checked` does the same in JSON, and refuses
 //!   a trace that is not lawful ([`check_json_over`], `specs/Checked.antt`).
 //! - `pages` has the readings go to a `printer_pair`: what printers 4 and 5 print of readings. `bus_printer` is one of
-//!   them: its listening part (pr_receiver's `Listener`) and pr_page's `Printer`. `frame` is the frame that a reading
-//!   says. A frame that printer 4 has printed and printer 5 was refused cannot be given to both again, so a refusal is
-//!   for good.
+//!   them: its listening part (pr_receiver's `Listener`) and pr_page's `Printer`. A frame that printer 4 has printed
+//!   and printer 5 was refused cannot be given to both again, so a refusal is for good.
 //! - `bytes` has them go to a `device_log`: one printer's listening part with a `byte_log`, which keeps the bytes of
 //!   its inputs and the character sets in which they come.
 //! - `run_bytes` performs a script statement by statement, and hands the edges of each to `run_log`, a tape's
@@ -30,7 +29,6 @@ mod checked;
 mod decode;
 mod decode_report;
 mod device_log;
-mod frame;
 mod judge;
 mod laws;
 mod pages;

@@ -7,10 +7,9 @@ ghost use Rattle.pr_recording.specs.PrintedPages.{ArePapers, heard_in};
 ghost use Rattle.pr_recording.specs.Taking.{HasPrinted, HasReprinted, HaveListened, has_failed, number_taken};
 
 use crate::bus_printer::BusPrinter;
-use crate::frame::acknowledged_frame;
 use crate::tape::Takes;
 use pr_base::{FIRST_PRINTER, SECOND_PRINTER};
-use pr_decode::Reading;
+use pr_decode::{Reading, acknowledged_frame};
 use pr_page::{NoMemory, Paper};
 use pr_serial::Present;
 use pr_wire::Frame;

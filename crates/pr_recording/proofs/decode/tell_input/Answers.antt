@@ -3,8 +3,9 @@ use Rattle.pr_jobs.specs.Inputs.{edges_read}
 use Rattle.pr_jobs.specs.InputReads.{StopsWell}
 use Rattle.pr_recording.specs.Narrated.{NarratesMore}
 use Rattle.pr_jobs.specs.declared.fault.CliFault.TheVariants.{NoMemory}
-use Rattle.pr_recording.proofs.Answering.{at_first, at_last_block, failed_read, last_refusal, left_unread, left_unwritten, no_write, partly, reading_fault, refused, told_all, told_before, told_none, told_written, unwritten, writing_fault}
+use Rattle.pr_recording.proofs.Answering.{HasWritten, at_first, at_last_block, failed_read, last_refusal, left_unread, left_unwritten, no_write, partly, reading_fault, refused, told_written, unwritten, writes_more, writes_none, writing_fault}
 use Rattle.pr_recording.proofs.Coming.{Laws}
+use Rattle.pr_recording.proofs.ReadInto.{taken_all, taken_before, taken_none}
 use Rattle.pr_recording.proofs.decode.tell_input.Goals as goal
 
 pub returns-in_err-report-clause-told : goal.returns-in_err-report-clause-told
@@ -13,8 +14,10 @@ returns-in_err-report-clause-told g c =
 
 pub pieces-init : goal.pieces-init
 pieces-init g c = record {
-  read = told_none c.args.wording c.args.limit (g.R.Read.remaining c.args.input.now.inner) (g.W.Write.contents c.args.output.now.inner) c.args.trace c.new-reader.result c.in_ok-report.report
-      (c.new-reader.ensures.read (g.R.Read.remaining c.args.input.now.inner)) c.new-reader.ensures.edges c.in_ok-report.ensures.narrated;
+  read = taken_none c.args.limit (g.R.Read.remaining c.args.input.now.inner) c.args.trace c.new-reader.result
+      (HasWritten c.args.trace.source c.args.wording (g.W.Write.contents c.args.output.now.inner) (g.W.Write.contents c.args.output.now.inner) c.in_ok-report.report)
+      (c.new-reader.ensures.read (g.R.Read.remaining c.args.input.now.inner)) c.new-reader.ensures.edges
+      (writes_none c.args.trace.source c.args.wording (g.W.Write.contents c.args.output.now.inner) c.in_ok-report.report c.in_ok-report.ensures.narrated);
   faultless = c.new-reader.ensures.open;
   lines = c.new-reader.ensures.lines;
   load = omega (arith, c.in_ok-report.ensures.load, c.new-reader.ensures.left);
@@ -52,7 +55,7 @@ write_end-requires-clause-refused g c =
     let now = g.R.Read.remaining c.read_block.new.input.inner in
     let old = g.W.Write.contents c.args.output.now.inner in
     let mid = g.W.Write.contents c.pieces.output.inner in
-    let before = told_before c.args.wording c.args.limit start (g.R.Read.remaining c.pieces.input.inner) now old mid c.args.trace c.pieces.reader c.read_block.new.self c.pieces.report c.pieces.invariant.read c.in_ok-read_block.ensures.read in
+    let before = taken_before c.args.limit start (g.R.Read.remaining c.pieces.input.inner) now c.args.trace c.pieces.reader c.read_block.new.self (HasWritten c.args.trace.source c.args.wording old mid c.pieces.report) c.pieces.invariant.read c.in_ok-read_block.ensures.read in
     no_write c.args.is_checked c.in_ok-end_input.field-0.refused (last_refusal c.args.wording c.args.limit c.args.is_checked start now old mid c.args.trace c.read_block.new.self c.pieces.report c.in_ok-end_input.field-0 before c.in_ok-end_input.ensures)
 
 pub returns-then-not-branch-clause-told : goal.returns-then-not-branch-clause-told
@@ -94,8 +97,9 @@ pieces-preserved g c =
     let going : c.in_ok-read_block.field-0 ≡ true = search rules in
     let stops : StopsWell true now c.read_block.new.self = rw going at c.in_ok-read_block.ensures.stops in
     let takes : NarratesMore (edges_read c.read_block.new.self) c.pieces.report c.take_all.new.self = rw c.edges.ensures at c.in_ok-take_all.ensures.narrated in
-    let before = told_before c.args.wording c.args.limit start (g.R.Read.remaining c.pieces.input.inner) now old mid c.args.trace c.pieces.reader c.read_block.new.self c.pieces.report c.pieces.invariant.read c.in_ok-read_block.ensures.read in
-    let told = told_all c.args.wording c.args.limit start now old mid c.args.trace c.read_block.new.self c.pieces.report c.take_all.new.self before takes in
+    let before = taken_before c.args.limit start (g.R.Read.remaining c.pieces.input.inner) now c.args.trace c.pieces.reader c.read_block.new.self (HasWritten c.args.trace.source c.args.wording old mid c.pieces.report) c.pieces.invariant.read c.in_ok-read_block.ensures.read in
+    let told = taken_all c.args.limit start now c.args.trace c.read_block.new.self (HasWritten c.args.trace.source c.args.wording old mid c.pieces.report) (HasWritten c.args.trace.source c.args.wording old mid c.take_all.new.self) before
+    (λ edges. writes_more c.args.trace.source c.args.wording old mid c.pieces.report c.take_all.new.self (edges_read c.read_block.new.self) edges takes) in
     record {
       read = told_written c.args.wording c.args.limit start now old mid (g.W.Write.contents c.write_lines.new.output.inner) c.args.trace c.read_block.new.self c.take_all.new.self c.write_lines.new.report told
           c.in_ok-write_lines.ensures.ok c.in_ok-write_lines.ensures.given;
@@ -115,8 +119,9 @@ returns-in_err-write_lines-clause-told g c =
     let old = g.W.Write.contents c.args.output.now.inner in
     let mid = g.W.Write.contents c.pieces.output.inner in
     let takes : NarratesMore (edges_read c.read_block.new.self) c.pieces.report c.take_all.new.self = rw c.edges.ensures at c.in_ok-take_all.ensures.narrated in
-    let before = told_before c.args.wording c.args.limit start (g.R.Read.remaining c.pieces.input.inner) now old mid c.args.trace c.pieces.reader c.read_block.new.self c.pieces.report c.pieces.invariant.read c.in_ok-read_block.ensures.read in
-    let told = told_all c.args.wording c.args.limit start now old mid c.args.trace c.read_block.new.self c.pieces.report c.take_all.new.self before takes in
+    let before = taken_before c.args.limit start (g.R.Read.remaining c.pieces.input.inner) now c.args.trace c.pieces.reader c.read_block.new.self (HasWritten c.args.trace.source c.args.wording old mid c.pieces.report) c.pieces.invariant.read c.in_ok-read_block.ensures.read in
+    let told = taken_all c.args.limit start now c.args.trace c.read_block.new.self (HasWritten c.args.trace.source c.args.wording old mid c.pieces.report) (HasWritten c.args.trace.source c.args.wording old mid c.take_all.new.self) before
+    (λ edges. writes_more c.args.trace.source c.args.wording old mid c.pieces.report c.take_all.new.self (edges_read c.read_block.new.self) edges takes) in
     partly laws c.read_edges_come_first.ensures.first c.args.wording c.args.limit c.args.is_checked start now old mid (g.W.Write.contents c.write_lines.new.output.inner) c.args.trace c.read_block.new.self c.take_all.new.self
     c.from_residual-in_err-write_lines.result c.in_err-write_lines.field-0.0 told c.from_residual-in_err-write_lines.ensures.1 c.in_err-write_lines.ensures.own c.in_err-write_lines.ensures.err
 
