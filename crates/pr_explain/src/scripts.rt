@@ -10,9 +10,7 @@ ghost use Rattle.pr_explain.specs.ScriptSteps.{IsNumberedPlace, numbered};
 use crate::Explanation;
 use crate::context::{Problem, advice_at, cut_before, problem_at, takes_item};
 use crate::texts::{Cut, Escaped, without_end};
-use crate::words::{
-    Foreign, foreign_word, is_number, letter_in, typed_instead, word_at,
-};
+use crate::words::{Foreign, foreign_word, is_number, letter_in, typed_instead, word_at};
 use pr_basic::{
     LineAt, ScriptFault, basic_number, faults_tell_their_line, line_at, read_script_at,
 };

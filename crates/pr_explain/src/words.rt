@@ -243,7 +243,8 @@ pub fn typed_instead(letter: &[u8]) -> Option<&'static str> {
         [0xe2, 0x80, 0x98 | 0x99] => "this is a curly quotation mark; type '",
         [0xe2, 0x80, 0x9c..=0x9e] => "this is a curly quotation mark; type \"",
         [0xe2, 0x80, 0xa6] => "these are three points in one; type ...",
-        [0xe2, 0x86, 0x90] => "this is an arrow to the left, which the C64 has in the place of _; type _",
+        [0xe2, 0x86, 0x90] =>
+            "this is an arrow to the left, which the C64 has in the place of _; type _",
         [0xe2, 0x86, 0x91] => "this is an arrow up, which the C64 has in the place of ^; type ^",
         _ => return None,
     };
@@ -263,7 +264,6 @@ pub fn letter_in(rest: &[u8]) -> &[u8] {
         Err(_) => &rest[..1],
     }
 }
-
 
 /// A word in front that this profile does not have, or a variable.
 fn foreign_name(rest: &[u8], wants_number: bool) -> Option<Foreign> {

@@ -119,9 +119,9 @@ abbrev pub moment_of : Text → Option ℕ
 moment_of text =
     if bytes_eq (after_first (λ b. b == 117) text) (codes "s") then start_of (before_first (λ b. b == 117) text)
     else (if bytes_eq (after_first (λ b. b == 109) text) (codes "s")
-        then scaled 1000 (start_of (before_first (λ b. b == 109) text))
+    then scaled 1000 (start_of (before_first (λ b. b == 109) text))
     else (if length (after_first (λ b. b == 115) text) == 0 && nat_lt (length (before_first (λ b. b == 115) text)) (length text)
-        then scaled 1000000 (start_of (before_first (λ b. b == 115) text)) else start_of text))
+    then scaled 1000000 (start_of (before_first (λ b. b == 115) text)) else start_of text))
 
 -- nothing, or a minus in front, before a time
 abbrev pub is_back : Text → Bool
