@@ -10,12 +10,12 @@ ghost use Rattle.pr_cli.specs.declared.statuses.End.TheVariants as end;
 
 use crate::characters::{shapes_for, shapes_given};
 use crate::jobs::{Answer, do_job, found_job};
+use crate::notes::note_petcat;
 use crate::outside::Outside;
 use crate::progress::{Progress, clear};
 use crate::refusals::{refuse, refuse_same};
 use crate::starts::started_job;
 use crate::statuses::{End, FAILED, is_answered};
-use crate::notes::note_petcat;
 use crate::told::{
     Subject, has_more, has_notes, is_script, show_oddities, subject_of, tell_heard, tell_listing,
     tell_more, tell_notes,
@@ -153,8 +153,9 @@ fn answer_named(
         count: &count,
         is_shown: &is_shown,
     };
-    let is_apart =
-        manner.is_watched && !manner.is_quiet && (names.output.is_some() || !manner.is_seen);
+    let is_apart = manner.is_watched
+        && !manner.is_quiet
+        && (names.output.is_some() || !manner.is_seen);
     let Some(name) = names.input else {
         if manner.is_typed && !manner.is_quiet {
             tell_waiting(rt, &work.job);
@@ -220,15 +221,19 @@ pub fn answer_given(
 fn is_for_a_file(job: &Job<'_>) -> bool {
     matches!(
         job,
-        Job::Pages(_, _, _, _, PagesOutput::Pages(Format::Png(_) | Format::Pdf(_)))
-            | Job::Decode {
-                output: DecodeOutput::Pages(Format::Png(_) | Format::Pdf(_)),
-                ..
-            }
-            | Job::Raw {
-                format: Format::Png(_) | Format::Pdf(_),
-                ..
-            }
+        Job::Pages(
+            _,
+            _,
+            _,
+            _,
+            PagesOutput::Pages(Format::Png(_) | Format::Pdf(_))
+        ) | Job::Decode {
+            output: DecodeOutput::Pages(Format::Png(_) | Format::Pdf(_)),
+            ..
+        } | Job::Raw {
+            format: Format::Png(_) | Format::Pdf(_),
+            ..
+        }
     )
 }
 

@@ -118,28 +118,45 @@ fn has_line_behind_return(remark: &[u8]) -> bool {
     false
 }
 
-/// Says which line has a number that does not follow the one before it, if a line does.
+/// Two lines of a script of which the later one has no greater number; each by its place, from 1, and its number.
+#[derive(Clone, Copy)]
+struct Unsorted {
+    first: (usize, u64),
+    second: (usize, u64),
+}
+
+/// Says which line has a number that is not greater than the one before it, if a line does.
 fn note_order(rt: &impl Eprint, script: &[u8]) {
+    if let Some(Unsorted { first, second }) = unsorted_in(script) {
+        let (at, before) = first;
+        let (line, number) = second;
+        let _ = rt.eprintln(format_args!(
+            "print1525: note: line {line} has the number {number}, after {before} in line {at}: \
+             lines run in the order of the file, where a C64 sorts them and keeps the last of each number"
+        ));
+    }
+}
+
+/// The first line of a script with a number that is not greater than the last one before it.
+fn unsorted_in(script: &[u8]) -> Option<Unsorted> {
     let mut rest = script;
-    let mut line_number: usize = 0;
-    let mut last: Option<(u64, usize)> = None;
+    let mut place: usize = 0;
+    let mut last: Option<(usize, u64)> = None;
     while !rest.is_empty() {
         let (line, more) = cut_line(rest);
-        line_number = line_number.wrapping_add(1);
+        place = place.wrapping_add(1);
         if let Some(number) = label_of(line) {
-            if let Some((before, at)) = last {
-                if number <= before {
-                    let _ = rt.eprintln(format_args!(
-                        "print1525: note: line {line_number} has the number {number}, after {before} in line {at}: \
-                         lines run in the order of the file, where a C64 sorts them and keeps the last of each number"
-                    ));
-                    return;
+            let second = (place, number);
+            if let Some(first) = last {
+                if number <= first.1 {
+                    return Some(Unsorted { first, second });
                 }
             }
-            last = Some((number, line_number));
+            last = Some(second);
         }
         rest = more;
     }
+    None
 }
 
 /// The number with which a line of a script begins, if it does; the greatest one where it is too large.

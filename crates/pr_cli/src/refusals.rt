@@ -25,7 +25,8 @@ const DISK: &str = "this is an image of a disk: VICE's c1541 takes a program out
      c1541 -attach IMAGE -read NAME name.prg";
 
 /// The same of a tape.
-const TAPE: &str = "this is an image of a tape: an emulator loads the program, and saves it as name.prg";
+const TAPE: &str =
+    "this is an image of a tape: an emulator loads the program, and saves it as name.prg";
 
 /// The same of a file that has a program behind a header.
 const HEADER: &str =
@@ -244,8 +245,6 @@ pub fn refuse_same(rt: &impl Eprint, name: &str) -> End
     ensures { result ≡ end.Words }
 {
     let name = Shown(name);
-    let _ = rt.eprintln(format_args!(
-        "print1525: {name}: the input is the file of --output too"
-    ));
+    let _ = rt.eprintln(format_args!("print1525: {name}: the input is the file of --output too"));
     End::Words
 }
