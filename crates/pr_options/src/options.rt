@@ -262,15 +262,27 @@ const READING_ENDINGS: &[Ending] = &[
 const FOREIGN_LISTINGS: &[Ending] = &[
     (".d64", "d64"),
     (".d71", "d71"),
+    (".d80", "d80"),
     (".d81", "d81"),
+    (".d82", "d82"),
     (".g64", "g64"),
+    (".g71", "g71"),
+    (".nib", "nib"),
     (".t64", "t64"),
     (".p00", "p00"),
+    (".s00", "s00"),
     (".tap", "tap"),
     (".crt", "crt"),
+    (".lnx", "lnx"),
     (".gz", "gz"),
+    (".xz", "xz"),
     (".zip", "zip"),
+    (".7z", "7z"),
+    (".rar", "rar"),
     (".vcd", "vcd"),
+    (".svg", "svg"),
+    (".png", "png"),
+    (".pdf", "pdf"),
 ];
 
 /// The endings of files that are no recording which is read: dumps in other forms, and archives.
@@ -279,7 +291,10 @@ const FOREIGN_RECORDINGS: &[Ending] = &[
     (".ghw", "ghw"),
     (".lxt", "lxt"),
     (".gz", "gz"),
+    (".xz", "xz"),
     (".zip", "zip"),
+    (".7z", "7z"),
+    (".rar", "rar"),
 ];
 
 /// The endings of files of other programs, and of formats that only other subcommands write.
@@ -305,8 +320,14 @@ const FOREIGN_OUTPUTS: &[Ending] = &[
     (".docx", "docx"),
     (".odt", "odt"),
     (".rtf", "rtf"),
+    (".xml", "xml"),
+    (".svgz", "svgz"),
     (".gz", "gz"),
+    (".tgz", "tgz"),
+    (".xz", "xz"),
     (".zip", "zip"),
+    (".7z", "7z"),
+    (".rar", "rar"),
     (".bas", "bas"),
     (".prg", "prg"),
     (".petcat", "petcat"),
