@@ -212,7 +212,7 @@ def hints():
 def options(strings):
     """The names of options in strings of the page, the header and the wrappers: each is an option of the program, or a
     colour or a length of the page."""
-    row = re.findall(r'^                name: "([a-z-]+)",', text_of("crates/pr_options/src/options.rt"), re.M)
+    row = re.findall(r'\b(?:valued\(|bare\(\s*Kind::\w+,)\s*"([a-z-]+)",', text_of("crates/pr_options/src/options.rt"))
     known = {*(f"--{it}" for it in [*row, "output", "help", "version"]), *OTHERS}
     known |= set(re.findall(r"--[a-z][a-z-]*", text_of("web/page.css")))
     found = []

@@ -112,10 +112,11 @@ async function makeFiles() {
     return { write: bytes => writeAll(beside.file, bytes), keep, discard };
   }
 
-  /** Whether an open file is the regular file of this name. */
+  /** Whether a file, that is open or by its name, is the regular file of this name. */
   function areSame(file, name) {
     try {
-      const [one, two] = [fs.fstatSync(file, { bigint: true }), fs.statSync(name, { bigint: true })];
+      const one = typeof file === 'number' ? fs.fstatSync(file, { bigint: true }) : fs.statSync(file, { bigint: true });
+      const two = fs.statSync(name, { bigint: true });
       return one.isFile() && one.ino !== 0n && one.ino === two.ino && one.dev === two.dev;
     } catch { return false; }
   }
@@ -139,14 +140,17 @@ async function run(words, files) {
   const standard = { write: bytes => files.writeAll(1, bytes), keep() {}, discard() {} };
   /** @type {import('./print1525.mjs').Asked} */
   const asked = { words, explained: process.env.PRINT1525_EXPLAIN === '1' };
+  const refusedBoth = read => {
+    tell(`print1525: ${shown(read)}: this file is read, and --output names it too\n`);
+    return 2;
+  };
+  if (characters !== null && place !== null && files.areSame(characters, place)) return refusedBoth(characters);
   if (characters !== null) asked.characters = trying(() => files.readAll(files.open(characters)), error => failedFile(characters, error));
   const isQuiet = words.some(word => word === '--quiet' || word.startsWith('-q'));
   if (!isRefused && file === null && process.stdin.isTTY && !isQuiet) tell(waits);
   const input = file === null ? 0 : trying(() => files.open(file), inputFailed);
-  if (file !== null && place !== null && files.areSame(input, place)) {
-    tell(`print1525: ${shown(file)}: the input is the file of --output too\n`);
-    return 2;
-  }
+  const both = place === null ? null : files.areSame(input, place) ? file ?? 'standard input' : null;
+  if (both !== null) return refusedBoth(both);
   const output = place === null ? standard : trying(() => files.save(place), outputFailed);
   try {
     if (!isRefused) asked.input = trying(() => files.readAll(input), inputFailed);

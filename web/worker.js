@@ -110,9 +110,12 @@ function reading(command, front) {
 /** Whether the program takes bytes for a text. (It says so of a text that is to be a saved program, which no text is.) */
 const isText = front => hinted(answer(pagesWords({}, 'list', 'prg'), front, true)) === 'text';
 
+/** Whether a file is refused by its name, which is that of another kind of file. */
+const isForeign = ({ messages }) => text(messages).startsWith('print1525: bad --from');
+
 /** Which recording a file is, as the program reads it by its name or by its first bytes; or nothing where a listing is read as far. */
 function recordingKind(front, file, listing) {
-  const read = reading('decode', front), named = read([file]), found = read([]);
+  const read = reading('decode', front), found = read([]), named = isForeign(read([file])) ? found : read([file]);
   const said = readTo(found) > readTo(named) ? found : named, source = SOURCES.find(source => areSame(read(['--from', source]), said));
   if (readTo(said) !== listing) return readTo(said) > listing ? source : '';
   // A table whose columns have other names, by its first line or by the name of its file.
@@ -122,7 +125,7 @@ function recordingKind(front, file, listing) {
 
 /** Which form of a listing a file is, as the program reads it by its name and says in its hints; or nothing where it is none. */
 function listingKind(front, file, read) {
-  const said = read([file]), named = FORMS.find(form => areSame(read(['--from', form]), said));
+  const said = isForeign(read([file])) ? read([]) : read([file]), named = FORMS.find(form => areSame(read(['--from', form]), said));
   if (named !== 'text' && hinted(said) !== 'text') return named;
   const plain = read(['--from', 'text']), form = hinted(plain), petcat = readTo(read(['--from', 'petcat']));
   if (form === 'prg') return form;

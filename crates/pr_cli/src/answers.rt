@@ -10,15 +10,15 @@ ghost use Rattle.pr_cli.specs.declared.statuses.End.TheVariants as end;
 
 use crate::characters::{shapes_for, shapes_given};
 use crate::jobs::{Answer, do_job, found_job};
-use crate::notes::note_petcat;
+use crate::notes::{has_more_capitals, note_capitals, note_stop};
 use crate::outside::Outside;
 use crate::progress::{Progress, clear};
 use crate::refusals::{refuse, refuse_same};
 use crate::starts::started_job;
 use crate::statuses::{End, FAILED, is_answered};
 use crate::told::{
-    Subject, has_more, has_notes, is_script, show_oddities, subject_of, tell_heard, tell_listing,
-    tell_more, tell_notes,
+    Subject, has_more, has_notes, show_oddities, subject_of, tell_heard, tell_listing, tell_more,
+    tell_notes,
 };
 use pr_dots::Shapes;
 use pr_files::{Noting, save};
@@ -28,11 +28,14 @@ use pr_options::{DecodeOutput, Job, PagesOutput, Task};
 use pr_render::Format;
 use std::alloc::Global;
 use std::cell::Cell;
-use std::fs::{File, Files, OpenFile};
+use std::fs::{File, Files, Metadata, OpenFile};
 use std::io::{Error, ErrorKind, Read, Write};
 use std::os::unix::fs::MetadataExt;
 use std::time::Clock;
 use std::{fs, io};
+
+/// The name of standard input.
+const STANDARD_INPUT: &str = "/dev/stdin";
 
 /// Why a picture is not written to a terminal.
 const FOR_A_FILE: &str = "PNG and PDF are not written to a terminal: -o FILE writes a file";
@@ -93,6 +96,8 @@ struct Aside<'a> {
     is_noted: bool,
     /// Nothing is said but faults and explanations.
     is_quiet: bool,
+    /// The listing is petcat's text, and its strings have more capitals than small letters.
+    has_capitals: bool,
     /// The input can be read a second time for that: it is a file by name, and no pipe or device. Any other is kept.
     is_file: bool,
     /// How many bytes have come of the input.
@@ -115,6 +120,11 @@ pub fn answer_task(
         output,
         characters,
     } = task;
+    if let (Some(read), Some(written)) = (characters, output) {
+        if is_output(rt, fs::metadata(rt, read), written) {
+            return refuse_same(rt, read).status();
+        }
+    }
     let shapes = match shapes_for(rt, characters) {
         Ok(shapes) => shapes,
         Err(fault) => return End::Characters(fault).status(),
@@ -146,9 +156,10 @@ fn answer_named(
     let count = Cell::new(0);
     let aside = Aside {
         is_explained: manner.is_explained,
-        is_advised: manner.is_watched && !manner.is_explained,
+        is_advised: manner.is_watched && !manner.is_explained && !manner.is_quiet,
         is_noted: !manner.is_quiet && (manner.is_explained || manner.is_watched),
         is_quiet: manner.is_quiet,
+        has_capitals: false,
         is_file: false,
         count: &count,
         is_shown: &is_shown,
@@ -160,14 +171,21 @@ fn answer_named(
         if manner.is_typed && !manner.is_quiet {
             tell_waiting(rt, &work.job);
         }
+        if let Some(output) = names.output {
+            if is_output(rt, fs::metadata(rt, STANDARD_INPUT), output) {
+                return refuse_same(rt, "standard input").status();
+            }
+        }
         let is_watched = is_apart && !manner.is_typed;
         let reader = Progress::new(rt, rt.reader(), is_watched, &count, &is_shown);
         return answer_from(rt, reader, names, work, aside);
     };
     match File::open(rt, name) {
         Ok(file) => {
-            if is_output(rt, &file, names.output) {
-                return refuse_same(rt, name).status();
+            if let Some(output) = names.output {
+                if is_output(rt, file.metadata(), output) {
+                    return refuse_same(rt, name).status();
+                }
             }
             let is_file = (aside.is_explained || aside.is_noted) && is_regular(&file);
             let reader = Progress::new(rt, file, is_apart, &count, &is_shown);
@@ -210,6 +228,7 @@ pub fn answer_given(
         is_advised: false,
         is_noted: telling.is_explained && !telling.is_quiet,
         is_quiet: telling.is_quiet,
+        has_capitals: false,
         is_file: false,
         count: &count,
         is_shown: &is_shown,
@@ -237,13 +256,10 @@ fn is_for_a_file(job: &Job<'_>) -> bool {
     )
 }
 
-/// Whether the input is also the file that is to be written, by the number that the system gives a file. Some systems give
-/// none.
-fn is_output(rt: &impl Files, input: &impl OpenFile, output: Option<&str>) -> bool {
-    let Some(name) = output else {
-        return false;
-    };
-    match (input.metadata(), fs::metadata(rt, name)) {
+/// Whether a file that is read is also the one that is to be written, by the numbers that the system gives files. Some systems
+/// give none.
+fn is_output(rt: &impl Files, read: io::Result<Metadata>, output: &str) -> bool {
+    match (read, fs::metadata(rt, output)) {
         (Ok(one), Ok(two)) => {
             one.is_file() && one.ino() != 0 && one.ino() == two.ino() && one.dev() == two.dev()
         }
@@ -449,9 +465,10 @@ fn answer_listing<R: Read + Drop, W: Write + Drop>(
     let mut input = Watched::new(Noting::new(kept));
     match read_text(rt.alloc(), &mut input, form, SCRIPT_LIMIT) {
         Ok(text) => {
-            note_listing(rt, input.into_inner().into_inner(), form, aside);
+            let kept = input.into_inner().into_inner();
             let aside = Aside {
                 is_file: false,
+                has_capitals: aside.is_noted && form == ListingForm::Petcat && is_shouted(kept),
                 ..aside
             };
             answer_over(rt, text.as_slice(), writer, names, work, aside)
@@ -466,18 +483,11 @@ fn answer_listing<R: Read + Drop, W: Write + Drop>(
     }
 }
 
-/// Writes what is to be noted of a listing that has a text.
-fn note_listing<R: Read + Drop>(
-    rt: &impl Eprint,
-    kept: TeeReader<R>,
-    form: ListingForm,
-    aside: Aside<'_>,
-) {
-    if aside.is_noted && form == ListingForm::Petcat {
-        if let Some(bytes) = kept.into_bytes() {
-            clear(rt, aside.is_shown);
-            note_petcat(rt, bytes.as_slice());
-        }
+/// Whether the text of petcat's that was kept has more capitals than small letters in its strings.
+fn is_shouted<R: Read + Drop>(kept: TeeReader<R>) -> bool {
+    match kept.into_bytes() {
+        Some(bytes) => has_more_capitals(bytes.as_slice()),
+        None => false,
     }
 }
 
@@ -533,7 +543,7 @@ fn answer_over<R: Read + Drop, W: Write + Drop>(
         ..
     } = work;
     let subject = subject_of(&job);
-    let is_kept = !aside.is_file && (aside.is_explained || (aside.is_noted && is_script(subject)));
+    let is_kept = !aside.is_file && (aside.is_explained || (aside.is_noted && has_notes(subject)));
     let kept = TeeReader::new(rt.alloc(), reader, is_kept);
     let mut input = Watched::new(Noting::new(kept));
     let mut output = Watched::new(Noting::new(writer));
@@ -543,18 +553,19 @@ fn answer_over<R: Read + Drop, W: Write + Drop>(
     let output = output.into_inner();
     let errors = (input.error(), output.error());
     let end = tell_end(rt, subject, names, answer, errors, aside.is_quiet);
-    if aside.is_advised && is_explicable(answer) {
-        advise(rt);
+    if aside.is_advised {
+        advise_on(rt, answer, end);
     }
     tell_read(rt, input.into_inner(), subject, names, answer, aside);
     (end, output.into_inner())
 }
 
-/// Whether a job failed of what more can be said.
-fn is_explicable(answer: Result<Answer, CliFault>) -> bool {
+/// Says that more can be said of a job that failed, or of a run that a BASIC error stopped, if it can.
+fn advise_on(rt: &impl Eprint, answer: Result<Answer, CliFault>, end: End) {
     match answer {
-        Ok(_) => false,
-        Err(fault) => has_more(fault),
+        Ok(_) if matches!(end, End::Stopped | End::StoppedAt { .. }) => note_stop(rt),
+        Err(fault) if has_more(fault) => advise(rt),
+        _ => {}
     }
 }
 
@@ -580,7 +591,10 @@ fn tell_read<R: Read + Drop>(
             tell_more(rt, bytes.as_slice(), subject, run_end_of(answer));
         }
         if is_noted {
-            tell_notes(rt, bytes.as_slice(), subject, run_end_of(answer));
+            if aside.has_capitals {
+                note_capitals(rt);
+            }
+            tell_notes(rt, bytes.as_slice(), subject);
         }
     }
 }

@@ -105,7 +105,7 @@ fn answer_words(
             Ok(status)
         }
         Err(fault) => {
-            let is_listed = is_explained || terminals.error;
+            let is_listed = is_explained || (terminals.error && !is_quiet);
             Ok(refuse_task(rt, texts.as_slice(), fault, is_listed)?.status())
         }
     }

@@ -12,12 +12,16 @@ const TYPED_STRINGS: &str =
 const PETCAT_CAPITALS: &str =
     "capitals in the strings of petcat's text print graphics; --from text sends strings as they are";
 
+/// What is said of a run that a BASIC error stopped.
+const STOPPED: &str = "a BASIC error stopped the run; --explain says which one, and where";
+
 /// What is said of a printer's bytes that look like a saved program.
 const SAVED_BYTES: &str =
     "this looks like a saved program, and not like a printer's bytes: pages --from prg runs one";
 
 /// What is said of a printer's bytes that look like a disk.
-const DISK_BYTES: &str = "this looks like an image of a disk, and not like a printer's bytes";
+const DISK_BYTES: &str = "this looks like an image of a disk, and not like a printer's bytes: \
+     take a program out of it, and pages --from prg runs it";
 
 /// Writes a note.
 fn note(rt: &impl Eprint, text: &str) {
@@ -40,11 +44,14 @@ pub fn note_script(rt: &impl Eprint, script: &[u8], form: ListingForm) {
     }
 }
 
-/// Writes what is to be noted of petcat's text.
-pub fn note_petcat(rt: &impl Eprint, text: &[u8]) {
-    if has_more_capitals(text) {
-        note(rt, PETCAT_CAPITALS);
-    }
+/// Writes a note of petcat's text with more capitals than small letters in its strings.
+pub fn note_capitals(rt: &impl Eprint) {
+    note(rt, PETCAT_CAPITALS);
+}
+
+/// Writes a note of a run of which nothing else is said.
+pub fn note_stop(rt: &impl Eprint) {
+    note(rt, STOPPED);
 }
 
 /// Writes what is to be noted of bytes that a printer hardly gets.
@@ -104,14 +111,14 @@ fn begins_remark(bytes: &[u8]) -> bool {
     bytes.len() >= 3 && bytes[..3].eq_ignore_ascii_case(b"rem")
 }
 
-/// Whether a byte 13 has a digit or a letter behind it, maybe after blanks.
+/// Whether a byte 13 has what a line begins with behind it, maybe after blanks: a digit, a letter or `?`.
 fn has_line_behind_return(remark: &[u8]) -> bool {
     let mut is_behind = false;
     for byte in remark {
         match *byte {
             b'\r' => is_behind = true,
-            b' ' => {}
-            _ if is_behind && byte.is_ascii_alphanumeric() => return true,
+            b' ' | b'\t' => {}
+            _ if is_behind && (byte.is_ascii_alphanumeric() || *byte == b'?') => return true,
             _ => is_behind = false,
         }
     }
@@ -132,7 +139,8 @@ fn note_order(rt: &impl Eprint, script: &[u8]) {
         let (line, number) = second;
         let _ = rt.eprintln(format_args!(
             "print1525: note: line {line} has the number {number}, after {before} in line {at}: \
-             lines run in the order of the file, where a C64 sorts them and keeps the last of each number"
+             lines run in the order of the file, where a C64 sorts them and keeps the last of each number; \
+             put them in order, or leave one out"
         ));
     }
 }
@@ -176,7 +184,7 @@ fn label_of(line: &[u8]) -> Option<u64> {
 }
 
 /// Whether the strings of petcat's text have more capitals than small letters. What is between braces is a name.
-fn has_more_capitals(text: &[u8]) -> bool {
+pub fn has_more_capitals(text: &[u8]) -> bool {
     let mut capitals: usize = 0;
     let mut smalls: usize = 0;
     let mut is_quoted = false;

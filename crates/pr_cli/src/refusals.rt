@@ -7,6 +7,7 @@ ghost use Rattle.pr_cli.specs.declared.statuses.End.TheVariants as end;
 use crate::answers::tell;
 use crate::shown::Shown;
 use crate::statuses::End;
+use crate::told::{say, show_hint};
 use clap::error::{Error as UsageError, ErrorKind as UsageKind};
 use pr_jobs::CliFault;
 use pr_options::{JobFault, Opt, bad_value, read_task};
@@ -45,6 +46,10 @@ const RECORDING: &str = "this is a recording: print1525 decode reads one";
 const DUMP: &str = "make a Value Change Dump of it first: fst2vcd does so with FST, \
      and ghdl writes one with --vcd=FILE";
 
+/// What is said of an output whose name's ending gives a value that is no format.
+const OUTPUT_ENDING: &str =
+    "the ending of the output's name says no format of this command; --as FORMAT chooses one";
+
 /// How a value is given that begins with a minus.
 const MINUS: &str = "a value that begins with a minus follows =, as in --from-time=-500";
 
@@ -65,7 +70,12 @@ pub fn refuse_task(
         });
     }
     let value = bad_value(rt.alloc(), words, &fault);
-    Ok(refuse_line(rt, fault, value, is_explained))
+    let hint = if is_explained {
+        foreign_hint(words, &fault, value)
+    } else {
+        None
+    };
+    Ok(refuse_line(rt, fault, value, hint, is_explained))
 }
 
 /// Reports that a word is not UTF-8.
@@ -80,6 +90,7 @@ fn refuse_line(
     rt: &(impl Print + Eprint + AllocGlobal),
     fault: JobFault,
     value: Option<&str>,
+    hint: Option<&'static str>,
     is_explained: bool,
 ) -> End
     ensures { (result ≡ refusal_end fault) ⊎ (result ≡ end.Job CliFault.WriteFailed) }
@@ -94,17 +105,16 @@ fn refuse_line(
         return end;
     }
     show_fault(rt, &fault, value);
+    show_hint(rt, hint);
     if is_explained {
-        show_values(rt, &fault, value);
+        show_values(rt, &fault);
     }
     end
 }
 
-/// Reports what to do with a file whose name has led to a bad value, or which values are good.
-fn show_values(rt: &impl Eprint, fault: &JobFault, value: Option<&str>) {
-    if let Some(hint) = foreign_hint(fault, value) {
-        let _ = rt.eprintln(format_args!("  {hint}"));
-    } else if let Some(values) = fault.values() {
+/// Reports which values are good.
+fn show_values(rt: &impl Eprint, fault: &JobFault) {
+    if let Some(values) = fault.values() {
         for line in values.lines() {
             let _ = rt.eprintln(format_args!("  {line}"));
         }
@@ -118,12 +128,8 @@ fn show_error(rt: &(impl Print + Eprint + AllocGlobal), error: &UsageError) {
         return;
     };
     let word = quoted(text.as_str());
-    if error.kind() == UsageKind::UnknownArgument && is_negative(word) {
-        for line in text.lines() {
-            if !line.starts_with("  tip: ") {
-                let _ = rt.eprintln(format_args!("{line}"));
-            }
-        }
+    if error.kind() == UsageKind::UnknownArgument && is_negative(word) && is_timed(text.as_str()) {
+        show_without_tip(rt, text.as_str());
         let _ = rt.eprintln(format_args!("{MINUS}"));
         return;
     }
@@ -137,6 +143,25 @@ fn show_error(rt: &(impl Print + Eprint + AllocGlobal), error: &UsageError) {
         }
         _ => {}
     }
+}
+
+/// Reports a text of clap's without its tip and the empty line behind that.
+fn show_without_tip(rt: &impl Eprint, text: &str) {
+    let mut is_behind = false;
+    for line in text.lines() {
+        if line.starts_with("  tip: ") {
+            is_behind = true;
+        } else if is_behind && line.is_empty() {
+            is_behind = false;
+        } else {
+            let _ = rt.eprintln(format_args!("{line}"));
+        }
+    }
+}
+
+/// Whether a text of clap's is on a subcommand that has `--from-time`.
+fn is_timed(text: &str) -> bool {
+    text.contains("print1525 check ") || text.contains("print1525 decode ")
 }
 
 /// The first text in quotation marks; empty where there is none.
@@ -163,17 +188,26 @@ fn is_negative(word: &str) -> bool {
     }
 }
 
-/// What to do with an input whose name has an ending that gives a bad value.
-fn foreign_hint(fault: &JobFault, value: Option<&str>) -> Option<&'static str> {
-    let JobFault::Bad(Opt::ListingFrom | Opt::From | Opt::ReadingFrom) = fault else {
-        return None;
-    };
-    match value? {
-        "d64" | "d71" | "d81" | "g64" => Some(DISK),
+/// What to do with a file whose name has an ending that gives a bad value, where no word gives it.
+fn foreign_hint(words: &[&str], fault: &JobFault, value: Option<&str>) -> Option<&'static str> {
+    match fault {
+        JobFault::Bad(Opt::ListingFrom | Opt::From | Opt::ReadingFrom) if !say(words, "--from") => {
+            input_hint(value?)
+        }
+        JobFault::Bad(Opt::PageAs | Opt::RawAs | Opt::TraceAs | Opt::ReportAs | Opt::ReadingAs)
+            if !say(words, "--as") => Some(OUTPUT_ENDING),
+        _ => None,
+    }
+}
+
+/// What to do with an input whose name's ending gives this value.
+fn input_hint(value: &str) -> Option<&'static str> {
+    match value {
+        "d64" | "d71" | "d80" | "d81" | "d82" | "g64" | "g71" | "nib" => Some(DISK),
         "t64" | "tap" => Some(TAPE),
-        "p00" => Some(HEADER),
+        "p00" | "s00" => Some(HEADER),
         "crt" => Some(CARTRIDGE),
-        "gz" | "zip" => Some(ARCHIVE),
+        "gz" | "zip" | "xz" | "7z" | "rar" | "lnx" => Some(ARCHIVE),
         "vcd" => Some(RECORDING),
         "fst" | "ghw" | "lxt" => Some(DUMP),
         _ => None,
@@ -227,7 +261,7 @@ fn refuse_shown(
         texts.push(word.as_str())?;
     }
     match read_task(rt.alloc(), texts.as_slice()) {
-        Err(fault) => Ok(refuse_line(rt, fault, None, false)),
+        Err(fault) => Ok(refuse_line(rt, fault, None, None, false)),
         Ok(_task) => Ok(refuse(rt, "bad arguments")),
     }
 }
@@ -240,11 +274,13 @@ pub fn refuse(rt: &impl Eprint, reason: &str) -> End
     End::Words
 }
 
-/// Reports that the file that is read is also the one that is to be written, and gives how the program ends.
+/// Reports that a file that is read is also the one that is to be written, and gives how the program ends.
 pub fn refuse_same(rt: &impl Eprint, name: &str) -> End
     ensures { result ≡ end.Words }
 {
     let name = Shown(name);
-    let _ = rt.eprintln(format_args!("print1525: {name}: the input is the file of --output too"));
+    let _ = rt.eprintln(format_args!(
+        "print1525: {name}: this file is read, and --output names it too"
+    ));
     End::Words
 }

@@ -40,12 +40,13 @@ const LOWER_SET: &str = "the bytes are for the lower case set: raw --set lower p
 
 /// What is said of bytes that come in both sets, the first one in the graphic/upper case set.
 const BOTH_SETS: &str =
-    "the character set changes after the first byte: raw prints all bytes in one set";
+    "the character set changes after the first byte: raw prints all bytes in one set; \
+     --as text prints both";
 
 /// The same where the first one comes in the lower/upper case set.
 const BOTH_SETS_LOWER: &str =
     "the character set changes after the first byte: raw prints all bytes in one set, \
-     with --set lower in that of the first byte";
+     with --set lower in that of the first byte; --as text prints both";
 
 /// What is noted of an output whose name has an ending that says no format.
 const OTHER_ENDING: &str =
@@ -58,7 +59,7 @@ const OWN_ENDINGS: [&str; 4] = [".page", ".trace", ".frames", ".txt"];
 /// What is noted of the name of a task's output: nothing where the words or its ending say the format.
 pub fn ending_note(words: &[&str], task: &Task<'_>) -> Option<&'static str> {
     match task.output {
-        Some(name) if is_default(&task.job) && !say_format(words) && has_other_ending(name) => {
+        Some(name) if is_default(&task.job) && !say(words, "--as") && has_other_ending(name) => {
             Some(OTHER_ENDING)
         }
         _ => None,
@@ -76,11 +77,13 @@ fn is_default(job: &Job<'_>) -> bool {
     }
 }
 
-/// Whether one of the words is the option that says a format.
-fn say_format(words: &[&str]) -> bool {
+/// Whether one of the words is this option, with a value behind it or in the next word.
+pub fn say(words: &[&str], option: &str) -> bool {
     for word in words {
-        if *word == "--as" || word.starts_with("--as=") {
-            return true;
+        if let Some(rest) = word.strip_prefix(option) {
+            if rest.is_empty() || rest.starts_with('=') {
+                return true;
+            }
         }
     }
     false
@@ -131,28 +134,18 @@ pub fn tell_more(
     show_hint(rt, hint_of(bytes, subject, answer));
 }
 
-/// Writes what is to be noted of an input, by the answer of its job.
-pub fn tell_notes(
-    rt: &impl Eprint,
-    bytes: &[u8],
-    subject: Subject<'_>,
-    answer: Result<RunEnd, CliFault>,
-) {
-    match (subject, answer) {
-        (Subject::Script(job), Ok(_)) => note_script(rt, bytes, job.form),
-        (Subject::Bytes, Ok(_)) => note_bytes(rt, bytes),
-        _ => {}
+/// Writes what is to be noted of an input whose job is answered.
+pub fn tell_notes(rt: &impl Eprint, bytes: &[u8], subject: Subject<'_>) {
+    match subject {
+        Subject::Script(job) => note_script(rt, bytes, job.form),
+        Subject::Bytes => note_bytes(rt, bytes),
+        Subject::Trace(_) | Subject::Recording(_) => {}
     }
 }
 
 /// Whether notes can be of an input: those of a trace or a recording are not of its bytes.
 pub fn has_notes(subject: Subject<'_>) -> bool {
     matches!(subject, Subject::Script(_) | Subject::Bytes)
-}
-
-/// Whether an input is a script.
-pub fn is_script(subject: Subject<'_>) -> bool {
-    matches!(subject, Subject::Script(_))
 }
 
 /// Whether more can be said of a job's fault than its one line.

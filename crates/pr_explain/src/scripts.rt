@@ -221,7 +221,7 @@ fn push_letter(text: &mut String, rest: &[u8]) -> Result<(), NoMemory> {
         ),
         _ => return Ok(()),
     }?;
-    match typed_instead(letter) {
+    match typed_instead(letter, true) {
         Some(sentence) => write!(text, "  {sentence}\n"),
         None => Ok(()),
     }

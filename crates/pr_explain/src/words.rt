@@ -206,7 +206,9 @@ pub enum Foreign {
 /// byte 10, and byte 13 directly before it or before the text's end.
 pub fn foreign_word(before: &[u8], rest: &[u8], wants_number: bool) -> Option<Foreign> {
     let sentence = match rest {
-        [b'?', b'#', ..] => "BASIC does not read ?# as PRINT#; write PRINT#",
+        [b'?', after @ ..] if matches!(after_blanks(after), [b'#', ..]) => {
+            "BASIC does not read ?# as PRINT#; write PRINT#"
+        }
         [b'?', ..] => "the abbreviation ? is not supported; write PRINT",
         [b'+' | b'-' | b'*' | b'/' | b'^' | b'=' | b'<' | b'>', ..] => {
             "operators are not supported; write the result"
@@ -228,23 +230,34 @@ fn foreign_sentence(before: &[u8], rest: &[u8]) -> Option<Foreign> {
         }
         [0xef, 0xbb, 0xbf, ..] => "this is a byte order mark; save the script without it",
         [1, 8, ..] if before.is_empty() => "this is a tokenised program",
-        _ => typed_instead(letter_in(rest))?,
+        _ => typed_instead(letter_in(rest), false)?,
     };
     Some(Foreign::Sentence(sentence))
 }
 
-/// What to type for a letter that editors and web pages put in the place of a key of the C64.
-pub fn typed_instead(letter: &[u8]) -> Option<&'static str> {
+/// What to type for a letter that editors and web pages put in the place of a key of the C64, as UTF-8 has it or as one
+/// byte of Windows: in a string, or outside of one.
+pub fn typed_instead(letter: &[u8], is_in_string: bool) -> Option<&'static str> {
     let sentence = match letter {
-        [0xc2, 0xa0] => "this is a no-break space; type a space",
-        [0xc2, 0xa3] => "this is a pound sign, which the C64 has in the place of \\; type \\",
-        [0xcf, 0x80] => "this is pi, which a string has as CHR$(126)",
-        [0xe2, 0x80, 0x93 | 0x94] => "this is a dash; type -",
-        [0xe2, 0x80, 0x98 | 0x99] => "this is a curly quotation mark; type '",
-        [0xe2, 0x80, 0x9c..=0x9e] => "this is a curly quotation mark; type \"",
-        [0xe2, 0x80, 0xa6] => "these are three points in one; type ...",
-        [0xe2, 0x86, 0x90] =>
-            "this is an arrow to the left, which the C64 has in the place of _; type _",
+        [0xc2, 0xa0] | [0xe2, 0x80, 0xaf] | [0xa0] => "this is a no-break space; type a space",
+        [0xc2, 0xa3] | [0xa3] => {
+            "this is a pound sign, which the C64 has in the place of \\; type \\"
+        }
+        [0xcf, 0x80] => "this is pi, which the C64 has in the place of ~; type ~",
+        [0xe2, 0x80, 0x93 | 0x94] | [0xe2, 0x88, 0x92] | [0x96 | 0x97] => {
+            "this is a dash; type -"
+        }
+        [0xe2, 0x80, 0x98..=0x9a] | [0x91 | 0x92] if is_in_string => {
+            "this is a curly quotation mark; type '"
+        }
+        [0xe2, 0x80, 0x9c..=0x9e] | [0x93 | 0x94] if is_in_string => {
+            "this is a curly quotation mark; write it as CHR$(34)"
+        }
+        [0xe2, 0x80, 0x98..=0x9e] | [0x91..=0x94] => "this is a curly quotation mark; type \"",
+        [0xe2, 0x80, 0xa6] | [0x85] => "these are three points in one; type ...",
+        [0xe2, 0x86, 0x90] => {
+            "this is an arrow to the left, which the C64 has in the place of _; type _"
+        }
         [0xe2, 0x86, 0x91] => "this is an arrow up, which the C64 has in the place of ^; type ^",
         _ => return None,
     };

@@ -74,25 +74,34 @@ reading_endings = (codes ".svg", codes "svg") ∷ (codes ".png", codes "png") �
 
 -- what the endings of files say that are no listing: values that are none
 abbrev pub foreign_listings : List (Text × Text)
-foreign_listings = (codes ".d64", codes "d64") ∷ (codes ".d71", codes "d71") ∷ (codes ".d81", codes "d81")
-    ∷ (codes ".g64", codes "g64") ∷ (codes ".t64", codes "t64") ∷ (codes ".p00", codes "p00") ∷ (codes ".tap", codes "tap")
-    ∷ (codes ".crt", codes "crt") ∷ (codes ".gz", codes "gz") ∷ (codes ".zip", codes "zip") ∷ (codes ".vcd", codes "vcd") ∷ []
+foreign_listings = (codes ".d64", codes "d64") ∷ (codes ".d71", codes "d71") ∷ (codes ".d80", codes "d80")
+    ∷ (codes ".d81", codes "d81") ∷ (codes ".d82", codes "d82") ∷ (codes ".g64", codes "g64")
+    ∷ (codes ".g71", codes "g71") ∷ (codes ".nib", codes "nib") ∷ (codes ".t64", codes "t64")
+    ∷ (codes ".p00", codes "p00") ∷ (codes ".s00", codes "s00") ∷ (codes ".tap", codes "tap")
+    ∷ (codes ".crt", codes "crt") ∷ (codes ".lnx", codes "lnx") ∷ (codes ".gz", codes "gz")
+    ∷ (codes ".xz", codes "xz") ∷ (codes ".zip", codes "zip") ∷ (codes ".7z", codes "7z")
+    ∷ (codes ".rar", codes "rar") ∷ (codes ".vcd", codes "vcd") ∷ (codes ".svg", codes "svg")
+    ∷ (codes ".png", codes "png") ∷ (codes ".pdf", codes "pdf") ∷ []
 
 -- the same of files that are no recording which is read
 abbrev pub foreign_recordings : List (Text × Text)
 foreign_recordings = (codes ".fst", codes "fst") ∷ (codes ".ghw", codes "ghw") ∷ (codes ".lxt", codes "lxt")
-    ∷ (codes ".gz", codes "gz") ∷ (codes ".zip", codes "zip") ∷ []
+    ∷ (codes ".gz", codes "gz") ∷ (codes ".xz", codes "xz") ∷ (codes ".zip", codes "zip")
+    ∷ (codes ".7z", codes "7z") ∷ (codes ".rar", codes "rar") ∷ []
 
 -- the same of files that other programs write, or other subcommands
 abbrev pub foreign_outputs : List (Text × Text)
 foreign_outputs = (codes ".svg", codes "svg") ∷ (codes ".png", codes "png") ∷ (codes ".pdf", codes "pdf")
     ∷ (codes ".json", codes "json") ∷ (codes ".vcd", codes "vcd") ∷ (codes ".csv", codes "csv")
-    ∷ (codes ".jpg", codes "jpg") ∷ (codes ".jpeg", codes "jpeg") ∷ (codes ".gif", codes "gif") ∷ (codes ".bmp", codes "bmp")
-    ∷ (codes ".tif", codes "tif") ∷ (codes ".tiff", codes "tiff") ∷ (codes ".webp", codes "webp") ∷ (codes ".ps", codes "ps")
-    ∷ (codes ".eps", codes "eps") ∷ (codes ".htm", codes "htm") ∷ (codes ".html", codes "html") ∷ (codes ".doc", codes "doc")
-    ∷ (codes ".docx", codes "docx") ∷ (codes ".odt", codes "odt") ∷ (codes ".rtf", codes "rtf") ∷ (codes ".gz", codes "gz")
-    ∷ (codes ".zip", codes "zip") ∷ (codes ".bas", codes "bas") ∷ (codes ".prg", codes "prg")
-    ∷ (codes ".petcat", codes "petcat") ∷ []
+    ∷ (codes ".jpg", codes "jpg") ∷ (codes ".jpeg", codes "jpeg") ∷ (codes ".gif", codes "gif")
+    ∷ (codes ".bmp", codes "bmp") ∷ (codes ".tif", codes "tif") ∷ (codes ".tiff", codes "tiff")
+    ∷ (codes ".webp", codes "webp") ∷ (codes ".ps", codes "ps") ∷ (codes ".eps", codes "eps")
+    ∷ (codes ".htm", codes "htm") ∷ (codes ".html", codes "html") ∷ (codes ".doc", codes "doc")
+    ∷ (codes ".docx", codes "docx") ∷ (codes ".odt", codes "odt") ∷ (codes ".rtf", codes "rtf")
+    ∷ (codes ".xml", codes "xml") ∷ (codes ".svgz", codes "svgz") ∷ (codes ".gz", codes "gz")
+    ∷ (codes ".tgz", codes "tgz") ∷ (codes ".xz", codes "xz") ∷ (codes ".zip", codes "zip")
+    ∷ (codes ".7z", codes "7z") ∷ (codes ".rar", codes "rar") ∷ (codes ".bas", codes "bas")
+    ∷ (codes ".prg", codes "prg") ∷ (codes ".petcat", codes "petcat") ∷ []
 
 -- the row of an option
 abbrev pub row : Opt → OptionRow

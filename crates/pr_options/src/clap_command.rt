@@ -144,19 +144,19 @@ pub fn make_command<'a>(alloc: Global) -> Result<Command<'a>, AllocError>
     ensures app { IfOk result (λ c. app_of c ≡ print1525) }
     ensures local { IfOk result IsLocal }
 {
-    let pages = subcommand(alloc, Subcommand::Pages)?;
-    let bus = subcommand(alloc, Subcommand::Bus)?;
-    let check = subcommand(alloc, Subcommand::Check)?;
-    let decode = subcommand(alloc, Subcommand::Decode)?;
-    let raw = subcommand(alloc, Subcommand::Raw)?;
     let program = new_command(alloc, "print1525", help::PROGRAM)
         .version(VERSION)
         .subcommand_required(true)
         .disable_help_subcommand(true);
+    let pages = subcommand(alloc, Subcommand::Pages)?;
     let one = program.subcommand(pages)?;
+    let bus = subcommand(alloc, Subcommand::Bus)?;
     let two = one.subcommand(bus)?;
+    let check = subcommand(alloc, Subcommand::Check)?;
     let three = two.subcommand(check)?;
+    let decode = subcommand(alloc, Subcommand::Decode)?;
     let four = three.subcommand(decode)?;
+    let raw = subcommand(alloc, Subcommand::Raw)?;
     let whole = four.subcommand(raw)?;
     Ok(whole)
 }

@@ -5,7 +5,7 @@
 //! specification; so a changed default or ending is refused.
 
 ghost use Rattle.std.specs.Prelude.{◌≡◌};
-ghost use Rattle.pr_options.specs.Rows.{command_name, foreign, letter, options_of, row};
+ghost use Rattle.pr_options.specs.Rows.{by_file, command_name, foreign, letter, no_value, options_of, plain, row};
 ghost use Rattle.pr_options.specs.Subcommands.{endings_view, row_view};
 
 use std::fmt;
@@ -262,15 +262,27 @@ const READING_ENDINGS: &[Ending] = &[
 const FOREIGN_LISTINGS: &[Ending] = &[
     (".d64", "d64"),
     (".d71", "d71"),
+    (".d80", "d80"),
     (".d81", "d81"),
+    (".d82", "d82"),
     (".g64", "g64"),
+    (".g71", "g71"),
+    (".nib", "nib"),
     (".t64", "t64"),
     (".p00", "p00"),
+    (".s00", "s00"),
     (".tap", "tap"),
     (".crt", "crt"),
+    (".lnx", "lnx"),
     (".gz", "gz"),
+    (".xz", "xz"),
     (".zip", "zip"),
+    (".7z", "7z"),
+    (".rar", "rar"),
     (".vcd", "vcd"),
+    (".svg", "svg"),
+    (".png", "png"),
+    (".pdf", "pdf"),
 ];
 
 /// The endings of files that are no recording which is read: dumps in other forms, and archives.
@@ -279,7 +291,10 @@ const FOREIGN_RECORDINGS: &[Ending] = &[
     (".ghw", "ghw"),
     (".lxt", "lxt"),
     (".gz", "gz"),
+    (".xz", "xz"),
     (".zip", "zip"),
+    (".7z", "7z"),
+    (".rar", "rar"),
 ];
 
 /// The endings of files of other programs, and of formats that only other subcommands write.
@@ -305,8 +320,14 @@ const FOREIGN_OUTPUTS: &[Ending] = &[
     (".docx", "docx"),
     (".odt", "odt"),
     (".rtf", "rtf"),
+    (".xml", "xml"),
+    (".svgz", "svgz"),
     (".gz", "gz"),
+    (".tgz", "tgz"),
+    (".xz", "xz"),
     (".zip", "zip"),
+    (".7z", "7z"),
+    (".rar", "rar"),
     (".bas", "bas"),
     (".prg", "prg"),
     (".petcat", "petcat"),
@@ -314,18 +335,6 @@ const FOREIGN_OUTPUTS: &[Ending] = &[
 
 /// No ending says anything.
 const NO_ENDINGS: &[Ending] = &[];
-
-/// An option with a value that no file's name gives.
-const PLAIN: OptionRow = OptionRow {
-    kind: Kind::Value,
-    name: "",
-    value: "",
-    default: "",
-    file: "",
-    endings: NO_ENDINGS,
-    values: "",
-    help: "",
-};
 
 // What help says of the options, and their values in a few words.
 
@@ -452,207 +461,123 @@ const BOUNDS_HELP: &str = "Bounds of intervals: profile (this project's)\n\
 
 const BOUNDS_VALUES: &str = "profile or guide";
 
+/// The row of an option with a value that no file's name gives.
+fn valued(
+    name: &'static str,
+    value: &'static str,
+    default: &'static str,
+    values: &'static str,
+    help: &'static str,
+) -> OptionRow
+    ensures { row_view result ≡ plain name.now default.now values.now help.now }
+{
+    OptionRow {
+        kind: Kind::Value,
+        name,
+        value,
+        default,
+        file: "",
+        endings: NO_ENDINGS,
+        values,
+        help,
+    }
+}
+
+/// The row of an option whose value the ending of a file's name can give.
+fn with_endings(row: OptionRow, file: &'static str, endings: &'static [Ending]) -> OptionRow
+    ensures { row_view result ≡ by_file file.now (endings_view endings.now) (row_view row) }
+{
+    OptionRow {
+        file,
+        endings,
+        ..row
+    }
+}
+
+/// The row of an option without a value, or of one that names a file.
+fn bare(kind: Kind, name: &'static str, value: &'static str, help: &'static str) -> OptionRow
+    ensures { row_view result ≡ no_value kind name.now help.now }
+{
+    OptionRow {
+        kind,
+        ..valued(name, value, "", "", help)
+    }
+}
+
 impl Opt {
     /// What is known of this option.
     pub(crate) fn row(self) -> OptionRow
         ensures { row_view result ≡ row self }
     {
         match self {
-            Opt::ListingFrom => OptionRow {
-                name: "from",
-                value: "FORM",
-                default: "text",
-                file: INPUT_NAME,
-                endings: LISTING_ENDINGS,
-                values: LISTING_FROM_VALUES,
-                help: LISTING_FROM_HELP,
-                ..PLAIN
-            },
-            Opt::From => OptionRow {
-                name: "from",
-                value: "FORMAT",
-                default: "text",
-                file: INPUT_NAME,
-                endings: RECORDING_ENDINGS,
-                values: FROM_VALUES,
-                help: FROM_HELP,
-                ..PLAIN
-            },
-            Opt::ReadingFrom => OptionRow {
-                name: "from",
-                value: "FORMAT",
-                default: "auto",
-                file: INPUT_NAME,
-                endings: READING_FROM_ENDINGS,
-                values: READING_FROM_VALUES,
-                help: READING_FROM_HELP,
-                ..PLAIN
-            },
-            Opt::Present => OptionRow {
-                name: "present",
-                value: "PRINTERS",
-                default: "both",
-                values: PRESENT_VALUES,
-                help: PRESENT_HELP,
-                ..PLAIN
-            },
-            Opt::Delays => OptionRow {
-                name: "delays",
-                value: "LISTS",
-                values: DELAYS_VALUES,
-                help: DELAYS_HELP,
-                ..PLAIN
-            },
-            Opt::Status => OptionRow {
-                name: "status",
-                value: "MODE",
-                default: "each",
-                values: STATUS_VALUES,
-                help: STATUS_HELP,
-                ..PLAIN
-            },
-            Opt::Set => OptionRow {
-                name: "set",
-                value: "SET",
-                default: "upper",
-                values: SET_VALUES,
-                help: SET_HELP,
-                ..PLAIN
-            },
-            Opt::Names => OptionRow {
-                name: "names",
-                value: "NAMES",
-                default: "ATN,CLOCK,DATA",
-                values: NAMES_VALUES,
-                help: NAMES_HELP,
-                ..PLAIN
-            },
-            Opt::Invert => OptionRow {
-                kind: Kind::Flag,
-                name: "invert",
-                help: INVERT_HELP,
-                ..PLAIN
-            },
-            Opt::FromTime => OptionRow {
-                name: "from-time",
-                value: "TIME",
-                default: "0",
-                values: FROM_TIME_VALUES,
-                help: FROM_TIME_HELP,
-                ..PLAIN
-            },
-            Opt::Rate => OptionRow {
-                name: "rate",
-                value: "RATE",
-                default: "none",
-                values: RATE_VALUES,
-                help: RATE_HELP,
-                ..PLAIN
-            },
-            Opt::PageAs => OptionRow {
-                name: "as",
-                value: "FORMAT",
-                default: "list",
-                file: OUTPUT_NAME,
-                endings: PAGE_ENDINGS,
-                values: PAGE_AS_VALUES,
-                help: PAGE_AS_HELP,
-                ..PLAIN
-            },
-            Opt::RawAs => OptionRow {
-                name: "as",
-                value: "FORMAT",
-                default: "list",
-                file: OUTPUT_NAME,
-                endings: PAGE_ENDINGS,
-                values: RAW_AS_VALUES,
-                help: RAW_AS_HELP,
-                ..PLAIN
-            },
-            Opt::TraceAs => OptionRow {
-                name: "as",
-                value: "FORMAT",
-                default: "text",
-                file: OUTPUT_NAME,
-                endings: TRACE_ENDINGS,
-                values: TRACE_AS_VALUES,
-                help: TRACE_AS_HELP,
-                ..PLAIN
-            },
-            Opt::ReportAs => OptionRow {
-                name: "as",
-                value: "FORMAT",
-                default: "frames",
-                file: OUTPUT_NAME,
-                endings: REPORT_ENDINGS,
-                values: REPORT_AS_VALUES,
-                help: REPORT_AS_HELP,
-                ..PLAIN
-            },
-            Opt::ReadingAs => OptionRow {
-                name: "as",
-                value: "FORMAT",
-                default: "list",
-                file: OUTPUT_NAME,
-                endings: READING_ENDINGS,
-                values: READING_AS_VALUES,
-                help: READING_AS_HELP,
-                ..PLAIN
-            },
-            Opt::Explain => OptionRow {
-                kind: Kind::Flag,
-                name: "explain",
-                help: EXPLAIN_HELP,
-                ..PLAIN
-            },
-            Opt::Quiet => OptionRow {
-                kind: Kind::Flag,
-                name: "quiet",
-                help: QUIET_HELP,
-                ..PLAIN
-            },
-            Opt::Device => OptionRow {
-                name: "device",
-                value: "PRINTER",
-                values: DEVICE_VALUES,
-                help: DEVICE_HELP,
-                ..PLAIN
-            },
-            Opt::RawDevice => OptionRow {
-                name: "device",
-                value: "PRINTER",
-                values: DEVICE_VALUES,
-                help: RAW_DEVICE_HELP,
-                ..PLAIN
-            },
-            Opt::Sheet => OptionRow {
-                name: "sheet",
-                value: "NUMBER",
-                values: SHEET_VALUES,
-                help: SHEET_HELP,
-                ..PLAIN
-            },
-            Opt::Characters => OptionRow {
-                kind: Kind::File,
-                name: "characters",
-                value: "FILE",
-                help: CHARACTERS_HELP,
-                ..PLAIN
-            },
-            Opt::Intervals => OptionRow {
-                kind: Kind::Flag,
-                name: "intervals",
-                help: INTERVALS_HELP,
-                ..PLAIN
-            },
-            Opt::Bounds => OptionRow {
-                name: "bounds",
-                value: "BOUNDS",
-                default: "profile",
-                values: BOUNDS_VALUES,
-                help: BOUNDS_HELP,
-                ..PLAIN
-            },
+            Opt::ListingFrom => with_endings(
+                valued(
+                    "from",
+                    "FORM",
+                    "text",
+                    LISTING_FROM_VALUES,
+                    LISTING_FROM_HELP,
+                ),
+                INPUT_NAME,
+                LISTING_ENDINGS,
+            ),
+            Opt::From => with_endings(
+                valued("from", "FORMAT", "text", FROM_VALUES, FROM_HELP),
+                INPUT_NAME,
+                RECORDING_ENDINGS,
+            ),
+            Opt::ReadingFrom => with_endings(
+                valued(
+                    "from",
+                    "FORMAT",
+                    "auto",
+                    READING_FROM_VALUES,
+                    READING_FROM_HELP,
+                ),
+                INPUT_NAME,
+                READING_FROM_ENDINGS,
+            ),
+            Opt::Present => valued("present", "PRINTERS", "both", PRESENT_VALUES, PRESENT_HELP),
+            Opt::Delays => valued("delays", "LISTS", "", DELAYS_VALUES, DELAYS_HELP),
+            Opt::Status => valued("status", "MODE", "each", STATUS_VALUES, STATUS_HELP),
+            Opt::Set => valued("set", "SET", "upper", SET_VALUES, SET_HELP),
+            Opt::Names => valued("names", "NAMES", "ATN,CLOCK,DATA", NAMES_VALUES, NAMES_HELP),
+            Opt::Invert => bare(Kind::Flag, "invert", "", INVERT_HELP),
+            Opt::FromTime => valued("from-time", "TIME", "0", FROM_TIME_VALUES, FROM_TIME_HELP),
+            Opt::Rate => valued("rate", "RATE", "none", RATE_VALUES, RATE_HELP),
+            Opt::PageAs => with_endings(
+                valued("as", "FORMAT", "list", PAGE_AS_VALUES, PAGE_AS_HELP),
+                OUTPUT_NAME,
+                PAGE_ENDINGS,
+            ),
+            Opt::RawAs => with_endings(
+                valued("as", "FORMAT", "list", RAW_AS_VALUES, RAW_AS_HELP),
+                OUTPUT_NAME,
+                PAGE_ENDINGS,
+            ),
+            Opt::TraceAs => with_endings(
+                valued("as", "FORMAT", "text", TRACE_AS_VALUES, TRACE_AS_HELP),
+                OUTPUT_NAME,
+                TRACE_ENDINGS,
+            ),
+            Opt::ReportAs => with_endings(
+                valued("as", "FORMAT", "frames", REPORT_AS_VALUES, REPORT_AS_HELP),
+                OUTPUT_NAME,
+                REPORT_ENDINGS,
+            ),
+            Opt::ReadingAs => with_endings(
+                valued("as", "FORMAT", "list", READING_AS_VALUES, READING_AS_HELP),
+                OUTPUT_NAME,
+                READING_ENDINGS,
+            ),
+            Opt::Explain => bare(Kind::Flag, "explain", "", EXPLAIN_HELP),
+            Opt::Quiet => bare(Kind::Flag, "quiet", "", QUIET_HELP),
+            Opt::Device => valued("device", "PRINTER", "", DEVICE_VALUES, DEVICE_HELP),
+            Opt::RawDevice => valued("device", "PRINTER", "", DEVICE_VALUES, RAW_DEVICE_HELP),
+            Opt::Sheet => valued("sheet", "NUMBER", "", SHEET_VALUES, SHEET_HELP),
+            Opt::Characters => bare(Kind::File, "characters", "FILE", CHARACTERS_HELP),
+            Opt::Intervals => bare(Kind::Flag, "intervals", "", INTERVALS_HELP),
+            Opt::Bounds => valued("bounds", "BOUNDS", "profile", BOUNDS_VALUES, BOUNDS_HELP),
         }
     }
 }
