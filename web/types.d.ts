@@ -20,6 +20,7 @@ declare module 'node:fs' {
   export function existsSync(name: string | URL): boolean;
   export function fchmodSync(file: number, mode: number): void;
   export function fstatSync(file: number): { mode: number; isFile(): boolean };
+  export function fstatSync(file: number, how: { bigint: true }): { ino: bigint; dev: bigint; isFile(): boolean };
   export function fsyncSync(file: number): void;
   export function openSync(name: string, flags: string | number): number;
   export function readFileSync(name: string | URL): Buffer;
@@ -29,6 +30,7 @@ declare module 'node:fs' {
   export function realpathSync(name: string): string;
   export function renameSync(name: string, next: string): void;
   export function rmSync(name: string | URL, options: { force: boolean }): void;
+  export function statSync(name: string, how: { bigint: true }): { ino: bigint; dev: bigint; isFile(): boolean };
   export function writeFileSync(name: URL, bytes: Uint8Array): void;
   export function writeSync(file: number, bytes: Uint8Array, at: number, length: number): number;
 }
