@@ -141,7 +141,7 @@ async function run(words, files) {
   /** @type {import('./print1525.mjs').Asked} */
   const asked = { words, explained: process.env.PRINT1525_EXPLAIN === '1' };
   const refusedBoth = read => {
-    tell(`print1525: ${shown(read)}: this file is read, and --output names it too\n`);
+    tell(Buffer.from(`print1525: ${shown(read)}: this file is read, and --output names it too\n`));
     return 2;
   };
   if (characters !== null && place !== null && files.areSame(characters, place)) return refusedBoth(characters);
