@@ -524,7 +524,7 @@ fn form_of(job: &Job<'_>) -> ListingForm
 
 /// Does a job over a reader and a writer, and gives how it ends and the writer. Where more is to
 /// be said, the input is kept, since a trace text's first bad line may be its last; a file is read again instead, when the
-/// job has freed what it kept. For notes alone a script is kept, and no other input.
+/// job has freed what it kept. For notes alone a script or a printer's bytes are kept, and no other input.
 fn answer_over<R: Read + Drop, W: Write + Drop>(
     rt: &(impl Outside + Eprint + AllocGlobal),
     reader: R,
