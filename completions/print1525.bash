@@ -16,14 +16,14 @@ _print1525() {
         before=${COMP_WORDS[COMP_CWORD - 2]}
     fi
     case $command/$before in
-        pages/--from) words='text prg petcat' ;;
+        pages/--from) words='auto text prg petcat magazine' ;;
         pages/--present) words='none 4 5 both' ;;
         pages/--delays) return ;;
         pages/--status) words='each kept' ;;
         pages/--as) words='list text svg png pdf bytes' ;;
         pages/--device) words='4 5' ;;
         pages/--sheet) return ;;
-        bus/--from) words='text prg petcat' ;;
+        bus/--from) words='auto text prg petcat magazine' ;;
         bus/--present) words='none 4 5 both' ;;
         bus/--delays) return ;;
         bus/--status) words='each kept' ;;

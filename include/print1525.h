@@ -175,13 +175,14 @@ enum print1525_fault {
     PRINT1525_FAULT_BAD_CHARACTER_LINE = 52,
     /* refused: a number that means no form of a listing; `place` is 0 */
     PRINT1525_FAULT_NO_SUCH_FORM = 60,
-    /* refused: of a listing. It has no load address (`place` is 0); it ends within a line; in a string of petcat's
-     * text a brace has no name that petcat writes, or a byte is one that petcat does not write. `place` is the line,
-     * from 1, and `column` of the last two the column, from 1 */
+    /* refused: of a listing. It has no load address, or no line (`place` is 0); it ends within a line; in a string of
+     * petcat's text or of a magazine's listing a brace has no name that they have, or a byte is one that they do not
+     * have. `place` is the line, from 1, and `column` of the two after it the column, from 1 */
     PRINT1525_FAULT_NOT_SAVED = 61,
     PRINT1525_FAULT_CUT_OFF = 62,
     PRINT1525_FAULT_UNKNOWN_NAME = 63,
     PRINT1525_FAULT_BAD_CHARACTER = 64,
+    PRINT1525_FAULT_NO_LINE = 65,
     /* refused: of a recording: a dump or a table; `place` is the line, from 1 */
     PRINT1525_FAULT_BAD_TIMESCALE = 70,
     PRINT1525_FAULT_NO_TIME = 71,
@@ -227,8 +228,15 @@ enum print1525_present {
 };
 /* `mode`: the status is cleared before each statement, or kept. */
 enum print1525_mode { PRINT1525_MODE_EACH = 0, PRINT1525_MODE_KEPT = 1 };
-/* `from`: what a script is: its text, a saved program (a `.prg` file), or petcat's text of one. */
-enum print1525_from { PRINT1525_FROM_TEXT = 0, PRINT1525_FROM_PRG = 1, PRINT1525_FROM_PETCAT = 2 };
+/* `from`: what a script is: its text, a saved program (a `.prg` file), petcat's text of one, a listing as
+ * magazines print it, or what its first bytes show. */
+enum print1525_from {
+    PRINT1525_FROM_TEXT = 0,
+    PRINT1525_FROM_PRG = 1,
+    PRINT1525_FROM_PETCAT = 2,
+    PRINT1525_FROM_MAGAZINE = 3,
+    PRINT1525_FROM_AUTO = 4
+};
 /* `page`: a line for each row and mark, lines of 80 columns, an SVG document, a sheet of eleven inches as a PNG file,
  * or a PDF document of all sheets. */
 enum print1525_page {
@@ -912,6 +920,7 @@ PRINT1525_CALL const char *print1525_strerror(int fault) {
     case PRINT1525_FAULT_CUT_OFF: return "cut off";
     case PRINT1525_FAULT_UNKNOWN_NAME: return "unknown name";
     case PRINT1525_FAULT_BAD_CHARACTER: return "bad byte";
+    case PRINT1525_FAULT_NO_LINE: return "saved program without a line";
     case PRINT1525_FAULT_BAD_TIMESCALE: return "bad timescale";
     case PRINT1525_FAULT_NO_TIME: return "no time";
     case PRINT1525_FAULT_UTF_16: return "UTF-16 text";

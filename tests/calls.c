@@ -608,20 +608,20 @@ static void try_settings(void) {
         {"raw", 0, 0, 0, PRINT1525_PAGE_PNG, 0, 0, PRINT1525_FAULT_NO_SUCH_FORMAT, 3, 1}, {"print", 0, 0, 0, PRINT1525_PAGE_PDF, 0, 0, PRINT1525_FAULT_NO_SUCH_FORMAT, 1, 0},
         {"print", 0, 0, 0, PRINT1525_PAGE_LIST, 0, 0, PRINT1525_FAULT_NO_SUCH_FORMAT, 5, 0}, {"reprint", 0, 0, 0, PRINT1525_PAGE_TEXT, 0, 0, PRINT1525_FAULT_NO_SUCH_FORMAT, 5, 0},
         {"reprint", 0, 0, 0, PRINT1525_PAGE_SVG, 0, 0, PRINT1525_FAULT_NO_SUCH_FORMAT, 255, 0}, {"reprint", 9, 9, 9, 5, 9, 9, PRINT1525_FAULT_NO_SUCH_FORMAT, 0, 0},
-        {"pages", 4, 0, 0, 0, 0, 0, PRINT1525_FAULT_NO_SUCH_PRINTERS, 0, 0}, {"pages", 255, 2, 3, 5, 9, 9, PRINT1525_FAULT_NO_SUCH_PRINTERS, 0, 0},
-        {"pages", 3, 2, 0, 0, 0, 0, PRINT1525_FAULT_NO_SUCH_STATUS, 0, 0},   {"pages", 3, 255, 3, 5, 9, 9, PRINT1525_FAULT_NO_SUCH_STATUS, 0, 0},
+        {"pages", 4, 0, 0, 0, 0, 0, PRINT1525_FAULT_NO_SUCH_PRINTERS, 0, 0}, {"pages", 255, 2, 5, 5, 9, 9, PRINT1525_FAULT_NO_SUCH_PRINTERS, 0, 0},
+        {"pages", 3, 2, 0, 0, 0, 0, PRINT1525_FAULT_NO_SUCH_STATUS, 0, 0},   {"pages", 3, 255, 5, 5, 9, 9, PRINT1525_FAULT_NO_SUCH_STATUS, 0, 0},
         {"pages", 3, 1, 0, 5, 0, 0, PRINT1525_FAULT_NO_SUCH_FORMAT, 0, 0},   {"pages", 0, 0, 255, 255, 9, 9, PRINT1525_FAULT_NO_SUCH_FORMAT, 0, 0},
-        {"bus", 4, 0, 0, 0, 0, 0, PRINT1525_FAULT_NO_SUCH_PRINTERS, 0, 0},   {"bus", 255, 2, 3, 9, 2, 9, PRINT1525_FAULT_NO_SUCH_PRINTERS, 0, 0},
-        {"bus", 3, 2, 0, 0, 0, 0, PRINT1525_FAULT_NO_SUCH_STATUS, 0, 0},     {"bus", 3, 255, 3, 9, 2, 9, PRINT1525_FAULT_NO_SUCH_STATUS, 0, 0},
+        {"bus", 4, 0, 0, 0, 0, 0, PRINT1525_FAULT_NO_SUCH_PRINTERS, 0, 0},   {"bus", 255, 2, 5, 9, 2, 9, PRINT1525_FAULT_NO_SUCH_PRINTERS, 0, 0},
+        {"bus", 3, 2, 0, 0, 0, 0, PRINT1525_FAULT_NO_SUCH_STATUS, 0, 0},     {"bus", 3, 255, 5, 9, 2, 9, PRINT1525_FAULT_NO_SUCH_STATUS, 0, 0},
         {"bus", 3, 1, 0, 0, 2, 0, PRINT1525_FAULT_NO_SUCH_FORMAT, 0, 0},     {"bus", 0, 0, 255, 9, 255, 9, PRINT1525_FAULT_NO_SUCH_FORMAT, 0, 0},
         {"raw", 9, 9, 9, 0, 9, 2, PRINT1525_FAULT_NO_SUCH_SET, 0, 0},        {"raw", 0, 0, 0, 5, 0, 255, PRINT1525_FAULT_NO_SUCH_SET, 0, 0},
         {"raw", 9, 9, 9, 5, 9, 1, PRINT1525_FAULT_NO_SUCH_FORMAT, 0, 0},     {"raw", 0, 0, 0, 255, 0, 0, PRINT1525_FAULT_NO_SUCH_FORMAT, 0, 0},
         {"print", 9, 9, 9, 5, 9, 9, PRINT1525_FAULT_NO_SUCH_FORMAT, 0, 0},   {"print", 0, 0, 0, 255, 0, 0, PRINT1525_FAULT_NO_SUCH_FORMAT, 0, 0},
-        {"listing", 9, 9, 3, 9, 9, 9, PRINT1525_FAULT_NO_SUCH_FORM, 0, 0},   {"listing", 0, 0, 255, 0, 0, 0, PRINT1525_FAULT_NO_SUCH_FORM, 0, 0},
-        {"pages", 3, 0, 3, 0, 0, 0, PRINT1525_FAULT_NO_SUCH_FORM, 0, 0},     {"bus", 3, 0, 255, 0, 0, 0, PRINT1525_FAULT_NO_SUCH_FORM, 0, 0},
+        {"listing", 9, 9, 5, 9, 9, 9, PRINT1525_FAULT_NO_SUCH_FORM, 0, 0},   {"listing", 0, 0, 255, 0, 0, 0, PRINT1525_FAULT_NO_SUCH_FORM, 0, 0},
+        {"pages", 3, 0, 5, 0, 0, 0, PRINT1525_FAULT_NO_SUCH_FORM, 0, 0},     {"bus", 3, 0, 255, 0, 0, 0, PRINT1525_FAULT_NO_SUCH_FORM, 0, 0},
         {"explain_stop", 4, 9, 9, 9, 9, 9, PRINT1525_FAULT_NO_SUCH_PRINTERS, 0, 0}, {"explain_stop", 3, 2, 9, 9, 9, 9, PRINT1525_FAULT_NO_SUCH_STATUS, 0, 0},
-        {"explain_stop", 3, 1, 0, 9, 9, 9, PRINT1525_FAULT_NO_SUCH_STOP, 0, 0}, {"explain_stop", 3, 1, 3, 9, 9, 9, PRINT1525_FAULT_NO_SUCH_FORM, 0, 0},
-        {"explain_script", 9, 9, 3, 9, 9, 9, PRINT1525_FAULT_NO_SUCH_FORM, 0, 0},
+        {"explain_stop", 3, 1, 0, 9, 9, 9, PRINT1525_FAULT_NO_SUCH_STOP, 0, 0}, {"explain_stop", 3, 1, 5, 9, 9, 9, PRINT1525_FAULT_NO_SUCH_FORM, 0, 0},
+        {"explain_script", 9, 9, 5, 9, 9, 9, PRINT1525_FAULT_NO_SUCH_FORM, 0, 0},
     };
     static const struct {
         const char *name;
@@ -711,7 +711,7 @@ static void try_settings(void) {
     for (row = 0; row < 10; row++) {
         j.name = drawing[row / 2];
         j.settings = defaults;
-        if (row >= 8) j.settings.from = 3; /* (refused after them) */
+        if (row >= 8) j.settings.from = 5; /* (refused after them) */
         j.settings.page = row % 2 ? PRINT1525_PAGE_SVG : PRINT1525_PAGE_LIST;
         j.settings.characters = bad.bytes;
         j.settings.characters_length = bad.size;
@@ -1059,7 +1059,7 @@ static void set(job *j, int words, char **word) {
     static const uint8_t presents[] = {PRINT1525_PRESENT_NONE, PRINT1525_PRESENT_4, PRINT1525_PRESENT_5, PRINT1525_PRESENT_BOTH};
     static const uint8_t modes[] = {PRINT1525_MODE_EACH, PRINT1525_MODE_KEPT}, sets[] = {PRINT1525_SET_UPPER, PRINT1525_SET_LOWER};
     static const uint8_t pages[] = {PRINT1525_PAGE_LIST, PRINT1525_PAGE_TEXT, PRINT1525_PAGE_SVG, PRINT1525_PAGE_PNG, PRINT1525_PAGE_PDF};
-    static const uint8_t traces[] = {PRINT1525_TRACE_TEXT, PRINT1525_TRACE_VCD}, forms[] = {PRINT1525_FROM_TEXT, PRINT1525_FROM_PRG, PRINT1525_FROM_PETCAT};
+    static const uint8_t traces[] = {PRINT1525_TRACE_TEXT, PRINT1525_TRACE_VCD}, forms[] = {PRINT1525_FROM_TEXT, PRINT1525_FROM_PRG, PRINT1525_FROM_PETCAT, PRINT1525_FROM_MAGAZINE, PRINT1525_FROM_AUTO};
     static const uint8_t recordings[] = {PRINT1525_RECORDING_TEXT, PRINT1525_RECORDING_VCD, PRINT1525_RECORDING_CSV, PRINT1525_RECORDING_FOUND, PRINT1525_RECORDING_FOUND_OR_CSV};
     static const uint8_t kinds[] = {PRINT1525_WORDS_LIST, PRINT1525_WORDS_STORY, PRINT1525_WORDS_JSON}, bounds[] = {PRINT1525_BOUNDS_PROFILE, PRINT1525_BOUNDS_GUIDE};
     print1525_settings *const s = &j->settings;

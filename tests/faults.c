@@ -12,6 +12,9 @@
  * FAULT_SLOW=1   each read and write moves one byte
  * FAULT_SIGNAL=1 a signal interrupts each read and write, and each moves bytes when it is made again
  * FAULT_MARK=F   the file F is made when a fault happens
+ * FAULT_CALLS=F  the file F gets a line for each call by which a file is written, with the names that it has: open, create, link,
+ *                mode, write, sync, rename and remove; also of one that fails. The standard streams and files that are only read do
+ *                not count
  */
 #define _GNU_SOURCE
 #include <errno.h>
@@ -44,6 +47,21 @@ static int fails(const char *name, long *count)
     if (mark)
         syscall(SYS_close, syscall(SYS_openat, AT_FDCWD, mark, O_CREAT | O_WRONLY, 0600));
     return 1;
+}
+
+/* Adds a call to the file of FAULT_CALLS. */
+static void told(const char *call, const char *name, const char *other)
+{
+    const char *calls = getenv("FAULT_CALLS");
+    if (!calls)
+        return;
+    char line[1000];
+    int size = snprintf(line, sizeof line, "%s%s%s%s%s\n", call, *name ? " " : "", name, *other ? " " : "", other);
+    if (size >= (int)sizeof line)
+        size = sizeof line - 1;
+    long file = syscall(SYS_openat, AT_FDCWD, calls, O_CREAT | O_WRONLY | O_APPEND, 0600);
+    syscall(SYS_write, file, line, size);
+    syscall(SYS_close, file);
 }
 
 static long allocations, reads, writes, fulls, opens, modes, links, syncs, renames;
@@ -114,6 +132,8 @@ ssize_t read(int file, void *place, size_t size)
 
 ssize_t write(int file, const void *bytes, size_t size)
 {
+    if (file > 2)
+        told("write", "", "");
     if (file != 2) {
         if (interrupted(&write_interrupted))
             return -1;
@@ -139,6 +159,8 @@ int open(const char *name, int flags, ...)
         mode = va_arg(rest, mode_t);
         va_end(rest);
     }
+    if ((flags & O_ACCMODE) != O_RDONLY)
+        told(flags & O_EXCL ? "create" : "open", name, "");
     if (fails("FAULT_OPEN", &opens)) {
         errno = EACCES;
         return -1;
@@ -148,6 +170,7 @@ int open(const char *name, int flags, ...)
 
 int fchmod(int file, mode_t mode)
 {
+    told("mode", "", "");
     if (fails("FAULT_MODE", &modes)) {
         errno = EPERM;
         return -1;
@@ -157,6 +180,7 @@ int fchmod(int file, mode_t mode)
 
 ssize_t readlink(const char *restrict name, char *restrict place, size_t size)
 {
+    told("link", name, "");
     if (fails("FAULT_LINK", &links)) {
         errno = EIO;
         return -1;
@@ -166,6 +190,7 @@ ssize_t readlink(const char *restrict name, char *restrict place, size_t size)
 
 int fsync(int file)
 {
+    told("sync", "", "");
     if (fails("FAULT_SYNC", &syncs)) {
         errno = EIO;
         return -1;
@@ -175,9 +200,16 @@ int fsync(int file)
 
 int rename(const char *from, const char *to)
 {
+    told("rename", from, to);
     if (fails("FAULT_RENAME", &renames)) {
         errno = EXDEV;
         return -1;
     }
     return syscall(SYS_renameat2, AT_FDCWD, from, AT_FDCWD, to, 0);
+}
+
+int unlink(const char *name)
+{
+    told("remove", name, "");
+    return syscall(SYS_unlinkat, AT_FDCWD, name, 0);
 }

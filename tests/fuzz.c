@@ -136,7 +136,7 @@ static print1525_settings made_settings(uint8_t *memories[4]) {
         made.rate = below(4) ? 0 : drawn() >> below(64);
         made.present = (uint8_t)below(4);
         made.mode = (uint8_t)below(2);
-        made.from = (uint8_t)(below(4) ? 0 : below(3));
+        made.from = (uint8_t)(below(4) ? 0 : below(5));
         made.page = (uint8_t)below(5);
         made.trace = (uint8_t)below(2);
         made.set = (uint8_t)below(2);

@@ -1,12 +1,13 @@
 #!/usr/bin/env python3
-"""tests/listings.py PROGRAM [COUNT]: one listing in three forms prints the same.
+"""tests/listings.py PROGRAM [COUNT]: one listing in four forms prints the same.
 
 It makes COUNT listings (200 where none is given) of random statements from a fixed seed. Each is written as the text
-of a script, as a saved program and as petcat's text; PROGRAM prints all three, and writes their traces. It also writes
-each byte in a string, as the two forms that can hold it, and cuts saved programs off at each place: the exit status
-is 2, a line is on standard error, and nothing on standard output. It prints what differs and ends with 1 then.
+of a script, as a saved program, as petcat's text and as a magazine prints it; PROGRAM prints all four, and writes their
+traces. It also writes each byte in a string, as the three forms that can hold it, and cuts saved programs off at each
+place: the exit status is 2, a line is on standard error, and nothing on standard output. It prints what differs and
+ends with 1 then.
 
-    tests/listings.py --make SEED text|prg|petcat       writes one such listing in one form
+    tests/listings.py --make SEED text|prg|petcat|magazine  writes one such listing in one form
     tests/listings.py --prg < PETCAT > PROGRAM.prg      saves petcat's text as a program, as LOAD address $0801 wants it
 
 The forms are made here from what the Commodore 64's manuals say of tokens and lines, and from petcat's names."""
@@ -45,6 +46,29 @@ def name_of(byte, rng):
     if 1 <= byte <= 26 and byte not in NAMES and byte != 13:
         return "{CTRL-%c}" % (byte + 64)
     return "{$%02x}" % byte
+
+
+MAGAZINE = {18: ["RVS", "RVS ON", "CTRL 9"], 146: ["OFF", "RVS OFF", "CTRL 0"], 29: ["RIGHT", "CRSR RT"], 222: ["PI"],
+    94: ["UP ARROW"], 95: ["BACK ARROW"], 17: ["DOWN", "CRSR DN"], 145: ["UP", "CRSR UP"], 157: ["LEFT", "CRSR LF"],
+    147: ["CLR", "SHIFT CLR/HOME"], 144: ["BLK", "CTRL 1"], 5: ["WHT", "CTRL 2", "E"], 28: ["RED", "CTRL 3"],
+    159: ["CYN", "CTRL 4"], 156: ["PUR", "CTRL 5"], 30: ["GRN", "CTRL 6"], 31: ["BLU", "CTRL 7"], 158: ["YEL", "CTRL 8"],
+    129: ["COMD 1"], 149: ["COMD 2"], 150: ["COMD 3"], 151: ["COMD 4"], 152: ["COMD 5"], 153: ["COMD 6"],
+    154: ["COMD 7"], 155: ["COMD 8"], 32: ["SPACE"], 160: ["SHIFT-SPACE"], 27: ["ESC"], 148: ["INST"], 20: ["DEL", "T"]}
+
+
+def magazine_name(byte, rng):
+    """A byte in a magazine's listing: as a character, by a name or by its number, now and then with a count."""
+    if 32 <= byte <= 95 and byte != 34 and rng.random() < 0.9:
+        return chr(byte)
+    names = MAGAZINE.get(byte, [])
+    if 1 <= byte <= 26:
+        names = names + [chr(byte + 64)]
+    if 193 <= byte <= 218:
+        names = names + ["SHIFT-%c" % (byte - 128)]
+    name = rng.choice(names) if names and rng.random() < 0.9 else "$%02X" % byte
+    if rng.random() < 0.2:
+        name = "1 " + name + rng.choice(["", "S"])
+    return "{%s}" % (name if rng.random() < 0.7 else name.lower())
 
 
 # A statement is a list of parts: a keyword, a bytes object (a string), or other text.
@@ -150,6 +174,18 @@ def as_petcat(lines, rng):
     return "".join(rows).encode("latin-1")
 
 
+def as_magazine(lines, rng):
+    """The listing as a magazine prints it: capitals, and names of keys."""
+    rows = []
+    for number, statements in lines:
+        texts = []
+        for parts in statements:
+            texts.append("".join('"%s"' % "".join(magazine_name(b, rng) for b in part) if isinstance(part, bytes) else part
+                for part in parts))
+        rows.append("%d %s%s" % (number, ":".join(texts), rng.choice(["\n", "\r\n"])))
+    return "".join(rows).encode("latin-1")
+
+
 def bytes_of(line):
     """The bytes of petcat's text in a string; only what the examples have."""
     out, rest = bytearray(), line
@@ -223,7 +259,7 @@ def main():
         rng = random.Random(int(sys.argv[2]))
         lines = listing(rng)
         sys.stdout.buffer.write({"text": lambda: as_text(lines), "prg": lambda: as_program(lines, rng),
-            "petcat": lambda: as_petcat(lines, rng)}[sys.argv[3]]())
+            "petcat": lambda: as_petcat(lines, rng), "magazine": lambda: as_magazine(lines, rng)}[sys.argv[3]]())
         return
     if len(sys.argv) < 2 or not os.access(sys.argv[1], os.X_OK):
         sys.exit(__doc__ if len(sys.argv) < 2 else f"tests/listings.py: no program {sys.argv[1]}")
@@ -231,7 +267,8 @@ def main():
     rng = random.Random(1525)
     for i in range(count):
         lines = listing(rng)
-        forms = {"text": as_text(lines), "prg": as_program(lines, rng), "petcat": as_petcat(lines, rng)}
+        forms = {"text": as_text(lines), "prg": as_program(lines, rng), "petcat": as_petcat(lines, rng),
+            "magazine": as_magazine(lines, rng)}
         for words in (["pages"], ["bus"], ["pages", "--as", "text", "--status", "kept"]):
             answers = {form: run(program, words + ["--from", form], data) for form, data in forms.items()}
             if len(set(answers.values())) != 1:
@@ -242,6 +279,9 @@ def main():
         petcat = b'open4,4:print#4,"a{$%02X}b"' % byte
         if run(program, ["bus", "--from", "petcat"], petcat) != wanted:
             fail("byte %d by its number in petcat's text" % byte)
+        magazine = b'OPEN4,4:PRINT#4,"A{$%02X}B"' % byte
+        if run(program, ["bus", "--from", "magazine"], magazine) != wanted:
+            fail("byte %d by its number in a magazine's listing" % byte)
         if byte not in (0, 34) and run(program, ["bus", "--from", "prg"], as_program(say, rng)) != wanted:
             fail("byte %d in a saved program" % byte)
     whole = save('10 open 4,4\n20 print#4,"{rvon}a"\n30 close 4\n')
@@ -258,7 +298,7 @@ def main():
         wanted = b"print1525: not a saved program\n" if n < 2 else b"print1525: line %d: cut off\n" % line
         if (status, out, error) != (2, b"", wanted):
             fail("cut off after %d bytes: %r" % (n, (status, out, error, wanted)))
-    print("%d listings in three forms, 256 bytes, %d cuts: %d failed" % (count, len(whole), failed))
+    print("%d listings in four forms, 256 bytes, %d cuts: %d failed" % (count, len(whole), failed))
     sys.exit(failed > 0)
 
 

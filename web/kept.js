@@ -4,7 +4,7 @@ import { $, decode, encode, fromBase64, toBase64 } from './basics.js';
 import { EARLIER_LIMIT, editor, LINK_LIMIT, LISTING_LIMIT, LONG, notice, print, state, tellOnce, wave } from './page.js';
 import { leaveReads, leaveSource, take } from './files.js';
 import { showChoices } from './controls.js';
-import { delaysOf, PRESENT, STATUS } from './asked.js';
+import { delaysOf, hasNames, PRESENT, STATUS } from './asked.js';
 
 export let saving = 0, saves = 0;
 
@@ -136,7 +136,7 @@ export async function readAddress(hash) {
     const printers = PRESENT.indexOf(parts.get('p')), delays = decodeURIComponent(parts.get('d') || '');
     const isWord = /^[a-z]*$/.test(delays);      // (earlier pages had others)
     return {
-      text, form: parts.get('f') === 'petcat' ? 'petcat' : 'text', printers: printers < 0 ? 3 : printers, status: Math.max(STATUS.indexOf(parts.get('s')), 0),
+      text, form: hasNames(parts.get('f')) ? parts.get('f') : 'text', printers: printers < 0 ? 3 : printers, status: Math.max(STATUS.indexOf(parts.get('s')), 0),
       delays: isWord ? 'typical' : 'lists', lists: isWord ? ['', '', ''] : [...delays.split('/'), '', ''].slice(0, 3),
     };
   } catch {

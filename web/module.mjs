@@ -261,11 +261,12 @@ export const loadPrint1525 = (() => {
         const parts = new TextDecoder().decode(output).split('\0');
         return { status, names: [0, 1, 2].map(index => (parts[index] ? parts[index].slice(1) : null)), messages };
       },
-      // The text of the script that a listing says: itself (form 0), that of a saved program (1) or of petcat's text (2).
+      // The text of the script that a listing says: itself (form 0), that of a saved program (1), of
+      // petcat's text (2), of a magazine's listing (3) or of what its first bytes show (4).
       listing({ bytes, form = 0 }) {
         const given = bytesOf('bytes', bytes);
         // Beside a fault the length is its column.
-        return numbered('print1525_listing', [given, numberOf('form', form, 0, 2)], Math.max(ROOM, WIDER * given.length), (memory, at, length, code) => (
+        return numbered('print1525_listing', [given, numberOf('form', form, 0, 4)], Math.max(ROOM, WIDER * given.length), (memory, at, length, code) => (
           code === REFUSED ? { column: length, text: NOTHING } : { column: 0, ...text(memory, at, length) }), 1);
       },
       // The pages of what a printer hears: 0 to 255 a byte, 256 and 257 the selection of the graphic/upper case or the lower/upper

@@ -327,7 +327,7 @@ const charactersOf = (text, bytes) => decode(encode(text).subarray(0, bytes)).le
 const capital = words => words && words[0].toUpperCase() + words.slice(1);
 
 /** A listing that cannot be read: its first fault, at its place. `place` is where the module finds it in a script. */
-function tellRefusal({ name, line, column, explanation, place, inPetcat }, words) {
+function tellRefusal({ name, line, column, explanation, place, inNamed }, words) {
   const upper = capital(name), signs = [], titles = [];
   if (!place) {
     words('first', column ? `${upper} in line ${line}, column ${column}` : line ? `Line ${line}: ${name}` : upper);
@@ -337,9 +337,9 @@ function tellRefusal({ name, line, column, explanation, place, inPetcat }, words
     return editor.tell(signs, titles, { line: line - 1, from, to: Math.max(brace, from) + 1, words: name, kind: 'refused' });
   }
   const { sentence, hints } = explanation, number = place.line - 1, text = editor.line(number);
-  const from = inPetcat ? inPetcat.from : charactersOf(text, place.column - 1), isQuoted = (text.slice(0, from).split('"').length - 1) % 2 === 1;
+  const from = inNamed ? inNamed.from : charactersOf(text, place.column - 1), isQuoted = (text.slice(0, from).split('"').length - 1) % 2 === 1;
   const width = isQuoted ? 1 : Math.max(place.width, /^[a-z]*/i.exec(text.slice(from))[0].length, 1);
-  const first = words('first', `${upper} in line ${place.line}, column ${inPetcat ? from + 1 : place.column}`);
+  const first = words('first', `${upper} in line ${place.line}, column ${inNamed ? from + 1 : place.column}`);
   first.append(' ', button('go there', () => editor.goTo(number, from)));
   words('', capital(withCharacter(sentence, text.slice(from))));
   pageHints(hints).forEach(hint => words('', hint));

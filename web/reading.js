@@ -30,23 +30,29 @@ function wordsOfByte(byte) {
   return `${byte}: prints a graphic sign, or a letter of the lower/upper case set${column}`;
 }
 
-/** The byte of a name that petcat writes, or null. */
+// Names that magazines print and petcat does not write so.
+const KEYS = {
+  clr: 147, up: 145, left: 157, right: 29, rvs: 18, 'rvs on': 18, off: 146, 'rvs off': 146, spaces: 32, 'shift-space': 160, inst: 148,
+  'up arrow': 94, 'back arrow': 95, pi: 222,
+};
+
+/** The byte of a name in braces that petcat writes or a magazine prints, or null. */
 function byteOfName(name) {
   const plain = name.replace(/^\d+ /, '').toLowerCase();
   if (/^\$[0-9a-f]{2}$/.test(plain)) return parseInt(plain.slice(1), 16);
   const low = NAMES[0].indexOf(plain), high = NAMES[1].indexOf(plain);
-  return !plain ? null : low >= 0 ? low : high >= 0 ? 128 + high : plain === 'space' ? 32 : null;
+  return !plain ? null : low >= 0 ? low : high >= 0 ? 128 + high : plain === 'space' ? 32 : KEYS[plain] ?? null;
 }
 
-/** The parts of a string: its codes by name in petcat's text; in a script the small letters, which print something else. */
+/** The parts of a string: its codes by name; in a script the small letters, which print something else. */
 function partsOfString(text, form) {
-  const parts = [], pattern = form === 'petcat' ? /\{([^}]*)\}/g : /[a-z]+/g;
+  const parts = [], isNamed = form !== 'text', pattern = isNamed ? /\{([^}]*)\}/g : /[a-z]+/g;
   let at = 0;
   for (const found of text.matchAll(pattern)) {
     if (found.index > at) parts.push({ text: text.slice(at, found.index), kind: 'string' });
-    const byte = form === 'petcat' ? byteOfName(found[1]) : null;
-    const words = form === 'petcat' ? (byte === null ? '' : wordsOfByte(byte)) : 'small letters, which are sent as they are';
-    parts.push({ text: found[0], kind: form === 'petcat' ? 'code' : 'typed', words });
+    const byte = isNamed ? byteOfName(found[1]) : null;
+    const words = isNamed ? (byte === null ? '' : wordsOfByte(byte)) : 'small letters, which are sent as they are';
+    parts.push({ text: found[0], kind: isNamed ? 'code' : 'typed', words });
     at = found.index + found[0].length;
   }
   if (at < text.length) parts.push({ text: text.slice(at), kind: 'string' });
@@ -80,7 +86,7 @@ export function wordsAt(line, column, form) {
 /** The bytes of a string's text and where each comes from, as `{ byte, from, to }`; `at` is where the text begins. */
 function bytesOfString(text, form, at) {
   const bytes = [];
-  for (const found of text.matchAll(form === 'petcat' ? /\{(\d+ )?([^}]*)\}|[^]/g : /[^]/g)) {
+  for (const found of text.matchAll(form !== 'text' ? /\{(\d+ )?([^}]*)\}|[^]/g : /[^]/g)) {
     const [whole, count, name] = found, place = { from: at + found.index, to: at + found.index + whole.length }, code = whole.charCodeAt(0);
     const letter = form !== 'petcat' ? code : code >= 97 && code <= 122 ? code - 32 : code >= 65 && code <= 90 ? code + 128 : code;
     for (let n = 0; n < (Number(count) || 1); n++) bytes.push({ byte: name === undefined ? letter : byteOfName(name), ...place });

@@ -25,7 +25,7 @@ const WORDS = [
   [/use --from csv/, 'read it as a table of samples'],
   [/use --from text/, 'read it as a trace'],
   [/pages prints it, bus writes its trace/, 'read it as a listing'],
-  [/; --from petcat reads both as typed/, ''],
+  [/; --from petcat reads both as typed.*/, ''],
   [/--from text sends strings as they are/, 'the form “a script” sends strings as they are'],
   [/the letter \S+, as UTF-8 has it, is/, 'this letter is'],
   [/raw --set lower prints them/, 'choose that character set'],

@@ -2,7 +2,7 @@
 // asked; the answer goes back under the job's number. What was printed last is kept for the texts and the clicks.
 
 import { loadPrint1525 } from './module.mjs';
-import { busWords, delaysOf, FORMS, formNumber, pagesWords, rawWords, recordingNumbers, recordingWords, SOURCES } from './asked.js';
+import { busWords, delaysOf, FORMS, formNumber, hasNames, pagesWords, rawWords, recordingNumbers, recordingWords, SOURCES } from './asked.js';
 import { marksMore, marksOf } from './sheets.js';
 import { edgeAt, figuresOf, figuresOfText, frameLines, Frames, lineStarts, textOfEdges, turnsOf, useBounds } from './wire.js';
 
@@ -41,17 +41,17 @@ function answerOf({ status, place, column, messages }) {
 /** Lines without those that name the option for a listing's form: the page has a choice for it. */
 const withoutForm = lines => lines.filter(line => !line.includes('--from'));
 
-/** The script that a listing says: itself, or what the module makes of petcat's text; or the answer that refuses it. */
+/** The script that a listing says: itself, or what the module makes of it in another form; or the answer that refuses it. */
 function scriptOf({ script, form = 'text' }) {
   if (form === 'text') return { script };
   const made = print1525.listing({ bytes: script, form: formNumber(form) });
   return made.code ? { refused: answerOf(answer(pagesWords({}, 'list', form), script)) } : { script: made.text };
 }
 
-/** The place of a script's fault in petcat's text: its line, and how many characters of the line come before it. */
-function placeInPetcat({ line, column }, listing) {
+/** The place of a script's fault in a listing with names: its line, and how many characters of the line come before it. */
+function placeInNamed({ line, column }, listing, form) {
   const row = text(listing).split('\n')[line - 1] || '', encoder = new TextEncoder();
-  const lengthOf = end => print1525.listing({ bytes: encoder.encode(row.slice(0, end).replace(/\{[^}]*$/, '')), form: formNumber('petcat') }).text.length;
+  const lengthOf = end => print1525.listing({ bytes: encoder.encode(row.slice(0, end).replace(/\{[^}]*$/, '')), form: formNumber(form) }).text.length;
   // (the text of a front ends with a line's end)
   const last = least(row.length, end => lengthOf(end + 1) > column);
   return { line, from: row[last] === '}' ? row.lastIndexOf('{', last) : last };
@@ -92,7 +92,7 @@ const readTo = ({ status, place }) => (status <= 1 ? Infinity : place);
 const areSame = (one, other) => ['status', 'fault', 'place', 'column'].every(name => one[name] === other[name]) && latin(one.output) === latin(other.output);
 
 /** What a hint of an answer reads the input as: the value of the option that it names, or nothing. */
-const hinted = ({ messages }) => /^(?:  |print1525: note: )(?:this|strings) .*--from (\w+)/m.exec(text(messages))?.[1] ?? '';
+const hinted = ({ messages }) => /^(?:  |print1525: note: )(?:this|strings) .*?--from (\w+)/m.exec(text(messages))?.[1] ?? '';
 
 /** Whether a hint of an answer says that the input looks like something. */
 const looksLike = ({ messages }, what) => new RegExp(`^(?:  |${NOTE})this looks like ${what}`, 'm').test(text(messages));
@@ -289,7 +289,7 @@ const jobs = {
     if (pages.status === 2) {
       told.place = placeOf(script);
       if (told.place) told.explanation = explanationOf(told.more, told.place);
-      if (ask.form === 'petcat' && told.place) told.inPetcat = placeInPetcat(told.place, ask.script);
+      if (hasNames(ask.form) && told.place) told.inNamed = placeInNamed(told.place, ask.script, ask.form);
     }
     return told;
   },

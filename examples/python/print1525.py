@@ -30,7 +30,7 @@ SELECT_UPPER, SELECT_LOWER = 256, 257
 NAMES = {
     "present": ("none", "4", "5", "both"),
     "mode": ("each", "kept"),
-    "from": ("text", "prg", "petcat"),
+    "from": ("text", "prg", "petcat", "magazine", "auto"),
     "page": ("list", "text", "svg", "png", "pdf"),
     "trace": ("text", "vcd"),
     "set": ("upper", "lower"),

@@ -283,6 +283,8 @@ pub enum From {
     Text = 0,
     Prg = 1,
     Petcat = 2,
+    Magazine = 3,
+    Auto = 4,
 }
 
 #[derive(Clone, Copy, Debug, Default, PartialEq, Eq)]

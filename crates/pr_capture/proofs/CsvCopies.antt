@@ -92,7 +92,7 @@ again inverted y rate number i m k bytes row is r timed before =
     let fields : List (List ℕ) = fields_of y.separator false r.line in
     let t : ℕ = k.count * 1000000 / rate in
     let late : nat_lt t k.before ≡ false = grind (arith, common_steps) in
-    let next : moment_of y.scale i k fields ≡ Ok (moment_beyond rate k) = rw (is, timed, late) refl in
+    let next : moment_of y.scale y.separator i k fields ≡ Ok (moment_beyond rate k) = rw (is, timed, late) refl in
     let sample : sample_of y.columns inverted i fields t ≡ Ok (record { time = t; levels = row.sample.levels }) =
     row-levels y inverted number m fields row r.reads i t in
     record { line = r.line; ends = r.ends; inner = r.inner; loud = r.loud; reads = rw (next, sample) refl }

@@ -1,6 +1,6 @@
 -- Fields of a line, one by one.
 use Rattle.std.proofs.Common.{◌≡◌, ℕ, zero, suc, ◌+◌, ◌-◌, ◌<◌, ◌≤◌, ◌==◌, Bool, true, false, List, [], ◌∷◌, length, take, drop, refl, ap, subst, ◌∙◌, arith, Some, None}
-use Rattle.std.specs.Prelude.{◌&&◌, not, if◌then◌else◌}
+use Rattle.std.specs.Prelude.{◌&&◌, is_some, not, if◌then◌else◌}
 use Rattle.pr_base.specs.Lines.{onto_first}
 use Rattle.pr_capture.specs.Csv.{field_at, fields_of}
 use Rattle.pr_capture.specs.CsvSteps.{field_len}
@@ -41,6 +41,12 @@ field-alone sep quoted (b ∷ bs) h = step (b == sep && not quoted) refl h (λ k
     step false e k next =
         let less : length (b ∷ bs) ≤ 1 + field_len sep (if b == 34 then not quoted else quoted) bs = rw e at k in
         rw e (ap (onto_first b) (next (omega (arith, less))))
+
+-- a field is at a place that is less than how many there are
+pub at-within : (place : ℕ) (fields : List (List ℕ)) → is_some (field_at place fields) ≡ true → place < length fields
+at-within place [] h = absurd (cc)
+at-within zero (f ∷ fs) h = omega arith
+at-within (suc place) (f ∷ fs) h = let less = at-within place fs h in omega (arith, less)
 
 -- the field of a place, by those after the first
 pub at-none : (place : ℕ) (fields : List (List ℕ)) (f : List ℕ) → 0 < place → fields ≡ f ∷ [] → field_at place fields ≡ None

@@ -109,8 +109,8 @@ some-digits : (k n : ℕ) → 0 < k → 0 < length (digits_of k n)
 some-digits k n h = let c = digits-count k n in omega (arith, c, h)
 
 -- seconds and milliseconds, with their decimals
-seconds-read : (t : ℕ) → t < 18446744073709551616 → instant_in 0 (without_front (time_field Seconds t)) ≡ Some (behind_start t)
-seconds-read t fits =
+seconds-read : (sep t : ℕ) → t < 18446744073709551616 → instant_in sep 0 (without_front (time_field Seconds t)) ≡ Some (behind_start t)
+seconds-read sep t fits =
     let whole : List ℕ = digits_of 14 (t / 1000000) in
     let parts : List ℕ = digits_of 6 (t % 1000000) in
     let few : t / 1000000 < scaled 14 1 = omega (arith, fits) in
@@ -125,10 +125,10 @@ seconds-read t fits =
     let micros : micros_of 6 0 whole parts ≡ Some t =
     ap (λ o. onward o (λ n. number_of_first n 6 parts)) seconds
     ∙ (all-taken 6 (t / 1000000) parts (digits-count 6 (t % 1000000)) ∙ ap (λ o. onward o (λ m. Some m)) rest) in
-    digits-read 0 whole parts (46 ∷ parts) t (is-digits 14 (t / 1000000)) some (tail-of-point parts (is-digits 6 (t % 1000000))) (rw (there, micros) refl)
+    digits-read sep 0 whole parts (46 ∷ parts) t (is-digits 14 (t / 1000000)) some (tail-of-point parts (is-digits 6 (t % 1000000))) (rw (there, micros) refl)
 
-millis-read : (t : ℕ) → t < 18446744073709551616 → instant_in 3 (without_front (time_field Milliseconds t)) ≡ Some (behind_start t)
-millis-read t fits =
+millis-read : (sep t : ℕ) → t < 18446744073709551616 → instant_in sep 3 (without_front (time_field Milliseconds t)) ≡ Some (behind_start t)
+millis-read sep t fits =
     let whole : List ℕ = digits_of 17 (t / 1000) in
     let parts : List ℕ = digits_of 3 (t % 1000) in
     let few : t / 1000 < scaled 17 1 = omega (arith, fits) in
@@ -143,7 +143,7 @@ millis-read t fits =
     let micros : micros_of 6 3 whole parts ≡ Some t =
     ap (λ o. onward o (λ n. number_of_first n 3 parts)) seconds
     ∙ (all-taken 3 (t / 1000) parts (digits-count 3 (t % 1000)) ∙ ap (λ o. onward o (λ m. Some m)) rest) in
-    digits-read 3 whole parts (46 ∷ parts) t (is-digits 17 (t / 1000)) some (tail-of-point parts (is-digits 3 (t % 1000))) (rw (there, micros) refl)
+    digits-read sep 3 whole parts (46 ∷ parts) t (is-digits 17 (t / 1000)) some (tail-of-point parts (is-digits 3 (t % 1000))) (rw (there, micros) refl)
 
 -- whole microseconds
 micros-spelled : (t : ℕ) → t < 18446744073709551616 → number_from 0 (digits_of 20 t) ≡ Some t
@@ -153,14 +153,14 @@ micros-spelled t fits =
     let low : scaled 20 0 + t < 18446744073709551616 = omega (arith, fits) in
     digits-spell 20 0 t few low ∙ ap (λ (v : ℕ). Some v) none-before
 
-micros-read : (t : ℕ) → t < 18446744073709551616 → instant_in 6 (without_front (time_field Microseconds t)) ≡ Some (behind_start t)
-micros-read t fits =
+micros-read : (sep t : ℕ) → t < 18446744073709551616 → instant_in sep 6 (without_front (time_field Microseconds t)) ≡ Some (behind_start t)
+micros-read sep t fits =
     let whole : List ℕ = digits_of 20 t in
     let some : 0 < length whole = some-digits 20 t (lit< tt) in
     let there : (length whole == 0) ≡ false = grind (arith, common_steps) in
     let micros : micros_of 6 6 whole [] ≡ Some t = ap (λ o. onward o (λ n. number_of_first n 0 [])) (micros-spelled t fits) in
-    ap (λ v. instant_in 6 (without_front v)) (sym (append-nil whole))
-    ∙ digits-read 6 whole [] [] t (is-digits 20 t) some tail-of-none (rw (there, micros) refl)
+    ap (λ v. instant_in sep 6 (without_front v)) (sym (append-nil whole))
+    ∙ digits-read sep 6 whole [] [] t (is-digits 20 t) some tail-of-none (rw (there, micros) refl)
 
 -- with zeros after
 front-kept : (n : ℕ) (xs ys : List ℕ) → length ys ≡ n → take (length (xs ++ ys) - n) (xs ++ ys) ≡ xs
@@ -168,10 +168,10 @@ front-kept n xs ys h =
     let e : length (xs ++ ys) - n ≡ length xs = omega (arith, length-append xs ys, h) in
     ap (λ i. take i (xs ++ ys)) e ∙ take-append_seam xs ys
 
-zeros-read : (unit n : ℕ) (zeros : List ℕ) (t : ℕ) → t < 18446744073709551616 → list_all is_digit zeros ≡ true → length zeros ≡ n
+zeros-read : (sep unit n : ℕ) (zeros : List ℕ) (t : ℕ) → t < 18446744073709551616 → list_all is_digit zeros ≡ true → length zeros ≡ n
     → nat_le unit 6 ≡ false → unit + 0 ≡ unit → unit - 6 ≡ n
-    → instant_in unit (without_front (digits_of 20 t ++ zeros)) ≡ Some (behind_start t)
-zeros-read unit n zeros t fits digits count over same more =
+    → instant_in sep unit (without_front (digits_of 20 t ++ zeros)) ≡ Some (behind_start t)
+zeros-read sep unit n zeros t fits digits count over same more =
     let whole : List ℕ = digits_of 20 t ++ zeros in
     let all : list_all is_digit whole ≡ true = list_all-append is_digit (digits_of 20 t) zeros ∙ rw (is-digits 20 t, digits) refl in
     let some : 0 < length whole =
@@ -181,8 +181,8 @@ zeros-read unit n zeros t fits digits count over same more =
     ap (λ i. take (length whole - i) whole) more ∙ front-kept n (digits_of 20 t) zeros count in
     let spelled : number_from 0 (take (length whole - (unit - 6)) whole) ≡ Some t = ap (number_from 0) kept ∙ micros-spelled t fits in
     let micros : micros_of 6 unit whole [] ≡ Some t = rw (over, spelled) refl in
-    ap (λ v. instant_in unit (without_front v)) (sym (append-nil whole))
-    ∙ digits-read unit whole [] [] t all some tail-of-none (rw (there, same, micros) refl)
+    ap (λ v. instant_in sep unit (without_front v)) (sym (append-nil whole))
+    ∙ digits-read sep unit whole [] [] t all some tail-of-none (rw (there, same, micros) refl)
 
 -- the unit's place among the decimals of a second
 abbrev place_of_unit : TimeUnit → ℕ
@@ -193,13 +193,13 @@ place_of_unit Nanoseconds = 9
 place_of_unit Picoseconds = 12
 
 -- the time is read
-time-read : (u : TimeUnit) (t : ℕ) → t < 18446744073709551616
-    → instant_in (place_of_unit u) (without_front (time_field u t)) ≡ Some (behind_start t)
-time-read Seconds t fits = seconds-read t fits
-time-read Milliseconds t fits = millis-read t fits
-time-read Microseconds t fits = micros-read t fits
-time-read Nanoseconds t fits = zeros-read 9 3 (codes "000") t fits refl refl refl refl refl
-time-read Picoseconds t fits = zeros-read 12 6 (codes "000000") t fits refl refl refl refl refl
+time-read : (sep : ℕ) (u : TimeUnit) (t : ℕ) → t < 18446744073709551616
+    → instant_in sep (place_of_unit u) (without_front (time_field u t)) ≡ Some (behind_start t)
+time-read sep Seconds t fits = seconds-read sep t fits
+time-read sep Milliseconds t fits = millis-read sep t fits
+time-read sep Microseconds t fits = micros-read sep t fits
+time-read sep Nanoseconds t fits = zeros-read sep 9 3 (codes "000") t fits refl refl refl refl refl
+time-read sep Picoseconds t fits = zeros-read sep 12 6 (codes "000000") t fits refl refl refl refl refl
 
 -- digits in front of whatever follows
 pub record HasFront (field : List ℕ) : Type 0 where
@@ -233,7 +233,7 @@ level_fields sep e = level_byte e.levels.atn ∷ sep ∷ level_byte e.levels.clo
 
 -- the columns of the names that are written
 abbrev columns : Columns
-columns = record { atn = 1; clock = 2; line = 3 }
+columns = record { atn = 1; clock = 2; line = 3; has_other_first = false }
 
 -- and the layout
 abbrev layout : Separator → TimeUnit → Layout
@@ -299,8 +299,8 @@ row-read p u n before start e z later fits =
     let split : fields_of sep false (csv_row sep u e) ≡ time_field u e.time ∷ fields_of sep false (level_fields sep e) =
     field-first sep (time_field u e.time) (level_fields sep e) plain in
     let fs : List (List ℕ) = time_field u e.time ∷ fields_of sep false (level_fields sep e) in
-    let timed : moment_at n (moment start before) (instant_in (place_of_unit u) (without_front (time_field u e.time))) ≡ Ok (moment (Some 0) e.time) =
-    ap (moment_at n (moment start before)) (time-read u e.time fits) ∙ moment-read n before e.time start z later fits in
+    let timed : moment_at n (moment start before) (instant_in sep (place_of_unit u) (without_front (time_field u e.time))) ≡ Ok (moment (Some 0) e.time) =
+    ap (moment_at n (moment start before)) (time-read sep u e.time fits) ∙ moment-read n before e.time start z later fits in
     ap (row_of (layout p u) false n (moment start before)) split
     ∙ (ap (λ o. o >>= λ next. sample_of columns false n fs next.before >>= λ v. Ok (record { sample = v; moment = next })) timed
     ∙ ap (λ o. o >>= λ v. Ok (record { sample = v; moment = moment (Some 0) e.time }))

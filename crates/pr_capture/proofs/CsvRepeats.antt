@@ -26,10 +26,10 @@ use Rattle.pr_capture.specs.declared.last_row.LastRow.{LastRow}
 use Rattle.pr_capture.specs.declared.fault.CaptureFault.{CaptureFault}
 use Rattle.pr_capture.specs.declared.signals.Signals.{Signals}
 use Rattle.pr_capture.specs.declared.times.Instant.{Instant}
-use Rattle.pr_capture.specs.declared.fault.CaptureFault.TheVariants.{BadLevel, Floating, Unknown}
+use Rattle.pr_capture.specs.declared.fault.CaptureFault.TheVariants.{BadLevel, Floating, NoTime, Unknown}
 use Rattle.pr_capture.specs.declared.fault.Wire.{Wire}
 use Rattle.pr_capture.specs.declared.fault.Wire.TheVariants.{Atn, Clock, Data}
-use Rattle.pr_capture.specs.Csv.{behind_point, csv_contents, field_at, fields_of, instant_of_number, instant_of_row, is_inner, is_silent, level_of, level_or, moment_at, moment_next, moment_of, row_contents, row_of, sample_of}
+use Rattle.pr_capture.specs.Csv.{behind_point, cell_level, csv_contents, field_at, fields_of, instant_of_number, instant_of_row, is_foreign, is_inner, is_silent, level_of, level_or, moment_at, moment_next, moment_of, row_contents, row_of, sample_by, sample_of}
 use Rattle.pr_capture.specs.CsvReads.{ReadsMore, SkipsRows, TakesRepeats}
 use Rattle.pr_capture.specs.Gathers.{AllHave}
 use Rattle.pr_capture.specs.CsvSteps.{are_behind, contents_from, decimals_len, digits_ahead, field_len, is_plain, line_number, row_at, row_if, tail_at, tail_behind, tail_by, with_len, HasLevels, HasReadTable, IsFront, IsPlainTime, IsRepeat, IsRowOf, IsTimeAhead, KnowsLevels, PlainComesFirst, TimeComesFirst}
@@ -79,17 +79,17 @@ plain-read whole parts tail digits plain some h =
     record {
       plain = list_all-append is_plain whole tail ∙ rw (all-of is_digit is_plain digit-is-plain whole digits, plain) refl;
       some = omega (arith, length-append whole tail, some);
-      reads = λ unit i spelled. by unit i (micros_of 6 unit whole parts) refl spelled;
+      reads = λ sep unit i spelled. by sep unit i (micros_of 6 unit whole parts) refl spelled;
     }
   where
-    by : (unit : ℕ) (i : Instant) (v : Option ℕ) → micros_of 6 unit whole parts ≡ v → instant_of false (micros_of 6 unit whole parts) ≡ Some i
-        → instant_in unit (without_front (whole ++ tail)) ≡ Some i
-    by unit i None e k = absurd (let o : None ≡ Some i = rw e at k in cc)
-    by unit i (Some n) e k =
+    by : (sep unit : ℕ) (i : Instant) (v : Option ℕ) → micros_of 6 unit whole parts ≡ v → instant_of false (micros_of 6 unit whole parts) ≡ Some i
+        → instant_in sep unit (without_front (whole ++ tail)) ≡ Some i
+    by sep unit i None e k = absurd (let o : None ≡ Some i = rw e at k in cc)
+    by sep unit i (Some n) e k =
         let o : Some (behind_start n) ≡ Some i = rw e at k in
         let there : (length whole == 0) ≡ false = grind (arith, common_steps) in
         let same : unit + 0 ≡ unit = omega arith in
-        digits-read unit whole parts tail n digits some h (rw (there, same, e) refl) ∙ o
+        digits-read sep unit whole parts tail n digits some h (rw (there, same, e) refl) ∙ o
 
 -- a point and decimals, or neither
 record IsFrontPart (behind : List ℕ) : Type 0 where
@@ -152,8 +152,8 @@ level-anywhere : (n m : ℕ) (inverted : Bool) (wire : Wire) (field : Option (Li
 level-anywhere n m inverted wire None l h = absurd (cc)
 level-anywhere n m inverted wire (Some f) l h = by (without_front f) h
   where
-    letter : (b : ℕ) → level_in n inverted b ≡ Ok l → level_in m inverted b ≡ Ok l
-    letter b k = step (b == 48 || b == 76 || b == 108) (b == 49 || b == 72 || b == 104) (b == 120 || b == 88) (b == 122 || b == 90) refl refl refl refl
+    known : (b : ℕ) → level_in n inverted b ≡ Ok l → level_in m inverted b ≡ Ok l
+    known b k = step (b == 48 || b == 76 || b == 108) (b == 49 || b == 72 || b == 104) (b == 120 || b == 88) (b == 122 || b == 90) refl refl refl refl
       where
         step : (p q r s : Bool) → (b == 48 || b == 76 || b == 108) ≡ p → (b == 49 || b == 72 || b == 104) ≡ q → (b == 120 || b == 88) ≡ r → (b == 122 || b == 90) ≡ s → level_in m inverted b ≡ Ok l
         step true q r s hp hq hr hs = let o : Ok inverted ≡ Ok l = rw hp at k in rw hp o
@@ -162,25 +162,32 @@ level-anywhere n m inverted wire (Some f) l h = by (without_front f) h
         step false false false true hp hq hr hs = absurd (let o : Err (Floating n) ≡ Ok l = rw (hp, hq, hr, hs) at k in cc)
         step false false false false hp hq hr hs = absurd (let o : Err (BadLevel n) ≡ Ok l = rw (hp, hq, hr, hs) at k in cc)
 
+    pick : (z : Bool) (r s : Result Bool CaptureFault) → (r ≡ Ok l → s ≡ Ok l) → (if z then Ok true else r) ≡ Ok l → (if z then Ok true else s) ≡ Ok l
+    pick true r s h k = k
+    pick false r s h k = h k
+
+    letter : (b : ℕ) → cell_level n inverted b ≡ Ok l → cell_level m inverted b ≡ Ok l
+    letter b k = pick (b == 122 || b == 90) (level_in n inverted b) (level_in m inverted b) (known b) k
+
     by : (v : List ℕ) → level_of n inverted v ≡ Ok l → level_of m inverted v ≡ Ok l
     by [] k = absurd (cc)
     by (b ∷ bs) k = framed (list_all is_framing (behind_point bs)) refl
       where
         framed : (t : Bool) → list_all is_framing (behind_point bs) ≡ t → level_of m inverted (b ∷ bs) ≡ Ok l
-        framed true e = let o : level_in n inverted b ≡ Ok l = rw e at k in rw e (letter b o)
+        framed true e = let o : cell_level n inverted b ≡ Ok l = rw e at k in rw e (letter b o)
         framed false e = absurd (let o : Err (BadLevel n) ≡ Ok l = rw e at k in cc)
 
 -- so neither does a sample, nor on its time
-sample-anywhere : (c : Columns) (inverted : Bool) (n m t u : ℕ) (fields : List (List ℕ)) (e : Edge) → sample_of c inverted n fields t ≡ Ok e
-    → sample_of c inverted m fields u ≡ Ok (record { time = u; levels = e.levels })
-sample-anywhere c inverted n m t u fields e h =
+levels-anywhere : (c : Columns) (inverted : Bool) (n m t u : ℕ) (fields : List (List ℕ)) (e : Edge) → sample_by c inverted n fields t ≡ Ok e
+    → sample_by c inverted m fields u ≡ Ok (record { time = u; levels = e.levels })
+levels-anywhere c inverted n m t u fields e h =
     by (level_or n inverted Atn (field_at c.atn fields)) (level_or n inverted Clock (field_at c.clock fields)) (level_or n inverted Data (field_at c.line fields)) refl refl refl h
   where
     by : (a b d : Result Bool CaptureFault) → level_or n inverted Atn (field_at c.atn fields) ≡ a → level_or n inverted Clock (field_at c.clock fields) ≡ b → level_or n inverted Data (field_at c.line fields) ≡ d
-        → sample_of c inverted n fields t ≡ Ok e → sample_of c inverted m fields u ≡ Ok (record { time = u; levels = e.levels })
+        → sample_by c inverted n fields t ≡ Ok e → sample_by c inverted m fields u ≡ Ok (record { time = u; levels = e.levels })
     by (Ok a) (Ok b) (Ok d) ha hb hd k =
         let is : edge_at t a b d ≡ e = (let o : Ok (edge_at t a b d) ≡ Ok e = rw (ha, hb, hd) at k in cc) in
-        let P : Edge → Type 0 = λ v. sample_of c inverted m fields u ≡ Ok (record { time = u; levels = v.levels }) in
+        let P : Edge → Type 0 = λ v. sample_by c inverted m fields u ≡ Ok (record { time = u; levels = v.levels }) in
         subst P is
         (rw (
           level-anywhere n m inverted Atn (field_at c.atn fields) a ha,
@@ -191,10 +198,20 @@ sample-anywhere c inverted n m t u fields e h =
     by (Ok a) (Err f) d ha hb hd k = absurd (let o : Err f ≡ Ok e = rw (ha, hb) at k in cc)
     by (Ok a) (Ok b) (Err f) ha hb hd k = absurd (let o : Err f ≡ Ok e = rw (ha, hb, hd) at k in cc)
 
+sample-anywhere : (c : Columns) (inverted : Bool) (n m t u : ℕ) (fields : List (List ℕ)) (e : Edge) → sample_of c inverted n fields t ≡ Ok e
+    → sample_of c inverted m fields u ≡ Ok (record { time = u; levels = e.levels })
+sample-anywhere c inverted n m t u fields e h = by (is_foreign c fields) refl
+  where
+    by : (b : Bool) → is_foreign c fields ≡ b → sample_of c inverted m fields u ≡ Ok (record { time = u; levels = e.levels })
+    by true k = absurd (let o : Err (NoTime n) ≡ Ok e = rw k at h in cc)
+    by false k =
+        let own : sample_by c inverted n fields t ≡ Ok e = rw k at h in
+        rw k (levels-anywhere c inverted n m t u fields e own)
+
 -- a row that was read has the levels of its sample
 pub row-levels : (y : Layout) (inverted : Bool) (number : ℕ) (m : Moment) (fields : List (List ℕ)) (row : Row) → row_of y inverted number m fields ≡ Ok row
     → (n t : ℕ) → sample_of y.columns inverted n fields t ≡ Ok (record { time = t; levels = row.sample.levels })
-row-levels y inverted number m fields row h n t = by (moment_of y.scale number m fields) refl h
+row-levels y inverted number m fields row h n t = by (moment_of y.scale y.separator number m fields) refl h
   where
     in-row : (next : Moment) (v : Result Edge CaptureFault) → sample_of y.columns inverted number fields next.before ≡ v
         → (v >>= λ e. Ok (record { sample = e; moment = next })) ≡ Ok row
@@ -206,7 +223,7 @@ row-levels y inverted number m fields row h n t = by (moment_of y.scale number m
         let P : Row → Type 0 = λ r. sample_of y.columns inverted n fields t ≡ Ok (record { time = t; levels = r.sample.levels }) in
         subst P is (sample-anywhere y.columns inverted number n next.before t fields s e)
 
-    by : (v : Result Moment CaptureFault) → moment_of y.scale number m fields ≡ v → row_of y inverted number m fields ≡ Ok row
+    by : (v : Result Moment CaptureFault) → moment_of y.scale y.separator number m fields ≡ v → row_of y inverted number m fields ≡ Ok row
         → sample_of y.columns inverted n fields t ≡ Ok (record { time = t; levels = row.sample.levels })
     by (Err f) e k = absurd (let o : Err f ≡ Ok row = rw e at k in cc)
     by (Ok next) e k =
@@ -277,18 +294,22 @@ column-behind zero f g fs h = absurd (cc)
 column-behind (suc place) f g fs h = refl
 
 sample-behind : (c : Columns) (inverted : Bool) (n t : ℕ) (f g : List ℕ) (fs : List (List ℕ)) → are_behind c ≡ true → sample_of c inverted n (f ∷ fs) t ≡ sample_of c inverted n (g ∷ fs) t
-sample-behind c inverted n t f g fs h = by (c.atn == 0) (c.clock == 0) (c.line == 0) refl refl refl
+sample-behind c inverted n t f g fs h = by c.has_other_first (c.atn == 0) (c.clock == 0) (c.line == 0) refl refl refl refl
   where
-    by : (p q r : Bool) → (c.atn == 0) ≡ p → (c.clock == 0) ≡ q → (c.line == 0) ≡ r → sample_of c inverted n (f ∷ fs) t ≡ sample_of c inverted n (g ∷ fs) t
-    by false false false hp hq hr =
+    by : (o p q r : Bool) → c.has_other_first ≡ o → (c.atn == 0) ≡ p → (c.clock == 0) ≡ q → (c.line == 0) ≡ r
+        → sample_of c inverted n (f ∷ fs) t ≡ sample_of c inverted n (g ∷ fs) t
+    by false false false false ho hp hq hr =
         let made : (a b d : Option (List ℕ)) → Result Edge CaptureFault =
         λ a b d. level_or n inverted Atn a >>= λ atn. level_or n inverted Clock b >>= λ clock. level_or n inverted Data d >>= λ line. Ok (edge_at t atn clock line) in
+        let same : sample_by c inverted n (f ∷ fs) t ≡ sample_by c inverted n (g ∷ fs) t =
         ap (λ v. made v (field_at c.clock (f ∷ fs)) (field_at c.line (f ∷ fs))) (column-behind c.atn f g fs hp)
         ∙ (ap (λ v. made (field_at c.atn (g ∷ fs)) v (field_at c.line (f ∷ fs))) (column-behind c.clock f g fs hq)
-        ∙ ap (λ v. made (field_at c.atn (g ∷ fs)) (field_at c.clock (g ∷ fs)) v) (column-behind c.line f g fs hr))
-    by true q r hp hq hr = absurd (let no : false ≡ true = rw hp at h in cc)
-    by false true r hp hq hr = absurd (let no : false ≡ true = rw (hp, hq) at h in cc)
-    by false false true hp hq hr = absurd (let no : false ≡ true = rw (hp, hq, hr) at h in cc)
+        ∙ ap (λ v. made (field_at c.atn (g ∷ fs)) (field_at c.clock (g ∷ fs)) v) (column-behind c.line f g fs hr)) in
+        rw ho same
+    by true p q r ho hp hq hr = absurd (let no : false ≡ true = rw ho at h in cc)
+    by false true q r ho hp hq hr = absurd (let no : false ≡ true = rw (ho, hp) at h in cc)
+    by false false true r ho hp hq hr = absurd (let no : false ≡ true = rw (ho, hp, hq) at h in cc)
+    by false false false true ho hp hq hr = absurd (let no : false ≡ true = rw (ho, hp, hq, hr) at h in cc)
 
 -- rows with times or numbers
 plain-levels : (inverted : Bool) (y : Layout) (line : List ℕ) (from : ℕ) (e : Edge) → ((front : List ℕ) → IsFront y.scale front → (list_all is_plain front ≡ true) × (0 < length front))
@@ -360,7 +381,7 @@ row-known inverted p y m line sample e from place some at inner row =
 
 -- a row that goes on as the last one is read by what is in front
 row-read : (inverted : Bool) (y : Layout) (number : ℕ) (m next : Moment) (block front tail bytes : List ℕ) (levels : Levels) → HasLevels inverted y tail levels → IsFront y.scale front
-    → list_all is_inner front ≡ true → moment_of y.scale number m (fields_of y.separator false (front ++ tail)) ≡ Ok next → bytes ≡ (front ++ tail) ++ 10 ∷ []
+    → list_all is_inner front ≡ true → moment_of y.scale y.separator number m (fields_of y.separator false (front ++ tail)) ≡ Ok next → bytes ≡ (front ++ tail) ++ 10 ∷ []
     → IsRepeat inverted y number m bytes (row_at next levels)
 row-read inverted y number m next block front tail bytes levels h is inner reads ends = record {
   line = front ++ tail;
@@ -379,7 +400,7 @@ repeated-counted inverted y number rate len m next block tail levels is h reads 
 
 -- and in one with times or numbers
 repeated-plain : (inverted : Bool) (y : Layout) (number n len : ℕ) (m next : Moment) (block tail : List ℕ) (levels : Levels) → IsFront y.scale (take n block) → HasLevels inverted y tail levels
-    → list_all is_plain (take n block) ≡ true → moment_of y.scale number m (fields_of y.separator false (take n block ++ tail)) ≡ Ok next
+    → list_all is_plain (take n block) ≡ true → moment_of y.scale y.separator number m (fields_of y.separator false (take n block ++ tail)) ≡ Ok next
     → take (length tail + 1) (drop n block) ≡ tail ++ 10 ∷ [] → len ≡ n + length tail + 1 → IsRepeat inverted y number m (take len block) (row_at next levels)
 repeated-plain inverted y number n len m next block tail levels front h plain reads ends l =
     let in-parts : len ≡ n + (length tail + 1) = omega (arith, l) in
@@ -393,8 +414,8 @@ pub repeated-timed : (inverted : Bool) (y : Layout) (number unit n len : ℕ) (m
 repeated-timed inverted y number unit n len m next block tail whole decimals i levels is h plain spelled reads ends l =
     let front : List ℕ = take n block in
     let first : PlainComesFirst y.separator tail = rw is at h.first in
-    let timed : moment_of (Timed unit) number m (fields_of y.separator false (front ++ tail)) ≡ Ok next =
-    ap (λ o. moment_at number m (instant_of_row unit o)) (first front plain.plain) ∙ (ap (moment_at number m) (plain.reads unit i spelled) ∙ reads) in
+    let timed : moment_of (Timed unit) y.separator number m (fields_of y.separator false (front ++ tail)) ≡ Ok next =
+    ap (λ o. moment_at number m (instant_of_row y.separator unit o)) (first front plain.plain) ∙ (ap (moment_at number m) (plain.reads y.separator unit i spelled) ∙ reads) in
     repeated-plain inverted y number n len m next block tail levels (rw is (plain.plain, plain.some)) h plain.plain (rw is timed) ends l
 
 -- digits alone are a plain time
@@ -430,7 +451,7 @@ repeated-numbered inverted y number step rate count len m next block tail i leve
     let first : PlainComesFirst y.separator tail = rw is at h.first in
     let sample : sample_in step rate (without_front front) ≡ Some i =
     ap (λ o. instant_of false (onward (onward o (times_in step)) (time_at_rate rate))) (digits-counted front digits some ∙ counted) ∙ spelled in
-    let timed : moment_of (Numbered step rate) number m (fields_of y.separator false (front ++ tail)) ≡ Ok next =
+    let timed : moment_of (Numbered step rate) y.separator number m (fields_of y.separator false (front ++ tail)) ≡ Ok next =
     ap (λ o. moment_at number m (instant_of_number step rate o)) (first front plain) ∙ (ap (moment_at number m) sample ∙ reads) in
     repeated-plain inverted y number (prefix_len is_digit block) len m next block tail levels (rw is (plain, some)) h plain (rw is timed) ends l
 

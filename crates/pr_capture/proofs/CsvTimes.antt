@@ -8,8 +8,8 @@ use Rattle.pr_base.specs.Lines.{onto_first}
 use Rattle.pr_capture.specs.declared.times.Exponent.{Exponent}
 use Rattle.pr_capture.specs.declared.times.Instant.{Instant}
 use Rattle.pr_capture.specs.Csv.{fields_of, is_silent}
-use Rattle.pr_capture.specs.Numbers.{behind_decimals, behind_digits, decimals_in, digits_in}
-use Rattle.pr_capture.specs.TableTimes.{behind_sign_of, exponent_in, instant_by, instant_in, instant_or, is_minus, behind_plus_minus, dated_in, unsigned_in}
+use Rattle.pr_capture.specs.Numbers.{behind_digits, digits_in}
+use Rattle.pr_capture.specs.TableTimes.{behind_decimals_by, behind_sign_of, decimals_by, exponent_in, instant_by, instant_in, instant_or, is_minus, behind_plus_minus, dated_in, unsigned_in}
 use Rattle.pr_capture.specs.Words.{is_space}
 use Rattle.pr_capture.specs.Recording.{is_framing, without_front}
 
@@ -95,31 +95,31 @@ no_exponent = record { right = 0; left = 0 }
 -- what follows the digits of a number: a point and decimals, or nothing
 pub record IsTail (parts tail : List ℕ) : Type 0 where
   pub front : prefix_len is_digit tail ≡ 0
-  pub decimals : decimals_in tail ≡ parts
-  pub ends : exponent_in (behind_decimals tail) ≡ Some no_exponent
+  pub decimals : (sep : ℕ) → decimals_by sep tail ≡ parts
+  pub ends : (sep : ℕ) → exponent_in (behind_decimals_by sep tail) ≡ Some no_exponent
   pub undated : behind_sign_of 45 tail ≡ None
 
 -- the time that digits and a tail spell is read
-pub digits-read : (unit : ℕ) (whole parts tail : List ℕ) (t : ℕ) → list_all is_digit whole ≡ true → 0 < length whole → IsTail parts tail
+pub digits-read : (sep unit : ℕ) (whole parts tail : List ℕ) (t : ℕ) → list_all is_digit whole ≡ true → 0 < length whole → IsTail parts tail
     → instant_by unit false whole parts (Some no_exponent) ≡ Some (behind_start t)
-    → instant_in unit (without_front (whole ++ tail)) ≡ Some (behind_start t)
-digits-read unit whole parts tail t all some h by =
+    → instant_in sep unit (without_front (whole ++ tail)) ≡ Some (behind_start t)
+digits-read sep unit whole parts tail t all some h by =
     let text : List ℕ = whole ++ tail in
     let first = digit-first whole tail some all in
     let run = digits-run whole tail all h.front in
-    let ends : exponent_in (behind_decimals (behind_digits text)) ≡ Some no_exponent =
-    ap (λ v. exponent_in (behind_decimals v)) run.1 ∙ h.ends in
-    let decimals : decimals_in (behind_digits text) ≡ parts = ap decimals_in run.1 ∙ h.decimals in
-    let read : unsigned_in unit false text ≡ Some (behind_start t) =
-    ap (λ v. instant_by unit false v (decimals_in (behind_digits text)) (exponent_in (behind_decimals (behind_digits text)))) run.0
-    ∙ (ap (λ v. instant_by unit false whole v (exponent_in (behind_decimals (behind_digits text)))) decimals
+    let ends : exponent_in (behind_decimals_by sep (behind_digits text)) ≡ Some no_exponent =
+    ap (λ v. exponent_in (behind_decimals_by sep v)) run.1 ∙ h.ends sep in
+    let decimals : decimals_by sep (behind_digits text) ≡ parts = ap (decimals_by sep) run.1 ∙ h.decimals sep in
+    let read : unsigned_in sep unit false text ≡ Some (behind_start t) =
+    ap (λ v. instant_by unit false v (decimals_by sep (behind_digits text)) (exponent_in (behind_decimals_by sep (behind_digits text)))) run.0
+    ∙ (ap (λ v. instant_by unit false whole v (exponent_in (behind_decimals_by sep (behind_digits text)))) decimals
     ∙ (ap (instant_by unit false whole parts) ends ∙ by)) in
-    let undated : dated_in text ≡ None = undated-by text (ap (behind_sign_of 45) run.1 ∙ h.undated) in
-    let signed : unsigned_in unit (is_minus text) (behind_plus_minus text) ≡ Some (behind_start t) =
-    ap (λ v. unsigned_in unit v (behind_plus_minus text)) first.2 ∙ (ap (unsigned_in unit false) first.3 ∙ read) in
-    ap (instant_in unit) first.0 ∙ (ap (λ o. instant_or o unit text) undated ∙ signed)
+    let undated : dated_in sep text ≡ None = undated-by text (ap (behind_sign_of 45) run.1 ∙ h.undated) in
+    let signed : unsigned_in sep unit (is_minus text) (behind_plus_minus text) ≡ Some (behind_start t) =
+    ap (λ v. unsigned_in sep unit v (behind_plus_minus text)) first.2 ∙ (ap (unsigned_in sep unit false) first.3 ∙ read) in
+    ap (instant_in sep unit) first.0 ∙ (ap (λ o. instant_or o sep unit text) undated ∙ signed)
   where
-    undated-by : (l : List ℕ) → behind_sign_of 45 (behind_digits l) ≡ None → dated_in l ≡ None
+    undated-by : (l : List ℕ) → behind_sign_of 45 (behind_digits l) ≡ None → dated_in sep l ≡ None
     undated-by l e = rw e refl
 
 -- a point and decimals
@@ -128,8 +128,8 @@ tail-of-point parts six =
     let own = digits-run parts [] six refl in
     let own-in : digits_in parts ≡ parts = subst (λ v. take (prefix_len is_digit v) v ≡ parts) (append-nil parts) own.0 in
     let own-behind : behind_digits parts ≡ [] = subst (λ v. drop (prefix_len is_digit v) v ≡ []) (append-nil parts) own.1 in
-    record { front = refl; decimals = own-in; ends = ap exponent_in own-behind; undated = refl }
+    record { front = refl; decimals = λ sep. own-in; ends = λ sep. ap exponent_in own-behind; undated = refl }
 
 -- nothing
 pub tail-of-none : IsTail [] []
-tail-of-none = record { front = refl; decimals = refl; ends = refl; undated = refl }
+tail-of-none = record { front = refl; decimals = λ sep. refl; ends = λ sep. refl; undated = refl }

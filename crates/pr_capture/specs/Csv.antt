@@ -19,10 +19,10 @@ use Rattle.pr_capture.specs.declared.fault.Wire.TheVariants.{Atn, Clock, Data}
 use Rattle.pr_capture.specs.declared.fault.CaptureFault.{CaptureFault}
 use Rattle.pr_capture.specs.declared.fault.CaptureFault.TheVariants.{Archive, BadLevel, BadTime, NoLevel, NoSignal, NoTime, TwoSignals, WideText}
 use Rattle.pr_capture.specs.declared.signals.Signals.{Signals}
-use Rattle.pr_capture.specs.Recording.{◌>>=◌, ended, is_framing, is_named, level_in, refused, second_name, with_samples, without_front, CaptureContents}
+use Rattle.pr_capture.specs.Recording.{◌>>=◌, ended, first_some, is_framing, is_named, level_in, refused, second_name, with_samples, without_front, CaptureContents}
 use Rattle.pr_capture.specs.Words.{is_space}
-use Rattle.pr_capture.specs.Numbers.{behind_word}
-use Rattle.pr_capture.specs.TableTimes.{bare_unit, from_start, has_numbers, instant_in, is_counting, is_timing, no_remarks, rate_known, remarked, sample_in, scale_of, start_of, time_at_rate, time_or, time_unit}
+use Rattle.pr_capture.specs.Numbers.{behind_word, onward}
+use Rattle.pr_capture.specs.TableTimes.{bare_unit, count_in, from_start, has_numbers, instant_in, is_counting, is_timing, no_remarks, rate_known, remarked, sample_in, scale_of, start_of, time_at_rate, time_or, time_unit}
 
 -- Lines and fields.
 
@@ -44,17 +44,30 @@ is_remark (b ∷ bs) = b == 59 || b == 35
 abbrev pub is_silent : (line : List ℕ) → Bool
 is_silent line = is_remark (without_space line)
 
--- or it is the line that sigrok-cli puts in front
-abbrev pub is_in_front : (line : List ℕ) → Bool
-is_in_front line = is_silent line || is_some (behind_word (codes "METAsamplerate") line)
-
--- what separates fields: the first comma, semicolon or tab of the line of the names shows it
+-- what separates fields: a comma, a semicolon or a tab
 abbrev pub is_separator : ℕ → Bool
 is_separator b = b == 44 || b == 59 || b == 9
 
+-- a line says which, as spreadsheets are told: sep=;
+abbrev pub separator_behind : (rest : List ℕ) → Option ℕ
+separator_behind (e ∷ b ∷ bs) = if e == 61 && is_separator b && list_all is_framing bs then Some b else None
+separator_behind _ = None
+
+abbrev pub separator_said : (line : List ℕ) → Option ℕ
+separator_said line = onward (behind_word (codes "sep") line) separator_behind
+
+-- or else the first in the line of the names shows it
 abbrev pub separator_of : (line : List ℕ) → ℕ
 separator_of [] = 44
 separator_of (b ∷ bs) = if is_separator b then b else separator_of bs
+
+abbrev pub separator_or : (said : Option ℕ) → (line : List ℕ) → ℕ
+separator_or None line = separator_of line
+separator_or (Some b) line = b
+
+-- a line comes before that of the names: it says nothing of the bus, or it is sigrok-cli's first, or says what separates fields
+abbrev pub is_in_front : (line : List ℕ) → Bool
+is_in_front line = is_silent line || is_some (behind_word (codes "METAsamplerate") line) || is_some (separator_said line)
 
 -- the fields of a line: separators part them, but for those between quotation marks
 abbrev pub fields_of : (separator : ℕ) → (quoted : Bool) → (line : List ℕ) → List (List ℕ)
@@ -76,6 +89,22 @@ abbrev pub column_of : (name : List ℕ) → (place : ℕ) → (fields : List (L
 column_of name place [] = None
 column_of name place (f ∷ fs) = if is_named name f then Some place else column_of name (place + 1) fs
 
+-- one of these fields is a number
+abbrev pub has_numeral : (fields : List (List ℕ)) → Bool
+has_numeral [] = false
+has_numeral (f ∷ fs) = is_some (count_in (without_front f)) || has_numeral fs
+
+-- the place of the field with this number, from 0
+abbrev pub place_with : (number : Option ℕ) → (place : ℕ) → (fields : List (List ℕ)) → Option ℕ
+place_with None place fields = None
+place_with (Some n) place fields = if is_some (field_at n fields) then Some (place + n) else None
+
+-- the place that a name means: that of the first field that is this name, or, where no field is a number, that with this number
+abbrev pub place_meant : (name : List ℕ) → (place : ℕ) → (fields : List (List ℕ)) → Option ℕ
+place_meant name place fields =
+    first_some (column_of name place fields)
+    (if has_numeral fields then None else place_with (count_in (without_front name)) place fields)
+
 -- a column that a wire needs
 abbrev pub column_or : (number : ℕ) → Wire → Option ℕ → Result ℕ CaptureFault
 column_or number wire None = Err (NoSignal number wire)
@@ -89,11 +118,15 @@ is_twice name (f ∷ fs) = if is_named name f then is_some (column_of name 0 fs)
 -- the column that a wire needs, and that no other has the name of
 abbrev pub column_in : (number : ℕ) → Wire → (name : List ℕ) → (place : ℕ) → (fields : List (List ℕ)) → Result ℕ CaptureFault
 column_in number wire name place fs =
-    if is_twice name fs then Err (TwoSignals number wire) else column_or number wire (column_of name place fs)
+    if is_twice name fs then Err (TwoSignals number wire) else column_or number wire (place_meant name place fs)
 
 -- CLOCK's name: its first, or else its second
 abbrev pub clock_name : Signals → (fields : List (List ℕ)) → List ℕ
 clock_name s fs = if is_some (column_of s.clock.now 0 fs) then s.clock.now else second_name s
+
+-- the first column is none of these, where columns are counted from it: it has neither times nor numbers by its name
+abbrev pub is_other : (place atn clock line : ℕ) → Bool
+is_other place atn clock line = place == 0 && not (atn == 0) && not (clock == 0) && not (line == 0)
 
 -- the columns of the three lines
 abbrev pub columns_in : Signals → (number place : ℕ) → (fields : List (List ℕ)) → Result Columns CaptureFault
@@ -101,7 +134,52 @@ columns_in s number place fs =
     column_in number Atn s.atn.now place fs >>= λ atn.
     column_in number Clock (clock_name s fs) place fs >>= λ clock.
     column_in number Data s.line.now place fs >>= λ line.
-    Ok (record { atn = atn; clock = clock; line = line })
+    Ok (record { atn = atn; clock = clock; line = line; has_other_first = is_other place atn clock line })
+
+-- Before the names.
+
+-- what follows the first colon
+abbrev pub behind_colon : List ℕ → Option (List ℕ)
+behind_colon [] = None
+behind_colon (b ∷ bs) = if b == 58 then Some bs else behind_colon bs
+
+-- the names in sigrok's remark of its channels: ; Channels (3/8): ATN, CLK, DATA
+abbrev pub channels_in : (line : List ℕ) → Option (List ℕ)
+channels_in line = if is_some (behind_word (codes "channels") line) then behind_colon line else None
+
+abbrev pub if_ok : {A : Type 0} → Result A CaptureFault → Option A
+if_ok (Ok x) = Some x
+if_ok (Err f) = None
+
+-- the columns of the three lines, if the columns from a place on have these names
+abbrev pub columns_called : Signals → (place : ℕ) → (names : List ℕ) → Option Columns
+columns_called s place names = if_ok (columns_in s 0 place (fields_of 44 false names))
+
+-- after a line that comes before that of the names
+abbrev pub with_separator : Remarks → (said : Option ℕ) → Remarks
+with_separator r None = r
+with_separator r (Some b) = record r { separator = Some b }
+
+abbrev pub with_channels : Signals → Remarks → (names : Option (List ℕ)) → Remarks
+with_channels s r None = r
+with_channels s r (Some names) = record r { alone = columns_called s 0 names; behind = columns_called s 1 names }
+
+abbrev pub noted : Signals → Remarks → (line : List ℕ) → Remarks
+noted s r line = with_channels s (with_separator (remarked r line) (separator_said line)) (channels_in line)
+
+-- all of these columns are called by the unit that sigrok has for levels
+abbrev pub are_logic : (fields : List (List ℕ)) → Bool
+are_logic [] = true
+are_logic (f ∷ fs) = is_named (codes "logic") f && are_logic fs
+
+-- so their names are those of the remark, if there was one
+abbrev pub columns_or : (said : Option Columns) → (logic : Bool) → Result Columns CaptureFault → Result Columns CaptureFault
+columns_or None logic found = found
+columns_or (Some c) false found = found
+columns_or (Some c) true found = Ok c
+
+abbrev pub columns_by : Signals → (said : Option Columns) → (number place : ℕ) → (fields : List (List ℕ)) → Result Columns CaptureFault
+columns_by s said number place fs = columns_or said (are_logic fs) (columns_in s number place fs)
 
 -- the rate has to be known where no column is of times
 abbrev pub rate_or : (number : ℕ) → (rate : Option ℕ) → Result ℕ CaptureFault
@@ -126,16 +204,16 @@ rate_alone false rate = rate
 -- a table without times: its first column has the numbers of samples, or it has a row a sample
 abbrev pub layout_beside : Signals → Remarks → (number separator : ℕ) → (numbers : Bool) → (fields : List (List ℕ)) → Result Layout CaptureFault
 layout_beside s r number sep true fs =
-    columns_in s number 1 (drop 1 fs) >>= λ c.
+    columns_by s r.behind number 1 (drop 1 fs) >>= λ c.
     rate_or number (rate_alone (has_times fs) (rate_known r)) >>= λ rate. Ok (record { columns = c; separator = sep; scale = Numbered 1 rate })
 layout_beside s r number sep false fs =
-    columns_in s number 0 fs >>= λ c.
+    columns_by s r.alone number 0 fs >>= λ c.
     rate_or number (rate_alone (has_times fs) (rate_beside r (field_at 0 fs))) >>= λ rate. Ok (record { columns = c; separator = sep; scale = Counted rate })
 
 -- or with times in its first column, by their unit
 abbrev pub layout_by : Signals → Remarks → (number separator : ℕ) → (unit : Option ℕ) → (fields : List (List ℕ)) → Result Layout CaptureFault
 layout_by s r number sep (Some unit) fs =
-    columns_in s number 1 (drop 1 fs) >>= λ c.
+    columns_by s r.behind number 1 (drop 1 fs) >>= λ c.
     Ok (record { columns = c; separator = sep; scale = scale_of r unit (field_at 0 fs) })
 layout_by s r number sep None fs = layout_beside s r number sep (has_numbers r.bare (field_at 0 fs)) fs
 
@@ -149,7 +227,7 @@ layout_in s r number sep fs = layout_by s r number sep (unit_in (bare_unit r) (f
 
 -- the layout that a line names
 abbrev pub layout_of : Signals → Remarks → (number : ℕ) → (line : List ℕ) → Result Layout CaptureFault
-layout_of s r number line = layout_in s r number (separator_of line) (fields_of (separator_of line) false line)
+layout_of s r number line = layout_in s r number (separator_or r.separator line) (fields_of (separator_or r.separator line) false line)
 
 -- Rows.
 
@@ -162,24 +240,51 @@ abbrev pub behind_point : List ℕ → List ℕ
 behind_point [] = []
 behind_point (b ∷ bs) = if b == 46 then without_zeros bs else b ∷ bs
 
+-- a level that a letter spells in a table: z is released, since nobody pulls the line
+abbrev pub cell_level : (number : ℕ) → (inverted : Bool) → ℕ → Result Bool CaptureFault
+cell_level number inverted b = if b == 122 || b == 90 then Ok true else level_in number inverted b
+
 -- a level that a field spells: 0, 1.0
 abbrev pub level_of : (number : ℕ) → (inverted : Bool) → List ℕ → Result Bool CaptureFault
 level_of number inverted [] = Err (BadLevel number)
-level_of number inverted (b ∷ bs) = if list_all is_framing (behind_point bs) then level_in number inverted b else Err (BadLevel number)
+level_of number inverted (b ∷ bs) = if list_all is_framing (behind_point bs) then cell_level number inverted b else Err (BadLevel number)
 
 -- the level in a wire's column
 abbrev pub level_or : (number : ℕ) → (inverted : Bool) → Wire → (field : Option (List ℕ)) → Result Bool CaptureFault
 level_or number inverted wire None = Err (NoLevel number wire)
 level_or number inverted wire (Some f) = level_of number inverted (without_front f)
 
--- a row's sample, with its time
-abbrev pub sample_of : Columns → (inverted : Bool) → (number : ℕ) → (fields : List (List ℕ)) → (time : ℕ)
+-- a letter of a level, known or not: 0, L, 1, H, x or z
+abbrev pub is_level_letter : ℕ → Bool
+is_level_letter b = b == 48 || b == 76 || b == 108 || b == 49 || b == 72 || b == 104 || b == 120 || b == 88 || b == 122 || b == 90
+
+-- a field is a level: 0, 1.0, x
+abbrev pub is_level : List ℕ → Bool
+is_level [] = false
+is_level (b ∷ bs) = is_level_letter b && list_all is_framing (behind_point bs)
+
+-- the first field is one
+abbrev pub has_level : (first : Option (List ℕ)) → Bool
+has_level None = false
+has_level (Some f) = is_level (without_front f)
+
+-- a first column that is none of the three has no level in this row: it has times or numbers that its name does not say
+abbrev pub is_foreign : Columns → (fields : List (List ℕ)) → Bool
+is_foreign c fields = c.has_other_first && not (has_level (field_at 0 fields))
+
+-- the sample of the three columns, with its time
+abbrev pub sample_by : Columns → (inverted : Bool) → (number : ℕ) → (fields : List (List ℕ)) → (time : ℕ)
     → Result Edge CaptureFault
-sample_of c inverted number fields t =
+sample_by c inverted number fields t =
     level_or number inverted Atn (field_at c.atn fields) >>= λ atn.
     level_or number inverted Clock (field_at c.clock fields) >>= λ clock.
     level_or number inverted Data (field_at c.line fields) >>= λ line.
     Ok (edge_at t atn clock line)
+
+-- a row's sample, with its time
+abbrev pub sample_of : Columns → (inverted : Bool) → (number : ℕ) → (fields : List (List ℕ)) → (time : ℕ)
+    → Result Edge CaptureFault
+sample_of c inverted number fields t = if is_foreign c fields then Err (NoTime number) else sample_by c inverted number fields t
 
 -- the moment of the first row: no start is known, no time was given, and no sample comes before it
 abbrev pub first_moment : Moment
@@ -197,24 +302,24 @@ abbrev pub moment_next : (number : ℕ) → Moment → (time : Option ℕ) → R
 moment_next number m t = time_or number m.before t >>= λ u. Ok (record { start = m.start; before = u; count = m.count + 1 })
 
 -- the time that a row's first field spells
-abbrev pub instant_of_row : (unit : ℕ) → (first : Option (List ℕ)) → Option Instant
-instant_of_row unit None = None
-instant_of_row unit (Some f) = instant_in unit (without_front f)
+abbrev pub instant_of_row : (separator unit : ℕ) → (first : Option (List ℕ)) → Option Instant
+instant_of_row sep unit None = None
+instant_of_row sep unit (Some f) = instant_in sep unit (without_front f)
 
 -- that of the sample whose number, multiplied by `step`, it spells
 abbrev pub instant_of_number : (step rate : ℕ) → (first : Option (List ℕ)) → Option Instant
 instant_of_number step rate None = None
 instant_of_number step rate (Some f) = sample_in step rate (without_front f)
 
-abbrev pub moment_of : Scale → (number : ℕ) → Moment → (fields : List (List ℕ)) → Result Moment CaptureFault
-moment_of (Timed unit) number m fields = moment_at number m (instant_of_row unit (field_at 0 fields))
-moment_of (Numbered step rate) number m fields = moment_at number m (instant_of_number step rate (field_at 0 fields))
-moment_of (Counted rate) number m fields = moment_next number m (time_at_rate rate m.count)
+abbrev pub moment_of : Scale → (separator number : ℕ) → Moment → (fields : List (List ℕ)) → Result Moment CaptureFault
+moment_of (Timed unit) sep number m fields = moment_at number m (instant_of_row sep unit (field_at 0 fields))
+moment_of (Numbered step rate) sep number m fields = moment_at number m (instant_of_number step rate (field_at 0 fields))
+moment_of (Counted rate) sep number m fields = moment_next number m (time_at_rate rate m.count)
 
 -- what a row says: its sample, and the moment from which the next row goes on
 abbrev pub row_of : Layout → (inverted : Bool) → (number : ℕ) → Moment → (fields : List (List ℕ)) → Result Row CaptureFault
 row_of y inverted number m fields =
-    moment_of y.scale number m fields >>= λ next.
+    moment_of y.scale y.separator number m fields >>= λ next.
     sample_of y.columns inverted number fields next.before >>= λ e. Ok (record { sample = e; moment = next })
 
 -- a row's sample, and what is read after it
@@ -240,7 +345,7 @@ named_contents (Ok y) rest = rest y
 abbrev pub line_contents : Signals → Remarks → (number : ℕ) → List (List ℕ) → CaptureContents
 line_contents s r number [] = refused (NoSignal number Atn)
 line_contents s r number (l ∷ ls) =
-    if is_in_front l then line_contents s (remarked r l) (number + 1) ls
+    if is_in_front l then line_contents s (noted s r l) (number + 1) ls
     else named_contents (layout_of s r number l) (λ y. row_contents y s.is_inverted (number + 1) first_moment ls)
 
 -- The first line begins with a byte order mark, or not. Text of 16 bits a letter and zip archives are no tables.

@@ -83,8 +83,8 @@ decimals_len (b ∷ bs) = if b == 46 then 1 + prefix_len is_digit bs else 0
 pub record IsPlainTime (field whole decimals : List ℕ) : Type 0 where
   pub plain : list_all is_plain field ≡ true
   pub some : 0 < length field
-  pub reads : (unit : ℕ) (i : Instant) → instant_of false (micros_of 6 unit whole decimals) ≡ Some i
-      → instant_in unit (without_front field) ≡ Some i
+  pub reads : (sep unit : ℕ) (i : Instant) → instant_of false (micros_of 6 unit whole decimals) ≡ Some i
+      → instant_in sep unit (without_front field) ≡ Some i
 
 -- a plain time is in front of a text and spells these microseconds
 pub record IsTimeAhead (unit : ℕ) (text : List ℕ) (t : PlainTime) : Type 0 where
@@ -142,9 +142,9 @@ IsRowOf inverted (Names r) line (Some e) = Unit {0}
 IsRowOf inverted (Rows y m) line (Some e) = (is_silent line ≡ false) × ((number time : ℕ)
     → sample_of y.columns inverted number (fields_of y.separator false line) time ≡ Ok (record { time = time; levels = e.levels }))
 
--- no column is the first
+-- levels do not depend on the first column
 abbrev pub are_behind : Columns → Bool
-are_behind c = not (c.atn == 0) && not (c.clock == 0) && not (c.line == 0)
+are_behind c = not c.has_other_first && not (c.atn == 0) && not (c.clock == 0) && not (c.line == 0)
 
 -- where the bytes of a row begin that have its levels, whatever its time is
 abbrev pub tail_behind : Columns → (separator : ℕ) → (line : List ℕ) → Option ℕ

@@ -19,17 +19,21 @@ use Rattle.pr_capture.specs.Numbers.{behind_decimals, behind_digits, are_some, b
 abbrev pub is_micro : (name : List ℕ) → Bool
 is_micro l = spells (194 ∷ 181 ∷ 115 ∷ []) l || spells (206 ∷ 188 ∷ 115 ∷ []) l || spells (181 ∷ 115 ∷ []) l
 
--- a unit has this name; its words in full are of one thing or of more
+-- a unit has one of these names, as its sign and its words in full
 abbrev pub is_unit : (short long more name : List ℕ) → Bool
 is_unit short long more l = spells short l || spells long l || spells more l
+
+-- or one of these, which cut words short
+abbrev pub is_cut : (cut front name : List ℕ) → Bool
+is_cut cut front l = spells cut l || spells front l
 
 abbrev pub unit_of : (name : List ℕ) → Option ℕ
 unit_of l =
     if is_unit (codes "s") (codes "second") (codes "seconds") l || spells (codes "sec") l then Some 0
-    else (if is_unit (codes "ms") (codes "millisecond") (codes "milliseconds") l then Some 3
-    else (if is_unit (codes "us") (codes "microsecond") (codes "microseconds") l || is_micro l then Some 6
-    else (if is_unit (codes "ns") (codes "nanosecond") (codes "nanoseconds") l then Some 9
-    else (if is_unit (codes "ps") (codes "picosecond") (codes "picoseconds") l then Some 12
+    else (if is_unit (codes "ms") (codes "millisecond") (codes "milliseconds") l || is_cut (codes "msec") (codes "millis") l then Some 3
+    else (if is_unit (codes "us") (codes "microsecond") (codes "microseconds") l || is_cut (codes "usec") (codes "micros") l || is_micro l then Some 6
+    else (if is_unit (codes "ns") (codes "nanosecond") (codes "nanoseconds") l || is_cut (codes "nsec") (codes "nanos") l then Some 9
+    else (if is_unit (codes "ps") (codes "picosecond") (codes "picoseconds") l || is_cut (codes "psec") (codes "picos") l then Some 12
     else None))))
 
 -- the unit that is after a word for time; the unit of a bare word, where none does
@@ -47,7 +51,7 @@ ends_there (Some (b ∷ bs)) = is_sign b
 abbrev pub unit_apart : (bare : Option ℕ) → (rest : Option (List ℕ)) → Option ℕ
 unit_apart bare rest = if ends_there rest then unit_behind bare rest else None
 
--- the unit that a column of times names: Time [s], Time (ms), t/ns, microseconds; TMS is none. Other columns have none
+-- the unit that a column of times names: Time [s], Time (msec), t/ns, microseconds, micros; TMS is none. Other columns have none
 abbrev pub time_unit : (bare : Option ℕ) → (name : List ℕ) → Option ℕ
 time_unit bare l =
     first_some (unit_behind bare (behind_word (codes "timestamp") l))
@@ -55,22 +59,22 @@ time_unit bare l =
     (first_some (unit_apart bare (behind_word (codes "t") l))
     (unit_of l)))
 
--- a name begins with a word: Time (usec), but not TIMEOUT
+-- a name begins with a word: Time (min), but not TIMEOUT
 abbrev pub begins : (word name : List ℕ) → Bool
 begins word l = ends_there (behind_word word l)
 
--- a first column that is called so has times or numbers, never levels: Time (usec), Elapsed, Sample No., Row, n, or nothing
+-- a first column that is called so has times or numbers, never levels: Time (min), Delta [us], Elapsed, Sample No., Row, n, or nothing
 abbrev pub is_counting : (name : List ℕ) → Bool
 is_counting l =
     begins (codes "t") l || begins (codes "time") l || begins (codes "timestamp") l || begins (codes "elapsed") l
-    || begins (codes "relative") l || begins (codes "sample") l || begins (codes "samples") l || begins (codes "row") l
+    || begins (codes "delta") l || begins (codes "relative") l || begins (codes "sample") l || begins (codes "samples") l || begins (codes "row") l
     || begins (codes "index") l || begins (codes "number") l || begins (codes "count") l || begins (codes "tick") l
     || begins (codes "ticks") l || spells (codes "n") l || spells (codes "nr") l || spells (codes "no") l
     || list_all is_sign l
 
--- a column has times, wherever it stands: Time [s], Timestamp, Elapsed
+-- a column has times, wherever it stands: Time [s], Timestamp, Elapsed, Delta
 abbrev pub is_timing : (name : List ℕ) → Bool
-is_timing l = begins (codes "time") l || begins (codes "timestamp") l || begins (codes "elapsed") l
+is_timing l = begins (codes "time") l || begins (codes "timestamp") l || begins (codes "elapsed") l || begins (codes "delta") l
 
 -- sigrok's own names for times: Time, or their unit in full
 abbrev pub is_sigrok_word : (name : List ℕ) → Bool
@@ -139,7 +143,7 @@ unit_by (Some n) =
 
 -- before any remark, a bare word for time is of seconds. A rate that the caller gives counts before that of a remark
 abbrev pub no_remarks : (given : Option ℕ) → Remarks
-no_remarks given = record { given = given; rate = None; bare = Some 0 }
+no_remarks given = record { given = given; rate = None; bare = Some 0; separator = None; alone = None; behind = None }
 
 abbrev pub rate_known : Remarks → Option ℕ
 rate_known r = first_some r.given r.rate
@@ -160,8 +164,7 @@ behind_marks (b ∷ bs) = if is_mark b then behind_marks bs else b ∷ bs
 -- after a rate: a remark of sigrok's, whatever signs it begins with, gives the unit of a bare word for time too
 abbrev pub with_rate : Remarks → (line : List ℕ) → (text : Option (List ℕ)) → Remarks
 with_rate r line None = r
-with_rate r line (Some text) = record {
-  given = r.given;
+with_rate r line (Some text) = record r {
   rate = rate_in (behind_marks text);
   bare = if bytes_eq (take 11 (without_signs line)) (codes "Samplerate:")
       then unit_by (rate_in (behind_marks text)) else r.bare;
@@ -170,7 +173,7 @@ with_rate r line (Some text) = record {
 -- the line that sigrok-cli puts in front of what it writes before it knows the rate, so that all its times are 0
 abbrev pub with_meta : Remarks → (line : List ℕ) → (text : Option (List ℕ)) → Remarks
 with_meta r line None = with_rate r line (behind_word (codes "samplerate") line)
-with_meta r line (Some text) = record { given = r.given; rate = rate_in (behind_marks text); bare = None }
+with_meta r line (Some text) = record r { rate = rate_in (behind_marks text); bare = None }
 
 -- after a remark
 abbrev pub remarked : Remarks → (line : List ℕ) → Remarks
@@ -209,6 +212,19 @@ has_numbers (Some unit) None = false
 has_numbers (Some unit) (Some name) = is_sample_word name
 
 -- Times: whole microseconds before or after the moment 0, rounded to the earlier one.
+
+-- the sign before decimals: a point, or a comma where another byte separates fields
+abbrev pub is_decimal_sign : (separator : ℕ) → ℕ → Bool
+is_decimal_sign sep b = b == 46 || (b == 44 && not (sep == 44))
+
+-- the digits after it, if it is here, and what follows them
+abbrev pub decimals_by : (separator : ℕ) → List ℕ → List ℕ
+decimals_by sep [] = []
+decimals_by sep (b ∷ bs) = if is_decimal_sign sep b then digits_in bs else []
+
+abbrev pub behind_decimals_by : (separator : ℕ) → List ℕ → List ℕ
+behind_decimals_by sep [] = []
+behind_decimals_by sep (b ∷ bs) = if is_decimal_sign sep b then behind_digits bs else b ∷ bs
 
 -- a sign, if one is here, and what follows it
 abbrev pub is_minus : List ℕ → Bool
@@ -269,9 +285,9 @@ instant_by unit negative whole ds (Some e) =
     if length whole == 0 then None else instant_at negative (6 + e.right) (unit + e.left) whole ds
 
 -- the same of a number without its sign
-abbrev pub unsigned_in : (unit : ℕ) → (negative : Bool) → List ℕ → Option Instant
-unsigned_in unit negative l =
-    instant_by unit negative (digits_in l) (decimals_in (behind_digits l)) (exponent_in (behind_decimals (behind_digits l)))
+abbrev pub unsigned_in : (separator unit : ℕ) → (negative : Bool) → List ℕ → Option Instant
+unsigned_in sep unit negative l =
+    instant_by unit negative (digits_in l) (decimals_by sep (behind_digits l)) (exponent_in (behind_decimals_by sep (behind_digits l)))
 
 -- A date and a time of day, as 2024-06-21T14:28:30.123456789+00:00: it is counted back from the end of the month's last day.
 -- So times go on from day to day, and go back from month to month.
@@ -295,25 +311,25 @@ micros_left day hour minute second micros =
     then Some ((((32 - day) * 24 - hour) * 60 - minute) * 60000000 - second * 1000000 - micros) else None
 
 -- the moment of a month that these texts begin with: a day, an hour, a minute, a second and its decimals
-abbrev pub left_at : (day hour minute second : List ℕ) → Option ℕ
-left_at day hour minute second =
+abbrev pub left_at : (separator : ℕ) → (day hour minute second : List ℕ) → Option ℕ
+left_at sep day hour minute second =
     onward (number_in day) (λ d. onward (number_in hour) (λ h. onward (number_in minute) (λ m. onward (number_in second) (λ s.
-    onward (number_of_first 0 6 (decimals_in (behind_digits second))) (λ u. micros_left d h m s u)))))
+    onward (number_of_first 0 6 (decimals_by sep (behind_digits second))) (λ u. micros_left d h m s u)))))
 
 -- the parts of a time of day, after those of the date
-abbrev pub dated_in : List ℕ → Option Instant
-dated_in l =
+abbrev pub dated_in : (separator : ℕ) → List ℕ → Option Instant
+dated_in sep l =
     onward (behind_part 45 l) (λ month. onward (behind_part 45 month) (λ day. onward (behind_part 84 day) (λ hour.
     onward (behind_part 58 hour) (λ minute. onward (behind_part 58 minute) (λ second.
-    if list_all is_zone_sign (behind_decimals (behind_digits second)) then instant_of true (left_at day hour minute second) else None)))))
+    if list_all is_zone_sign (behind_decimals_by sep (behind_digits second)) then instant_of true (left_at sep day hour minute second) else None)))))
 
 -- the time that a field spells: a date and a time of day, or a number of units
-abbrev pub instant_or : (dated : Option Instant) → (unit : ℕ) → List ℕ → Option Instant
-instant_or (Some i) unit l = Some i
-instant_or None unit l = unsigned_in unit (is_minus l) (behind_plus_minus l)
+abbrev pub instant_or : (dated : Option Instant) → (separator unit : ℕ) → List ℕ → Option Instant
+instant_or (Some i) sep unit l = Some i
+instant_or None sep unit l = unsigned_in sep unit (is_minus l) (behind_plus_minus l)
 
-abbrev pub instant_in : (unit : ℕ) → List ℕ → Option Instant
-instant_in unit l = instant_or (dated_in l) unit l
+abbrev pub instant_in : (separator unit : ℕ) → List ℕ → Option Instant
+instant_in sep unit l = instant_or (dated_in sep l) sep unit l
 
 -- From the start of a table on, which is its first time, where that lies before 0, and else 0.
 

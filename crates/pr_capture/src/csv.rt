@@ -6,7 +6,7 @@
 
 ghost use Rattle.std.specs.Prelude.{◌≡◌, ◌+◌, ◌^◌, ◌<◌, ◌≤◌, ◌∷◌, [], false, true, None, Err, IfErr, IfOk, Ok, drop, length, option_copied, take, IfSome, Some};
 ghost use Rattle.std.specs.List.{list_all, prefix_len};
-ghost use Rattle.pr_capture.specs.Csv.{behind_point, clock_name, column_in, column_of, columns_in, field_at, fields_of, first_moment, has_times, is_archive, is_in_front, is_inner, is_separator, is_silent, is_twice, is_wide, layout_beside, layout_by, layout_of, level_of, level_or, moment_at, moment_next, moment_of, opened, rate_beside, row_of, sample_of, separator_of, without_space, without_zeros};
+ghost use Rattle.pr_capture.specs.Csv.{are_logic, behind_colon, behind_point, cell_level, channels_in, clock_name, column_in, columns_by, columns_called, columns_or, column_of, columns_in, field_at, fields_of, first_moment, has_level, has_numeral, has_times, is_archive, is_foreign, is_in_front, is_inner, is_level, is_level_letter, is_other, is_separator, is_silent, is_twice, is_wide, layout_beside, layout_by, layout_of, level_of, level_or, moment_at, moment_next, moment_of, noted, opened, place_meant, rate_beside, row_of, sample_by, sample_of, separator_behind, separator_of, separator_or, separator_said, with_channels, with_separator, without_space, without_zeros};
 ghost use Rattle.pr_capture.specs.CsvReads.{EndsText, FaultsIn, ReadsMore, RefusesTable, SkipsRows, TakesRepeats};
 ghost use Rattle.pr_capture.specs.CsvSteps.{field_len, fields_left, line_number, moment_after, with_len, AreTimed, AnswersEnd, HasNoRows, HasReadTable, HoldsMore, IsRowOf, NamesAreRefused, NamesLeadTo, ReadsLine};
 ghost use Rattle.pr_capture.specs.TableTimes.{time_at_rate};
@@ -18,7 +18,9 @@ use crate::last_row::LastRow;
 use crate::numbers::{behind_first, behind_word, first_of};
 use crate::remarks::{Remarks, has_numbers, is_counting, is_timing, scale_of, time_unit};
 use crate::signals::{Signals, are_framing, is_named, is_space, level_in, without_front};
-use crate::times::{Instant, from_start, instant_in, sample_in, start_of, time_at_rate, time_or};
+use crate::times::{
+    Instant, count_in, from_start, instant_in, sample_in, start_of, time_at_rate, time_or,
+};
 use pr_wire::{Edge, Levels};
 use std::alloc::Global;
 
@@ -28,6 +30,8 @@ pub struct Columns {
     pub atn: usize,
     pub clock: usize,
     pub line: usize,
+    /// Whether the first column is none of these, and has neither times nor numbers by its name: it has levels too.
+    pub has_other_first: bool,
 }
 
 /// What the rows' times are.
@@ -83,18 +87,44 @@ fn is_silent(line: &[u8]) -> bool
     }
 }
 
-/// The same, or the line that sigrok-cli puts in front of what it writes.
-fn is_in_front(line: &[u8]) -> bool
-    ensures { result ≡ is_in_front line.now }
-{
-    is_silent(line) || behind_word(b"METAsamplerate", line).is_some()
-}
-
 /// Whether a byte can separate fields.
 pub fn is_separator(b: u8) -> bool
     ensures { result ≡ is_separator b }
 {
     b == b',' || b == b';' || b == b'\t'
+}
+
+/// What separates fields, if this follows the word for it: an equals sign, and a comma, a semicolon or a tab.
+fn separator_behind(rest: &[u8]) -> Option<u8>
+    ensures { result ≡ separator_behind rest.now }
+{
+    match rest {
+        [sign, b, more @ ..] => {
+            if *sign == b'=' && is_separator(*b) && are_framing(more) {
+                Some(*b)
+            } else {
+                None
+            }
+        }
+        _ => None,
+    }
+}
+
+/// What separates fields, if a line says so, as spreadsheets are told.
+fn separator_said(line: &[u8]) -> Option<u8>
+    ensures { result ≡ separator_said line.now }
+{
+    separator_behind(behind_word(b"sep", line)?)
+}
+
+/// Whether a line comes before that of the names: it is silent, or the line that sigrok-cli puts in front of what it
+/// writes, or says what separates fields.
+fn is_in_front(line: &[u8]) -> bool
+    ensures { result ≡ is_in_front line.now }
+{
+    is_silent(line)
+        || behind_word(b"METAsamplerate", line).is_some()
+        || separator_said(line).is_some()
 }
 
 /// What separates fields, by the line of the names: the first comma, semicolon or tab.
@@ -107,6 +137,16 @@ fn separator_of(line: &[u8]) -> u8
         }
     }
     b','
+}
+
+/// The same where a line before has said it, or not.
+fn separator_or(said: Option<u8>, line: &[u8]) -> u8
+    ensures { result ≡ separator_or said line.now }
+{
+    match said {
+        None => separator_of(line),
+        Some(separator) => separator,
+    }
 }
 
 /// How many bytes the first field has. A separator between quotation marks does not end it.
@@ -188,6 +228,42 @@ fn is_twice(name: &[u8], separator: u8, fields: Option<&[u8]>) -> bool
     false
 }
 
+/// Whether a field is a number.
+fn has_numeral(separator: u8, fields: Option<&[u8]>) -> bool
+    requires { length (fields_left separator (option_copied fields)) < 2 ^ 64 }
+    ensures { result ≡ has_numeral (fields_left separator (option_copied fields.entry)) }
+{
+    let mut left = fields;
+    while let Some(line) = left {
+        let (field, more) = split_field(separator, line);
+        if count_in(without_front(field)).is_some() {
+            return true;
+        }
+        left = more;
+    }
+    false
+}
+
+/// The place of the field that a name means, where the first of them has a place: that which is this name, or, where no
+/// field is a number, that with this number, from 0.
+fn place_meant(name: &[u8], place: usize, separator: u8, fields: Option<&[u8]>) -> Option<usize>
+    requires { place + length (fields_left separator (option_copied fields)) < 2 ^ 64 }
+    ensures { result ≡ place_meant name.now place (fields_left separator (option_copied fields.entry)) }
+{
+    if let Some(at) = column_of(name, place, separator, fields) {
+        return Some(at);
+    }
+    if has_numeral(separator, fields) {
+        return None;
+    }
+    let number = usize::try_from(count_in(without_front(name))?).ok()?;
+    let line = fields?;
+    match field_at(separator, line, number) {
+        None => None,
+        Some(_) => Some(place + number),
+    }
+}
+
 /// Whether a column is of times.
 fn has_times(separator: u8, fields: Option<&[u8]>) -> bool
     requires { length (fields_left separator (option_copied fields)) < 2 ^ 64 }
@@ -219,7 +295,7 @@ fn column_in(
     if is_twice(name, separator, fields) {
         return Err(CaptureFault::TwoSignals(number, wire));
     }
-    match column_of(name, place, separator, fields) {
+    match place_meant(name, place, separator, fields) {
         None => Err(CaptureFault::NoSignal(number, wire)),
         Some(place) => Ok(place),
     }
@@ -234,6 +310,13 @@ fn clock_name<'s>(signals: &'s Signals<'_>, separator: u8, fields: Option<&[u8]>
         Some(_) => signals.clock,
         None => signals.second_name(),
     }
+}
+
+/// Whether the first column is none of these, where columns are counted from it.
+fn is_other(place: usize, atn: usize, clock: usize, line: usize) -> bool
+    ensures { result ≡ is_other place atn clock line }
+{
+    place == 0 && atn != 0 && clock != 0 && line != 0
 }
 
 /// The columns of the three lines, by the fields from a place on.
@@ -251,7 +334,128 @@ fn columns_in(
     let atn = column_in(number, Wire::Atn, signals.atn, place, separator, fields)?;
     let clock = column_in(number, Wire::Clock, clock, place, separator, fields)?;
     let line = column_in(number, Wire::Data, signals.line, place, separator, fields)?;
-    Ok(Columns { atn, clock, line })
+    Ok(Columns {
+        atn,
+        clock,
+        line,
+        has_other_first: is_other(place, atn, clock, line),
+    })
+}
+
+/// What follows the first colon.
+fn behind_colon(text: &[u8]) -> Option<&[u8]>
+    ensures behind { option_copied result ≡ behind_colon text.now }
+    ensures within { IfSome result (λ l. length l.now + 1 ≤ length text.now) }
+{
+    for (i, b) in text.iter().enumerate() {
+        if *b == b':' {
+            return Some(&text[i + 1..]);
+        }
+    }
+    None
+}
+
+/// The names in sigrok's remark of its channels.
+fn channels_in(line: &[u8]) -> Option<&[u8]>
+    ensures names { option_copied result ≡ channels_in line.now }
+    ensures within { IfSome result (λ l. length l.now + 1 ≤ length line.now) }
+{
+    if behind_word(b"channels", line).is_some() {
+        behind_colon(line)
+    } else {
+        None
+    }
+}
+
+/// The columns of the three lines, if the columns from a place on have these names.
+fn columns_called(signals: &Signals<'_>, place: usize, names: &[u8]) -> Option<Columns>
+    requires { place + length (fields_of 44 false names.now) < 2 ^ 64 }
+    ensures { result ≡ columns_called signals.now place names.now }
+{
+    match columns_in(signals, 0, place, b',', Some(names)) {
+        Ok(columns) => Some(columns),
+        Err(_) => None,
+    }
+}
+
+/// What is known after a line that says what separates fields, if it does.
+fn with_separator(remarks: Remarks, said: Option<u8>) -> Remarks
+    ensures { result ≡ with_separator remarks said }
+{
+    match said {
+        None => remarks,
+        Some(separator) => Remarks {
+            given: remarks.given,
+            rate: remarks.rate,
+            bare: remarks.bare,
+            separator: Some(separator),
+            alone: remarks.alone,
+            behind: remarks.behind,
+        },
+    }
+}
+
+/// What is known after sigrok's remark of its channels, if a line is one.
+fn with_channels(signals: &Signals<'_>, remarks: Remarks, names: Option<&[u8]>) -> Remarks
+    requires { IfSome names (λ l. length l.now + 2 < 2 ^ 64) }
+    ensures { result ≡ with_channels signals.now remarks (option_copied names.entry) }
+{
+    match names {
+        None => remarks,
+        Some(names) => Remarks {
+            given: remarks.given,
+            rate: remarks.rate,
+            bare: remarks.bare,
+            separator: remarks.separator,
+            alone: columns_called(signals, 0, names),
+            behind: columns_called(signals, 1, names),
+        },
+    }
+}
+
+/// What is known after a line that comes before that of the names.
+fn noted(signals: &Signals<'_>, remarks: Remarks, line: &[u8]) -> Remarks
+    requires { length line.now + 1 < 2 ^ 64 }
+    ensures { result ≡ noted signals.now remarks line.now }
+{
+    let behind = with_separator(remarks.behind(line), separator_said(line));
+    with_channels(signals, behind, channels_in(line))
+}
+
+/// Whether all of these columns are called by the unit that sigrok has for levels.
+fn are_logic(separator: u8, fields: Option<&[u8]>) -> bool
+    requires { length (fields_left separator (option_copied fields)) < 2 ^ 64 }
+    ensures { result ≡ are_logic (fields_left separator (option_copied fields.entry)) }
+{
+    let mut left = fields;
+    while let Some(line) = left {
+        let (field, more) = split_field(separator, line);
+        if !is_named(b"logic", field) {
+            return false;
+        }
+        left = more;
+    }
+    true
+}
+
+/// The columns of the three lines: where sigrok's units are the names, those of its remark, if there was one.
+fn columns_by(
+    signals: &Signals<'_>,
+    said: Option<Columns>,
+    number: usize,
+    place: usize,
+    separator: u8,
+    fields: Option<&[u8]>,
+) -> Result<Columns, CaptureFault>
+    requires { place + length (fields_left separator (option_copied fields)) < 2 ^ 64 }
+    ensures { result ≡ columns_by signals.now said number place (fields_left separator (option_copied fields.entry)) }
+{
+    if let Some(columns) = said {
+        if are_logic(separator, fields) {
+            return Ok(columns);
+        }
+    }
+    columns_in(signals, number, place, separator, fields)
 }
 
 /// The rate of samples, where the first column is another than one of times or of numbers.
@@ -287,9 +491,9 @@ fn layout_beside(
     ensures { result ≡ layout_beside signals.now remarks number separator has_numbers (fields_of separator false line.now) }
 {
     let columns = if has_numbers {
-        columns_in(signals, number, 1, separator, more)?
+        columns_by(signals, remarks.behind, number, 1, separator, more)?
     } else {
-        columns_in(signals, number, 0, separator, Some(line))?
+        columns_by(signals, remarks.alone, number, 0, separator, Some(line))?
     };
     let rate = if has_times(separator, Some(line)) {
         None
@@ -331,7 +535,7 @@ fn layout_by(
 {
     match unit {
         Some(unit) => {
-            let columns = columns_in(signals, number, 1, separator, more)?;
+            let columns = columns_by(signals, remarks.behind, number, 1, separator, more)?;
             Ok(Layout {
                 columns,
                 separator,
@@ -355,7 +559,7 @@ fn layout_of(
     requires { length line.now + 1 < 2 ^ 64 }
     ensures { result ≡ layout_of signals.now remarks number line.now }
 {
-    let separator = separator_of(line);
+    let separator = separator_or(remarks.separator, line);
     let (first, more) = split_field(separator, line);
     let unit = time_unit(remarks.bare_unit(), first);
     layout_by(signals, remarks, number, separator, unit, line, more)
@@ -389,6 +593,16 @@ fn behind_point(bytes: &[u8]) -> &[u8]
     }
 }
 
+/// The level that a letter spells in a table, in which z is released.
+fn cell_level(number: usize, is_inverted: bool, b: u8) -> Result<bool, CaptureFault>
+    ensures { result ≡ cell_level number is_inverted b }
+{
+    if b == b'z' || b == b'Z' {
+        return Ok(true);
+    }
+    level_in(number, is_inverted, b)
+}
+
 /// The level that a field spells: 0 or 1.0.
 fn level_of(number: usize, is_inverted: bool, field: &[u8]) -> Result<bool, CaptureFault>
     ensures { result ≡ level_of number is_inverted field.now }
@@ -397,7 +611,7 @@ fn level_of(number: usize, is_inverted: bool, field: &[u8]) -> Result<bool, Capt
         [] => Err(CaptureFault::BadLevel(number)),
         [b, rest @ ..] => {
             if are_framing(behind_point(rest)) {
-                level_in(number, is_inverted, *b)
+                cell_level(number, is_inverted, *b)
             } else {
                 Err(CaptureFault::BadLevel(number))
             }
@@ -420,15 +634,58 @@ fn level_or(
     }
 }
 
-/// A row's sample, which has this time.
-fn sample_of(
+/// Whether a byte is a letter of a level, known or not.
+fn is_level_letter(b: u8) -> bool
+    ensures { result ≡ is_level_letter b }
+{
+    b == b'0'
+        || b == b'L'
+        || b == b'l'
+        || b == b'1'
+        || b == b'H'
+        || b == b'h'
+        || b == b'x'
+        || b == b'X'
+        || b == b'z'
+        || b == b'Z'
+}
+
+/// Whether a field is a level, known or not.
+fn is_level(field: &[u8]) -> bool
+    ensures { result ≡ is_level field.now }
+{
+    match field {
+        [] => false,
+        [b, rest @ ..] => is_level_letter(*b) && are_framing(behind_point(rest)),
+    }
+}
+
+/// The same of the first field, if there is one.
+fn has_level(first: Option<&[u8]>) -> bool
+    ensures { result ≡ has_level (option_copied first.entry) }
+{
+    match first {
+        None => false,
+        Some(field) => is_level(without_front(field)),
+    }
+}
+
+/// Whether a first column that is none of the three lines' has no level in this row.
+fn is_foreign(layout: Layout, line: &[u8]) -> bool
+    ensures { result ≡ is_foreign layout.columns (fields_of layout.separator false line.now) }
+{
+    layout.columns.has_other_first && !has_level(field_at(layout.separator, line, 0))
+}
+
+/// The sample of the three lines' columns, which has this time.
+fn sample_by(
     layout: Layout,
     is_inverted: bool,
     number: usize,
     line: &[u8],
     time: u64,
 ) -> Result<Edge, CaptureFault>
-    ensures { result ≡ sample_of layout.columns is_inverted number (fields_of layout.separator false line.now) time }
+    ensures { result ≡ sample_by layout.columns is_inverted number (fields_of layout.separator false line.now) time }
 {
     let columns = layout.columns;
     let separator = layout.separator;
@@ -452,6 +709,22 @@ fn sample_of(
     )?;
     let levels = Levels { atn, clock, line };
     Ok(Edge { time, levels })
+}
+
+/// A row's sample, which has this time.
+fn sample_of(
+    layout: Layout,
+    is_inverted: bool,
+    number: usize,
+    line: &[u8],
+    time: u64,
+) -> Result<Edge, CaptureFault>
+    ensures { result ≡ sample_of layout.columns is_inverted number (fields_of layout.separator false line.now) time }
+{
+    if is_foreign(layout, line) {
+        return Err(CaptureFault::NoTime(number));
+    }
+    sample_by(layout, is_inverted, number, line, time)
 }
 
 /// How many rows there were after `rows` more.
@@ -528,12 +801,15 @@ impl Moment {
 
     /// That of a row.
     fn of_row(self, layout: Layout, number: usize, line: &[u8]) -> Result<Moment, CaptureFault>
-        ensures { result ≡ moment_of layout.scale number self (fields_of layout.separator false line.now) }
+        ensures { result ≡ moment_of layout.scale layout.separator number self (fields_of layout.separator false line.now) }
     {
         match layout.scale {
             Scale::Timed(unit) => {
                 let (time, _) = split_field(layout.separator, line);
-                self.at(number, instant_in(unit, without_front(time)))
+                self.at(
+                    number,
+                    instant_in(layout.separator, unit, without_front(time)),
+                )
             }
             Scale::Numbered { step, rate } => {
                 let (sample, _) = split_field(layout.separator, line);
@@ -625,7 +901,7 @@ impl RowPlace {
         ensures err { IfErr result (λ f. NamesAreRefused signals.now remarks number line.now f) }
     {
         if is_in_front(line) {
-            *self = RowPlace::Names(remarks.behind(line));
+            *self = RowPlace::Names(noted(signals, remarks, line));
             return Ok(());
         }
         let layout = layout_of(signals, remarks, number, line)?;

@@ -24,7 +24,7 @@ pub enum CaptureFault {
     #[error("line {0}: no signal {1}")]
     NoSignal(usize, Wire),
     /// The first column of a table is not one of times in a known unit: it has other counts by its name, or no rate of
-    /// samples is known.
+    /// samples is known; or, in a row at a rate, it has a cell that is no level, and its name does not say of what.
     #[error("line {0}: no time")]
     NoTime(usize),
     /// A word that can not be here.

@@ -58,11 +58,11 @@ fn copies_in(text: &[u8], len: usize) -> usize
     count
 }
 
-/// Whether no column is the first.
+/// Whether levels do not depend on the first column.
 fn are_behind(columns: Columns) -> bool
     ensures { result ≡ are_behind columns }
 {
-    columns.atn > 0 && columns.clock > 0 && columns.line > 0
+    !columns.has_other_first && columns.atn > 0 && columns.clock > 0 && columns.line > 0
 }
 
 /// Where the bytes of a row begin that have its levels, whatever its time is.

@@ -1,9 +1,9 @@
 //! What the name of a table's first column and its remarks say of time.
 
 ghost use Rattle.std.specs.Prelude.{◌≡◌, ◌∷◌, [], option_copied};
-ghost use Rattle.pr_capture.specs.TableTimes.{bare_unit, begins, behind_fraction, behind_marks, ends_there, has_numbers, is_counting, is_mark, is_micro, is_sample_word, is_sigrok_name, is_sigrok_word, is_this, is_timing, is_unit, is_whole, no_remarks, own_rate, scale_by, scale_of, rate_by, rate_given, rate_in, rate_known, rate_unit, remarked, time_unit, unit_apart, unit_behind, unit_by, unit_of, with_rate};
+ghost use Rattle.pr_capture.specs.TableTimes.{bare_unit, begins, behind_fraction, behind_marks, ends_there, has_numbers, is_counting, is_cut, is_mark, is_micro, is_sample_word, is_sigrok_name, is_sigrok_word, is_this, is_timing, is_unit, is_whole, no_remarks, own_rate, scale_by, scale_of, rate_by, rate_given, rate_in, rate_known, rate_unit, remarked, time_unit, unit_apart, unit_behind, unit_by, unit_of, with_rate};
 
-use crate::csv::Scale;
+use crate::csv::{Columns, Scale};
 use crate::entries::is_word;
 use crate::numbers::{
     are_letters, are_signs, are_some, behind_decimals, behind_digits, behind_first, behind_word,
@@ -21,6 +21,12 @@ pub struct Remarks {
     /// The unit of a column that is called Time alone, if it has times: how many decimals it is of a
     /// second.
     pub bare: Option<u8>,
+    /// The byte that separates fields, if a line says so.
+    pub separator: Option<u8>,
+    /// The columns of the three lines by sigrok's remark of its channels, if it names them, in a table without times.
+    pub alone: Option<Columns>,
+    /// The same in a table with times or numbers in front.
+    pub behind: Option<Columns>,
 }
 
 /// Whether a name is a micro sign before s, in UTF-8 (of two kinds) or in Latin-1.
@@ -37,19 +43,35 @@ fn is_unit(short: &[u8], long: &[u8], more: &[u8], name: &[u8]) -> bool
     spells(short, name) || spells(long, name) || spells(more, name)
 }
 
+/// Whether a name is that of a unit, cut short.
+fn is_cut(cut: &[u8], front: &[u8], name: &[u8]) -> bool
+    ensures { result ≡ is_cut cut.now front.now name.now }
+{
+    spells(cut, name) || spells(front, name)
+}
+
 /// How many decimals of a second a unit is, from 0 for seconds to 12 for picoseconds.
 fn unit_of(name: &[u8]) -> Option<u8>
     ensures { result ≡ unit_of name.now }
 {
     if is_unit(b"s", b"second", b"seconds", name) || spells(b"sec", name) {
         Some(0)
-    } else if is_unit(b"ms", b"millisecond", b"milliseconds", name) {
+    } else if is_unit(b"ms", b"millisecond", b"milliseconds", name)
+        || is_cut(b"msec", b"millis", name)
+    {
         Some(3)
-    } else if is_unit(b"us", b"microsecond", b"microseconds", name) || is_micro(name) {
+    } else if is_unit(b"us", b"microsecond", b"microseconds", name)
+        || is_cut(b"usec", b"micros", name)
+        || is_micro(name)
+    {
         Some(6)
-    } else if is_unit(b"ns", b"nanosecond", b"nanoseconds", name) {
+    } else if is_unit(b"ns", b"nanosecond", b"nanoseconds", name)
+        || is_cut(b"nsec", b"nanos", name)
+    {
         Some(9)
-    } else if is_unit(b"ps", b"picosecond", b"picoseconds", name) {
+    } else if is_unit(b"ps", b"picosecond", b"picoseconds", name)
+        || is_cut(b"psec", b"picos", name)
+    {
         Some(12)
     } else {
         None
@@ -118,6 +140,7 @@ pub fn is_counting(name: &[u8]) -> bool
         || begins(b"time", name)
         || begins(b"timestamp", name)
         || begins(b"elapsed", name)
+        || begins(b"delta", name)
         || begins(b"relative", name)
         || begins(b"sample", name)
         || begins(b"samples", name)
@@ -137,7 +160,10 @@ pub fn is_counting(name: &[u8]) -> bool
 pub fn is_timing(name: &[u8]) -> bool
     ensures { result ≡ is_timing name.now }
 {
-    begins(b"time", name) || begins(b"timestamp", name) || begins(b"elapsed", name)
+    begins(b"time", name)
+        || begins(b"timestamp", name)
+        || begins(b"elapsed", name)
+        || begins(b"delta", name)
 }
 
 /// Whether a name is one that sigrok gives to times: Time, or their unit in full.
@@ -349,6 +375,9 @@ impl Remarks {
             given,
             rate: None,
             bare: Some(0),
+            separator: None,
+            alone: None,
+            behind: None,
         }
     }
 
@@ -404,6 +433,9 @@ impl Remarks {
             given: self.given,
             rate,
             bare,
+            separator: self.separator,
+            alone: self.alone,
+            behind: self.behind,
         }
     }
 
@@ -418,6 +450,9 @@ impl Remarks {
                 given: self.given,
                 rate: rate_in(behind_marks(text)),
                 bare: None,
+                separator: self.separator,
+                alone: self.alone,
+                behind: self.behind,
             },
         }
     }

@@ -2,14 +2,14 @@
 
 ghost use Rattle.std.specs.Prelude.{◌≡◌, ◌+◌, ◌^◌, ◌<◌, ◌≤◌, false, length, option_copied, take, IfSome, Some};
 ghost use Rattle.std.specs.List.{list_all};
-ghost use Rattle.pr_capture.specs.TableTimes.{behind_part, behind_plus_minus, count_in, dated_in, earlier, exponent_in, few_places, from_start, has_rest, instant_at, instant_by, instant_in, is_minus, is_zone_sign, left_at, micros_left, micros_of, places_in, sample_in, start_of, time_at_rate, time_or, times_in, unsigned_in, instant_of};
+ghost use Rattle.pr_capture.specs.TableTimes.{behind_decimals_by, behind_part, behind_plus_minus, count_in, dated_in, decimals_by, earlier, exponent_in, few_places, from_start, has_rest, instant_at, instant_by, instant_in, is_decimal_sign, is_minus, is_zone_sign, left_at, micros_left, micros_of, places_in, sample_in, start_of, time_at_rate, time_or, times_in, unsigned_in, instant_of};
 ghost use Rattle.pr_capture.specs.Numbers.{onward};
 ghost use Rattle.pr_capture.specs.CsvSteps.{IsTimeAhead, decimals_len, is_plain};
 
 use crate::fault::CaptureFault;
 use crate::numbers::{
-    are_some, behind_decimals, behind_digits, behind_first, decimals_in, digits_ahead, digits_in,
-    first_of, number_from, number_in, number_of_first,
+    are_some, behind_digits, behind_first, digits_ahead, digits_in, first_of, number_from,
+    number_in, number_of_first,
 };
 use crate::signals::{are_framing, is_framing};
 use pr_base::{digit_count, is_digit};
@@ -170,17 +170,56 @@ fn instant_by(
     instant_at(is_negative, right, left, whole, decimals)
 }
 
+/// Whether a byte is the sign before decimals: a point, or a comma where another byte separates fields.
+fn is_decimal_sign(separator: u8, b: u8) -> bool
+    ensures { result ≡ is_decimal_sign separator b }
+{
+    b == b'.' || (b == b',' && separator != b',')
+}
+
+/// The digits after that sign, if it is here.
+fn decimals_by(separator: u8, text: &[u8]) -> &[u8]
+    ensures { result.now ≡ decimals_by separator text.now }
+{
+    match text {
+        [] => &[],
+        [b, rest @ ..] => {
+            if is_decimal_sign(separator, *b) {
+                digits_in(rest)
+            } else {
+                &[]
+            }
+        }
+    }
+}
+
+/// What follows them.
+fn behind_decimals_by(separator: u8, text: &[u8]) -> &[u8]
+    ensures { result.now ≡ behind_decimals_by separator text.now }
+{
+    match text {
+        [] => &[],
+        [b, rest @ ..] => {
+            if is_decimal_sign(separator, *b) {
+                behind_digits(rest)
+            } else {
+                text
+            }
+        }
+    }
+}
+
 /// The time that a number without its sign spells.
-fn unsigned_in(unit: u8, is_negative: bool, text: &[u8]) -> Option<Instant>
-    ensures { result ≡ unsigned_in unit is_negative text.now }
+fn unsigned_in(separator: u8, unit: u8, is_negative: bool, text: &[u8]) -> Option<Instant>
+    ensures { result ≡ unsigned_in separator unit is_negative text.now }
 {
     let behind = behind_digits(text);
-    let exponent = exponent_in(behind_decimals(behind));
+    let exponent = exponent_in(behind_decimals_by(separator, behind));
     instant_by(
         unit,
         is_negative,
         digits_in(text),
-        decimals_in(behind),
+        decimals_by(separator, behind),
         exponent,
     )
 }
@@ -227,10 +266,10 @@ fn micros_left(day: u64, hour: u64, minute: u64, second: u64, micros: u64) -> Op
 
 /// The same of the moment that these texts begin with: a day, an hour, a minute, a second and its
 /// decimals.
-fn left_at(day: &[u8], hour: &[u8], minute: &[u8], second: &[u8]) -> Option<u64>
-    ensures { result ≡ left_at day.now hour.now minute.now second.now }
+fn left_at(separator: u8, day: &[u8], hour: &[u8], minute: &[u8], second: &[u8]) -> Option<u64>
+    ensures { result ≡ left_at separator day.now hour.now minute.now second.now }
 {
-    let decimals = decimals_in(behind_digits(second));
+    let decimals = decimals_by(separator, behind_digits(second));
     let day = number_in(day)?;
     let hour = number_in(hour)?;
     let minute = number_in(minute)?;
@@ -240,18 +279,18 @@ fn left_at(day: &[u8], hour: &[u8], minute: &[u8], second: &[u8]) -> Option<u64>
 }
 
 /// The time of a date and a time of day, counted back from the end of the month's last day.
-fn dated_in(text: &[u8]) -> Option<Instant>
-    ensures { result ≡ dated_in text.now }
+fn dated_in(separator: u8, text: &[u8]) -> Option<Instant>
+    ensures { result ≡ dated_in separator text.now }
 {
     let month = behind_part(b'-', text)?;
     let day = behind_part(b'-', month)?;
     let hour = behind_part(b'T', day)?;
     let minute = behind_part(b':', hour)?;
     let second = behind_part(b':', minute)?;
-    if !are_zone(behind_decimals(behind_digits(second))) {
+    if !are_zone(behind_decimals_by(separator, behind_digits(second))) {
         return None;
     }
-    let micros = left_at(day, hour, minute, second)?;
+    let micros = left_at(separator, day, hour, minute, second)?;
     Some(Instant {
         is_negative: true,
         micros,
@@ -314,14 +353,14 @@ pub fn plain_in(unit: u8, text: &[u8]) -> Option<PlainTime>
     })
 }
 
-/// The time that a field spells: a date and a time of day, or a number of units, of which one is a
-/// second's decimal of this place.
-pub fn instant_in(unit: u8, field: &[u8]) -> Option<Instant>
-    ensures { result ≡ instant_in unit field.now }
+/// The time that a field of a table with this separator spells: a date and a time of day, or a number of units, of
+/// which one is a second's decimal of this place.
+pub fn instant_in(separator: u8, unit: u8, field: &[u8]) -> Option<Instant>
+    ensures { result ≡ instant_in separator unit field.now }
 {
-    match dated_in(field) {
+    match dated_in(separator, field) {
         Some(time) => Some(time),
-        None => unsigned_in(unit, is_minus(field), behind_plus_minus(field)),
+        None => unsigned_in(separator, unit, is_minus(field), behind_plus_minus(field)),
     }
 }
 
@@ -383,7 +422,7 @@ pub fn time_at_rate(rate: u64, count: u64) -> Option<u64>
 }
 
 /// The number that a field spells by digits alone.
-fn count_in(text: &[u8]) -> Option<u64>
+pub fn count_in(text: &[u8]) -> Option<u64>
     ensures { result ≡ count_in text.now }
 {
     if are_framing(behind_digits(text)) {

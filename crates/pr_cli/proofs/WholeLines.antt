@@ -14,10 +14,10 @@ use Rattle.pr_capture.specs.declared.csv.RowPlace.TheVariants.{First, Names, Row
 use Rattle.pr_capture.specs.declared.fault.CaptureFault.{CaptureFault}
 use Rattle.pr_capture.specs.declared.remarks.Remarks.{Remarks}
 use Rattle.pr_capture.specs.declared.signals.Signals.{Signals}
-use Rattle.pr_capture.specs.Csv.{contents_after_row, csv_contents, fields_of, first_contents, first_moment, is_in_front, is_inner, is_silent, layout_of, line_contents, opened, row_contents, row_of}
+use Rattle.pr_capture.specs.Csv.{contents_after_row, csv_contents, fields_of, first_contents, first_moment, is_in_front, is_inner, is_silent, layout_of, line_contents, noted, opened, row_contents, row_of}
 use Rattle.pr_capture.specs.CsvSteps.{contents_from, contents_left, HasReadTable}
 use Rattle.pr_capture.specs.Recording.{ended, with_samples, CaptureContents}
-use Rattle.pr_capture.specs.TableTimes.{no_remarks, remarked}
+use Rattle.pr_capture.specs.TableTimes.{no_remarks}
 use Rattle.pr_cli.specs.StartSteps.{IsWhole}
 
 -- The lines of a text.
@@ -119,10 +119,10 @@ rows-more y inverted number m (l ∷ ls) = step (is_silent l) refl (row_of y inv
 
 lines-more : (s : Signals) (r : Remarks) (number : ℕ) (ls : List (List ℕ)) → HasMore (line_contents s r number ls) (line_contents s r number (ls ++ last))
 lines-more s r number [] = λ none. absurd (cc)
-lines-more s r number (l ∷ ls) = step (is_in_front l) refl (layout_of s r number l) refl (lines-more s (remarked r l) (number + 1) ls)
+lines-more s r number (l ∷ ls) = step (is_in_front l) refl (layout_of s r number l) refl (lines-more s (noted s r l) (number + 1) ls)
   where
     step : (front : Bool) → is_in_front l ≡ front → (v : Result Layout CaptureFault) → layout_of s r number l ≡ v
-        → HasMore (line_contents s (remarked r l) (number + 1) ls) (line_contents s (remarked r l) (number + 1) (ls ++ last))
+        → HasMore (line_contents s (noted s r l) (number + 1) ls) (line_contents s (noted s r l) (number + 1) (ls ++ last))
         → HasMore (line_contents s r number (l ∷ ls)) (line_contents s r number ((l ∷ ls) ++ last))
     step true e v is next = rw e next
     step false e (Err f) is next = rw (e, is) (λ none. absurd (cc))

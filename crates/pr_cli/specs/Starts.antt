@@ -5,11 +5,13 @@
 -- has the same time; in a table without times it is a sample later, and moment 0 is the first sample. By hand:
 --   Time [s],ATN,CLK,DATA      no sample comes before the first row
 --   -0.5,1,1,1                 the first row, at 0 us
---   0,1,1,1 and 0,1,1,1        twice the same row at moment 0: both at 500,000 us, which is the answer
+--   0,1,1,1 and 0,1,1,1        twice the same row at moment 0: both at 500,000 us, which is the answer; so of -0,5;1;1;1 under Time [s];ATN;CLK;DATA
 -- After -2.0005,1,1,1 in ms it is 2001 us, since times before 0 are rounded to the earlier microsecond. After 0.5,1,1,1 samples
 -- count from moment 0, and a row at 0 goes back and is refused: 0. At 1000 rows a second the three are at 0, 1000 and 2000 us: 0.
-use Rattle.std.specs.Prelude.{ℕ, ◌==◌, ◌||◌, Bool, true, false, List, [], ◌∷◌, ◌++◌, if◌then◌else◌}
+use Rattle.std.specs.Prelude.{ℕ, ◌==◌, ◌||◌, ◌&&◌, not, drop, Bool, true, false, List, [], ◌∷◌, ◌++◌, if◌then◌else◌}
+use Rattle.std.specs.List.{prefix_len}
 use Rattle.pr_wire.specs.declared.Edge.{Edge}
+use Rattle.pr_base.specs.Digits.{is_digit}
 use Rattle.pr_base.specs.Lines.{lines_of}
 use Rattle.pr_capture.specs.declared.format.Source.{Source}
 use Rattle.pr_capture.specs.declared.format.Source.TheVariants as source
@@ -29,10 +31,20 @@ has_row (sample ∷ samples) = true
 abbrev pub with_line : (text line : List ℕ) → List ℕ
 with_line text line = text ++ (line ++ 10 ∷ [])
 
--- a row from its first comma, semicolon or tab on
+-- a text begins with a semicolon or a tab
+abbrev pub ends_field : List ℕ → Bool
+ends_field [] = false
+ends_field (b ∷ bs) = b == 59 || b == 9
+
+-- a text begins with a comma that stands in a number, as in 0,5;1;1;1: digits follow it, up to a semicolon or a tab
+abbrev pub has_fraction : List ℕ → Bool
+has_fraction [] = false
+has_fraction (b ∷ bs) = b == 44 && ends_field (drop (prefix_len is_digit bs) bs)
+
+-- a row from its first comma, semicolon or tab on, but for a comma in a number
 abbrev pub after_time : (row : List ℕ) → List ℕ
 after_time [] = []
-after_time (b ∷ bs) = if is_separator b then b ∷ bs else after_time bs
+after_time (b ∷ bs) = if is_separator b && not (has_fraction (b ∷ bs)) then b ∷ bs else after_time bs
 
 -- the same row with 0 for its time
 abbrev pub at_zero : (row : List ℕ) → List ℕ

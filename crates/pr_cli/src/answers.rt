@@ -23,7 +23,7 @@ use crate::told::{
 use pr_dots::Shapes;
 use pr_files::{Noting, save};
 use pr_jobs::{CliFault, RunEnd, SCRIPT_LIMIT, TeeReader, Watched};
-use pr_listing::{ListingForm, TextFault, read_text};
+use pr_listing::{ListingForm, TextFault, plain_form, read_text};
 use pr_options::{DecodeOutput, Job, PagesOutput, Task};
 use pr_render::Format;
 use std::alloc::Global;
@@ -350,6 +350,20 @@ fn answer_job<R: Read + Drop, W: Write + Drop>(
         ListingForm::Petcat => {
             answer_listing(rt, reader, writer, names, ListingForm::Petcat, work, aside)
         }
+        ListingForm::Magazine => {
+            answer_listing(
+                rt,
+                reader,
+                writer,
+                names,
+                ListingForm::Magazine,
+                work,
+                aside,
+            )
+        }
+        ListingForm::Auto => {
+            answer_listing(rt, reader, writer, names, ListingForm::Auto, work, aside)
+        }
     }
 }
 
@@ -468,7 +482,7 @@ fn answer_listing<R: Read + Drop, W: Write + Drop>(
             let kept = input.into_inner().into_inner();
             let aside = Aside {
                 is_file: false,
-                has_capitals: aside.is_noted && form == ListingForm::Petcat && is_shouted(kept),
+                has_capitals: aside.is_noted && is_shouted(kept, form),
                 ..aside
             };
             answer_over(rt, text.as_slice(), writer, names, work, aside)
@@ -477,30 +491,36 @@ fn answer_listing<R: Read + Drop, W: Write + Drop>(
             let input = input.into_inner();
             clear(rt, aside.is_shown);
             refuse_listing(rt, fault, names.input, input.error());
-            explain_listing(rt, input.into_inner(), fault, aside);
+            explain_listing(rt, input.into_inner(), form, fault, aside);
             (End::Listing(fault), writer)
         }
     }
 }
 
-/// Whether the text of petcat's that was kept has more capitals than small letters in its strings.
-fn is_shouted<R: Read + Drop>(kept: TeeReader<R>) -> bool {
+/// Whether the listing that was kept is petcat's text, and has more capitals than small letters in its strings.
+fn is_shouted<R: Read + Drop>(kept: TeeReader<R>, form: ListingForm) -> bool {
     match kept.into_bytes() {
-        Some(bytes) => has_more_capitals(bytes.as_slice()),
+        Some(bytes) => is_shouted_text(bytes.as_slice(), form),
         None => false,
     }
+}
+
+/// The same of its bytes.
+fn is_shouted_text(bytes: &[u8], form: ListingForm) -> bool {
+    plain_form(form, bytes) == ListingForm::Petcat && has_more_capitals(bytes)
 }
 
 /// Writes what more there is to say of a listing without a text, or how to get that.
 fn explain_listing<R: Read + Drop>(
     rt: &impl Eprint,
     kept: TeeReader<R>,
+    form: ListingForm,
     fault: TextFault,
     aside: Aside<'_>,
 ) {
     if aside.is_explained {
         if let Some(bytes) = kept.into_bytes() {
-            tell_listing(rt, bytes.as_slice(), fault);
+            tell_listing(rt, bytes.as_slice(), form, fault);
         }
     } else if aside.is_advised && matches!(fault, TextFault::Listing(_)) {
         advise(rt);

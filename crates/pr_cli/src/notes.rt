@@ -6,7 +6,8 @@ use pr_listing::{ListingForm, has_typed_strings, looks_like_disk, looks_saved};
 /// What is said of a script with small letters or braces in its strings.
 const TYPED_STRINGS: &str =
     "strings are sent as they are: small letters print graphics, or capitals \
-     after OPEN file,device,7, and {name} prints its letters; --from petcat reads both as typed";
+     after OPEN file,device,7, and {name} prints its letters; --from petcat reads both as typed, \
+     and --from magazine names beside capitals";
 
 /// What is said of petcat's text whose strings have more capitals than small letters.
 const PETCAT_CAPITALS: &str =
@@ -30,7 +31,7 @@ fn note(rt: &impl Eprint, text: &str) {
 
 /// Writes what is to be noted of the text of a script that has run. The text of a listing in another form was made of it.
 pub fn note_script(rt: &impl Eprint, script: &[u8], form: ListingForm) {
-    if form == ListingForm::Text && is_typed(script) {
+    if is_script(form) && is_typed(script) {
         note(rt, TYPED_STRINGS);
     }
     if let Some(line) = line_with_return(script) {
@@ -61,6 +62,11 @@ pub fn note_bytes(rt: &impl Eprint, bytes: &[u8]) {
     } else if looks_like_disk(bytes) {
         note(rt, DISK_BYTES);
     }
+}
+
+/// Whether a listing in this form is a script's text, or may be.
+pub fn is_script(form: ListingForm) -> bool {
+    matches!(form, ListingForm::Text | ListingForm::Auto)
 }
 
 /// Whether a string of a script has a small letter or a brace. Most scripts have none at all, which is soon seen.

@@ -29,9 +29,8 @@ const DISK: &str = "this is an image of a disk: VICE's c1541 takes a program out
 const TAPE: &str =
     "this is an image of a tape: an emulator loads the program, and saves it as name.prg";
 
-/// The same of a file that has a program behind a header.
-const HEADER: &str =
-    "this is a program behind a header of 26 bytes: tail -c +27 FILE > name.prg leaves the program";
+/// The same of a file of data behind a header.
+const HEADER: &str = "this is a file of data, and no program, behind a header of 26 bytes";
 
 /// The same of a cartridge.
 const CARTRIDGE: &str = "this is an image of a cartridge, which has no listing";
@@ -204,8 +203,8 @@ fn foreign_hint(words: &[&str], fault: &JobFault, value: Option<&str>) -> Option
 fn input_hint(value: &str) -> Option<&'static str> {
     match value {
         "d64" | "d71" | "d80" | "d81" | "d82" | "g64" | "g71" | "nib" => Some(DISK),
-        "t64" | "tap" => Some(TAPE),
-        "p00" | "s00" => Some(HEADER),
+        "tap" => Some(TAPE),
+        "s00" => Some(HEADER),
         "crt" => Some(CARTRIDGE),
         "gz" | "zip" | "xz" | "7z" | "rar" | "lnx" => Some(ARCHIVE),
         "vcd" => Some(RECORDING),

@@ -10,11 +10,12 @@ ghost use Rattle.pr_capture.specs.declared.fault.CaptureFault.TheVariants.{NoMem
 ghost use Rattle.pr_input.specs.Watched.{wrapped};
 ghost use Rattle.pr_cli.specs.Jobs.{started_job, zero_of_job};
 ghost use Rattle.pr_cli.specs.Reading.{ReadsMore};
-ghost use Rattle.pr_cli.specs.Starts.{after_time, at_zero, is_csv, is_instant, own_zero, same_time, samples_in, table_zero, with_line, with_zeros, zero_by};
+ghost use Rattle.pr_cli.specs.Starts.{after_time, at_zero, ends_field, has_fraction, is_csv, is_instant, own_zero, same_time, samples_in, table_zero, with_line, with_zeros, zero_by};
 ghost use Rattle.pr_cli.specs.StartSteps.{EndsLine, FindsSample, GoesOn, ShowsZero};
 ghost use Rattle.pr_cli.specs.Statuses.{fault_status};
 
 use crate::jobs::restarted_job;
+use pr_base::digit_count;
 use pr_capture::{CaptureFault, CsvReader, Source, TraceInput};
 use pr_jobs::{BLOCK, CliFault, Watched};
 use pr_options::Job;
@@ -281,16 +282,33 @@ fn push_at_zero(text: &mut Vec<u8>, row: &[u8]) -> Result<(), AllocError>
     push_line(text, after_time(row))
 }
 
-/// A row from the first comma, semicolon or tab on.
+/// A row from the first comma, semicolon or tab on, but for a comma in a number, as in `0,5;1;1;1`.
 fn after_time(row: &[u8]) -> &[u8]
     ensures { result.now ≡ after_time row.now }
 {
     for (i, b) in row.iter().enumerate() {
-        if is_separator(*b) {
+        if is_separator(*b) && !has_fraction(&row[i..]) {
             return &row[i..];
         }
     }
     &[]
+}
+
+/// Whether a text begins with a comma that stands in a number: digits follow it, up to a semicolon or a tab.
+fn has_fraction(text: &[u8]) -> bool
+    ensures { result ≡ has_fraction text.now }
+{
+    match text {
+        [b',', rest @ ..] => ends_field(&rest[digit_count(rest)..]),
+        _ => false,
+    }
+}
+
+/// Whether a text begins with a semicolon or a tab.
+fn ends_field(text: &[u8]) -> bool
+    ensures { result ≡ ends_field text.now }
+{
+    matches!(text, [b';' | b'\t', ..])
 }
 
 /// Whether a row's time has a colon, as 2024-06-21T14:28:30.5Z. Later fields do not count.

@@ -1,13 +1,16 @@
 //! What more there is to say of a job's input, on standard error.
 
-use crate::notes::{is_typed, note_bytes, note_script};
+use crate::notes::{is_script, is_typed, note_bytes, note_script};
 use pr_basic::{ScriptFault, StatusMode, cut_line};
 use pr_capture::{Source, TraceFormat, TraceInput};
 use pr_explain::{
     explain_line, explain_reading, explain_script, explain_stop, explain_trace, remark_on,
 };
 use pr_jobs::{CliFault, PictureFault, RunEnd};
-use pr_listing::{ListingFault, ListingForm, TextFault, looks_like_text, looks_saved};
+use pr_listing::{
+    ListingFault, ListingForm, TextFault, begins_with_heading, found_form, looks_like_text,
+    plain_form,
+};
 use pr_options::{CheckOutput, DecodeOutput, Job, PagesOutput, Task};
 use pr_recording::Heard;
 use pr_render::Format;
@@ -32,8 +35,17 @@ const PLAIN_TEXT: &str = "this looks like text: --from text or petcat reads one"
 const PETCAT_NAMES: &str =
     "in a string { begins a name of petcat's and } ends it, as {down}, {3 down} or {$8e}";
 
+/// What is said of a magazine's listing with an unknown name.
+const MAGAZINE_NAMES: &str = "in a string { begins a name of a key and } ends it, as {CLR}, \
+     {5 SPACES}, {SHIFT-A} or {$A0}";
+
+/// What is said of a magazine's listing with a byte that its strings never have.
+const MAGAZINE_BYTES: &str = "a string of a magazine's listing has capitals, digits and signs: \
+     the bytes 32 to 95; --from petcat reads small letters";
+
 /// What is said of petcat's text with a byte that it never has.
-const PETCAT_BYTES: &str = "a string of petcat's text has the bytes 32 to 126";
+const PETCAT_BYTES: &str =
+    "a string of petcat's text has letters, digits and signs: the bytes 32 to 95 and small letters";
 
 /// What is said of bytes that come in the lower/upper case set.
 const LOWER_SET: &str = "the bytes are for the lower case set: raw --set lower prints them";
@@ -236,11 +248,10 @@ fn script_hint(
     answer: Result<RunEnd, CliFault>,
 ) -> Option<&'static str> {
     match answer {
-        Err(CliFault::Script(_)) if form == ListingForm::Text && looks_saved(script) => {
-            Some(SAVED_PROGRAM)
-        }
+        Err(CliFault::Script(_)) if is_script(form) && found_form(script) == ListingForm::Program =>
+            { Some(SAVED_PROGRAM) }
         Err(CliFault::Script(fault))
-            if form == ListingForm::Text && may_be_petcat(script) && !is_letter(script, fault) => {
+            if is_script(form) && may_be_petcat(script) && !is_letter(script, fault) => {
             Some(PETCAT_TEXT)
         }
         _ => None,
@@ -266,28 +277,37 @@ fn may_be_petcat(script: &[u8]) -> bool {
     is_typed(script) || begins_with_heading(script)
 }
 
-/// Whether the first byte that is no blank or end of a line is `;`.
-fn begins_with_heading(script: &[u8]) -> bool {
-    for byte in script {
-        if !matches!(*byte, b' ' | b'\r' | b'\n') {
-            return *byte == b';';
-        }
-    }
-    false
-}
-
 /// Writes what more there is to say of a listing that has no text, on standard error.
-pub fn tell_listing(rt: &impl Eprint, bytes: &[u8], fault: TextFault) {
+pub fn tell_listing(rt: &impl Eprint, bytes: &[u8], form: ListingForm, fault: TextFault) {
+    let form = plain_form(form, bytes);
     match fault {
-        TextFault::Listing(ListingFault::NoAddress | ListingFault::CutOff(_)) => {
+        TextFault::Listing(
+            ListingFault::NoAddress | ListingFault::CutOff(_) | ListingFault::NoLine,
+        ) => {
             show_hint(rt, Some(PROGRAM_FORM));
             if looks_like_text(bytes) {
                 show_hint(rt, Some(PLAIN_TEXT));
             }
         }
-        TextFault::Listing(ListingFault::UnknownName(..)) => show_hint(rt, Some(PETCAT_NAMES)),
-        TextFault::Listing(ListingFault::BadByte(..)) => show_hint(rt, Some(PETCAT_BYTES)),
+        TextFault::Listing(ListingFault::UnknownName(..)) => show_hint(rt, Some(names_in(form))),
+        TextFault::Listing(ListingFault::BadByte(..)) => show_hint(rt, Some(bytes_in(form))),
         _ => {}
+    }
+}
+
+/// What is said of a listing in a form with an unknown name.
+fn names_in(form: ListingForm) -> &'static str {
+    match form {
+        ListingForm::Magazine => MAGAZINE_NAMES,
+        _ => PETCAT_NAMES,
+    }
+}
+
+/// What is said of a listing in a form with a byte that its strings never have.
+fn bytes_in(form: ListingForm) -> &'static str {
+    match form {
+        ListingForm::Magazine => MAGAZINE_BYTES,
+        _ => PETCAT_BYTES,
     }
 }
 

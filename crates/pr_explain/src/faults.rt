@@ -5,12 +5,13 @@ ghost use Rattle.pr_jobs.specs.Report.{IsOwnFault};
 ghost use Rattle.pr_explain.specs.TracePlaces.{capture_line, fault_line};
 
 use crate::names::{
-    first_field, has_units, is_number, push_dump_names, push_same_names, push_table_names,
-    separator_of,
+    begins_with, first_field, has_fractions, has_times_behind, has_units, is_number,
+    push_dump_names, push_same_names, push_table_names, separator_of,
 };
 use crate::texts::{Cut, line_with, without_end};
 use crate::words::begins_listing;
 use pr_base::digit_count;
+use pr_basic::cut_line;
 use pr_capture::{CaptureFault, Signals, Source, TraceInput, Wire};
 use pr_jobs::CliFault;
 use pr_wire::{NoMemory, TraceFault};
@@ -35,6 +36,11 @@ const LIKE_TRACE: &str = "this looks like a trace text: use --from text";
 /// What a message says of a table in which sigrok-cli calls each signal `logic`.
 const UNITS: &str =
     "sigrok-cli writes units in place of names: write the table with -O csv:label=channel";
+
+/// What a message says of a row whose cells have decimals in place of levels.
+const VOLTS: &str =
+    "expected level 0, 1, L or H: these look like volts; export digital channels, or let the analyzer \
+     compare with a threshold";
 
 /// What a message says of text of 16 bits a letter.
 const WIDE: &str = "this is UTF-16 text: save the recording as UTF-8 text";
@@ -131,7 +137,8 @@ pub fn push_fault(
             push_same_names(alloc, text, bytes, name, second)
         }
         (CliFault::Capture(CaptureFault::NoSignal(_, wire)), Source::Csv) => {
-            push_columns(text, line, wire, signals)
+            push_columns(text, line, wire, signals)?;
+            push_skipped(text, bytes, line)
         }
         (CliFault::Capture(fault), Source::Vcd) => {
             let rule = no_dump_hint(bytes, fault).unwrap_or(rule_of_dumps(fault));
@@ -139,6 +146,10 @@ pub fn push_fault(
         }
         (CliFault::Capture(CaptureFault::NoTime(_)), Source::Csv) => {
             write!(text, "  {}\n", rule_of_times(line))
+        }
+        (CliFault::Capture(CaptureFault::BadLevel(_)), Source::Csv)
+            if has_fractions(separator_of(line).unwrap_or(b','), line) => {
+            write!(text, "  {VOLTS}\n")
         }
         (CliFault::Capture(fault), Source::Csv) => write!(text, "  {}\n", rule_of_tables(fault)),
         _ => push_text_rule(text, line),
@@ -202,6 +213,35 @@ fn push_columns(
     push_table_names(text, separator, line)
 }
 
+/// Adds which line looks like the names of a table's columns and is a remark, where a row stands in place of the names.
+fn push_skipped(text: &mut String, bytes: &[u8], row: &[u8]) -> Result<(), NoMemory> {
+    if !begins_number(row) {
+        return Ok(());
+    }
+    match skipped_names(bytes) {
+        Some(number) => write!(
+            text,
+            "  line {number} begins with #, so it is a remark, and its names do not count: delete the #\n"
+        ),
+        None => Ok(()),
+    }
+}
+
+/// The number of the first line, from 1, that begins with `#` and has a separator of fields.
+fn skipped_names(bytes: &[u8]) -> Option<usize> {
+    let mut rest = bytes;
+    let mut number: usize = 0;
+    while !rest.is_empty() {
+        let (line, more) = cut_line(rest);
+        number = number.wrapping_add(1);
+        if line.starts_with(b"#") && separator_of(line).is_some() {
+            return Some(number);
+        }
+        rest = more;
+    }
+    None
+}
+
 /// What a dump has where it has this fault.
 fn rule_of_dumps(fault: CaptureFault) -> &'static str {
     match fault {
@@ -229,8 +269,8 @@ fn rule_of_dumps(fault: CaptureFault) -> &'static str {
 fn rule_of_tables(fault: CaptureFault) -> &'static str {
     match fault {
         CaptureFault::BadTime(_) => {
-            "expected a time first, such as 0.000125, -2 or 5e-05, in the unit of its column and below \
-             2^64 microseconds; sample numbers are digits, and times after sigrok-cli's remark of a rate are \
+            "expected a time first, such as 0.000125, -2 or 5e-05 (0,000125 where ; or a tab separates), in \
+             the unit of its column and below 2^64 microseconds; sample numbers are digits, and times after sigrok-cli's remark of a rate are \
              multiples of one sample's"
         }
         CaptureFault::GoesBack(_) => {
@@ -243,18 +283,34 @@ fn rule_of_tables(fault: CaptureFault) -> &'static str {
     }
 }
 
-/// What a table has whose names, in this line, are refused since it has no times.
+/// What a table has that is refused since it has no times: by this line, of its names or a row whose first cell is no level.
 fn rule_of_times(line: &[u8]) -> &'static str {
     let name = first_field(separator_of(line).unwrap_or(b','), line);
-    if is_time_alone(name) {
+    if begins_number(name) {
+        "this first column has no levels, and its name is none of times: name this column: Time [us], \
+         Sample; or move it behind the signals if it is neither"
+    } else if has_times_behind(separator_of(line).unwrap_or(b','), line) {
+        "a later column has times: move it to the front, and name it with its unit, such as Time [us]"
+    } else if begins_with(name, b"sample") {
+        "these are numbers of samples: give the sample rate with --rate, such as --rate 4M, or in a remark \
+         such as ; Samplerate: 4 MHz"
+    } else if begins_with(name, b"delta") {
+        "a column Delta has differences, and does not say of which rows: export the times of the rows, and \
+         name this column: Time [us], Sample"
+    } else if is_time_alone(name) {
         "the unit of these times is not known: name it, such as Time [ms], or, where they are in seconds, \
          leave out the sample rate (--rate, or the line that gives it); a table of sigrok-cli is read with \
          its own remarks and without --rate: write it from a .sr file"
     } else {
-        "expected a first column of times, such as Time [s] or microseconds, or of sample numbers named \
-         Sample: rename it, or move the column of times to the front; where no column is of times, give the \
-         sample rate with --rate, such as --rate 4M, or in a remark such as ; Samplerate: 4 MHz"
+        "expected a first column of times or of sample numbers: name this column: Time [us], Sample; or \
+         move the column of times to the front; where no column is of times, give the sample rate with \
+         --rate, such as --rate 4M, or in a remark such as ; Samplerate: 4 MHz"
     }
+}
+
+/// Whether a cell begins as a number does, and a name hardly.
+fn begins_number(cell: &[u8]) -> bool {
+    matches!(cell, [b'0'..=b'9' | b'+' | b'-' | b'.', ..])
 }
 
 /// Whether a column has a word for time as its name, without a unit.

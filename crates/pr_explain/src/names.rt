@@ -185,10 +185,50 @@ pub fn has_units(separator: u8, line: &[u8]) -> bool {
     false
 }
 
+/// Whether a column behind the first one has a word for time first in its name.
+pub fn has_times_behind(separator: u8, line: &[u8]) -> bool {
+    let (_, fields) = split_field(separator, line);
+    let mut rest = fields;
+    while !rest.is_empty() {
+        let (field, more) = split_field(separator, rest);
+        rest = more;
+        if begins_time(unframed(field)) {
+            return true;
+        }
+    }
+    false
+}
+
+/// Whether a name begins with a word for time.
+fn begins_time(name: &[u8]) -> bool {
+    begins_with(name, b"time") || begins_with(name, b"elapsed") || begins_with(name, b"delta")
+}
+
+/// Whether a name begins with a word, in capitals or not.
+pub fn begins_with(name: &[u8], word: &[u8]) -> bool {
+    name.len() >= word.len() && name[..word.len()].eq_ignore_ascii_case(word)
+}
+
 /// The first field of a line, without what is around it.
 pub fn first_field(separator: u8, line: &[u8]) -> &[u8] {
     let (field, _) = split_field(separator, line);
     unframed(field)
+}
+
+/// Whether a field behind the first one has a point between digits, as volts have.
+pub fn has_fractions(separator: u8, line: &[u8]) -> bool {
+    let (_, fields) = split_field(separator, line);
+    for (i, byte) in fields.iter().enumerate() {
+        if *byte == b'.' && 0 < i && begins_fraction(&fields[i - 1..]) {
+            return true;
+        }
+    }
+    false
+}
+
+/// Whether bytes begin with a digit, a point and a digit.
+fn begins_fraction(bytes: &[u8]) -> bool {
+    matches!(bytes, [b'0'..=b'9', b'.', b'0'..=b'9', ..])
 }
 
 /// The first field of a line, and what follows its separator; nothing, where it has none. One between

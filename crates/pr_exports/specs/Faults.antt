@@ -107,6 +107,7 @@ listing_numbers listing.NoAddress = (61, 0, 0)
 listing_numbers (listing.CutOff line) = (62, line, 0)
 listing_numbers (listing.UnknownName line column) = (63, line, column)
 listing_numbers (listing.BadByte line column) = (64, line, column)
+listing_numbers listing.NoLine = (65, 0, 0)
 listing_numbers listing.NoMemory = (90, 0, 0)
 
 -- the same of a listing that is read

@@ -69,11 +69,12 @@ abbrev pub mode_of : (is_kept : Bool) → StatusMode
 mode_of false = mode.Each
 mode_of true = mode.Kept
 
--- the form of a listing: the text of a script, a saved program, petcat's text
+-- the form of a listing: the text of a script, a saved program, petcat's text, a magazine's listing, what the first bytes show
 abbrev pub form_of : ℕ → Option ListingForm
 form_of form =
     if form == 0 then Some listing.Text
-    else (if form == 1 then Some listing.Program else (if form == 2 then Some listing.Petcat else None))
+    else (if form == 1 then Some listing.Program else (if form == 2 then Some listing.Petcat
+    else (if form == 3 then Some listing.Magazine else (if form == 4 then Some listing.Auto else None))))
 
 -- the format of pages: the page text, lines of 80 columns, an SVG document, a sheet as a PNG file, or a PDF document
 abbrev pub format_of : ℕ → Option Format

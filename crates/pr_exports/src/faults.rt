@@ -178,6 +178,7 @@ fn listing_numbers(fault: ListingFault) -> (usize, usize, usize)
         ListingFault::CutOff(line) => (62, line, 0),
         ListingFault::UnknownName(line, column) => (63, line, column),
         ListingFault::BadByte(line, column) => (64, line, column),
+        ListingFault::NoLine => (65, 0, 0),
         ListingFault::NoMemory => (NO_MEMORY, 0, 0),
     }
 }

@@ -23,7 +23,7 @@
 //! of faults.
 //!
 //! `tools/archive` makes the library for C of this crate and pr_ear, and `web/module` the WebAssembly module. The tests are
-//! in this crate, since no crate can be built on a static library.
+//! a C program, tests/exports.c, since no crate can be built on a static library.
 #![tactic(auto)]
 
 mod answer;
@@ -52,6 +52,3 @@ pub use printing::{bytes_are_inputs, print1525_print};
 pub use program::{End, print1525_answer, print1525_names};
 pub use recordings::{print1525_check, print1525_readings, print1525_reprint};
 pub use scripts::{print1525_script_fault, print1525_statement_lines};
-
-#[cfg(test)]
-mod tests;

@@ -56,7 +56,8 @@ fn answer_for(listed: Listed) -> Answer
 }
 
 /// Puts the text of a script that a listing has at the front of the caller's buffer: that of
-/// [`pr_listing::script_text`]. `form` is 0 for the text of a script, 1 for a saved program, 2 for petcat's text.
+/// [`pr_listing::script_text`]. `form` is 0 for the text of a script, 1 for a saved program, 2 for petcat's text,
+/// 3 for a magazine's listing, 4 for what its first bytes show.
 ///
 /// It is refused where a number means no form, with the listing's fault, where memory was refused, and where the text has more
 /// bytes than the buffer has room for, with their number. The buffer is then as it was.

@@ -82,7 +82,8 @@ pub fn presence(four: u8, five: u8) -> Present
     }
 }
 
-/// The form of a listing: 0 the text of a script, 1 a saved program, 2 petcat's text.
+/// The form of a listing: 0 the text of a script, 1 a saved program, 2 petcat's text, 3 a magazine's listing, 4 what
+/// the first bytes show.
 pub fn form_for(form: u8) -> Option<ListingForm>
     ensures { result ≡ form_of form }
 {
@@ -90,6 +91,8 @@ pub fn form_for(form: u8) -> Option<ListingForm>
         0 => Some(ListingForm::Text),
         1 => Some(ListingForm::Program),
         2 => Some(ListingForm::Petcat),
+        3 => Some(ListingForm::Magazine),
+        4 => Some(ListingForm::Auto),
         _ => None,
     }
 }

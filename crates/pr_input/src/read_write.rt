@@ -12,7 +12,7 @@ use crate::watched::Watched;
 use std::alloc::{AllocError, Global};
 use std::io::{Read, Write};
 
-/// How many bytes one read asks for, and a block of a page text has.
+/// How many bytes one read of a recording asks for, and a block of a page text has.
 pub const BLOCK: usize = 65_536;
 
 /// Why input was not read whole.
@@ -58,7 +58,9 @@ pub fn read_whole<R: Read>(
     ensures failed { IsErrOf result ReadFault.ReadFailed ↔ (has_failed input.new ≡ true) }
 {
     let mut bytes = Vec::new(alloc);
-    let mut block = [0u8; BLOCK];
+    // Most input that is read whole is short, and each page of the stack that is touched for the first time costs the
+    // start of the program a microsecond or two.
+    let mut block = [0u8; 8_192];
     'pieces: loop {
         match input.read(&mut block) {
             Err(_) => return Err(ReadFault::ReadFailed),

@@ -5,7 +5,7 @@ use Rattle.pr_listing.specs.Listing.{line_text, lines_text}
 use Rattle.pr_listing.specs.Program.{BeginsWith, BeginsWithLines, Line}
 
 -- one line more at the end
-begins-one_more : (ls : List Line) (l : Line) (bytes rest after : List ℕ) → BeginsWithLines ls bytes rest → BeginsWith l rest after → BeginsWithLines (ls ++ l ∷ []) bytes after
+pub begins-one_more : (ls : List Line) (l : Line) (bytes rest after : List ℕ) → BeginsWithLines ls bytes rest → BeginsWith l rest after → BeginsWithLines (ls ++ l ∷ []) bytes after
 begins-one_more [] l bytes rest after e b = (after, subst (λ (x : List ℕ). BeginsWith l x after) (sym e) b, refl)
 begins-one_more (m ∷ ms) l bytes rest after h b = (h.0, h.1, begins-one_more ms l h.0 rest after h.2 b)
 

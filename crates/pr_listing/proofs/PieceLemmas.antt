@@ -7,48 +7,49 @@ use Rattle.pr_base.specs.Lines.{lines_of}
 use Rattle.pr_basic.specs.Grammar.{without_return}
 use Rattle.pr_listing.specs.Listing.{quoted_text, string_text}
 use Rattle.pr_listing.specs.Names.{named}
-use Rattle.pr_listing.specs.Petcat.{Character, HasLineText, IsHeading, remark_of, HasText, HaveLinesText, HaveText, IsLineFault, IsPetcatFault, IsPetcatText, IsPieceFault, Name, Piece, at_place, before_remark, byte_of, is_in_braces, quoted_after, repeated, spelled}
+use Rattle.pr_listing.specs.Typed.{Character, HasLineText, IsHeading, remark_of, HasText, HaveLinesText, HaveText, IsLineFault, IsTypedFault, IsTypedText, IsPieceFault, Name, Piece, at_place, before_remark, byte_of, is_in_braces, quoted_after, repeated, spelled}
 use Rattle.pr_listing.specs.Pieces.{ArePiecesTaken, IsFrontTaken, IsLineTaken, IsNameTaken, IsNoName, IsPieceTaken, IsReadTo}
 use Rattle.pr_listing.specs.declared.fault.ListingFault.{ListingFault}
 use Rattle.pr_listing.specs.declared.fault.ListingFault.TheVariants as listing
-use Rattle.pr_listing.specs.declared.petcat.PieceFault.{PieceFault}
-use Rattle.pr_listing.specs.declared.petcat.PieceFault.TheVariants as piece
+use Rattle.pr_listing.specs.declared.names.Spelling.{Spelling}
+use Rattle.pr_listing.specs.declared.typed.PieceFault.{PieceFault}
+use Rattle.pr_listing.specs.declared.typed.PieceFault.TheVariants as piece
 use Rattle.pr_listing.proofs.Marks.{at_mark, before_mark, first_mark, mark_within}
 
 -- one piece more at the end
-have-one_more : (q : Bool) (ps : List Piece) (bytes said : List ℕ) (m : Bool) (rest : List ℕ) (p : Piece) (after t : List ℕ) (next : Bool) → HaveText q ps bytes said m rest → rest ≡ spelled p after → HasText m p t → next ≡ quoted_after m p
-    → HaveText q (ps ++ p ∷ []) bytes (said ++ t) next after
-have-one_more q [] bytes said m rest p after t next h cut has goes = (
+have-one_more : (w : Spelling) → (q : Bool) (ps : List Piece) (bytes said : List ℕ) (m : Bool) (rest : List ℕ) (p : Piece) (after t : List ℕ) (next : Bool) → HaveText w q ps bytes said m rest → rest ≡ spelled p after → HasText w m p t → next ≡ quoted_after m p
+    → HaveText w q (ps ++ p ∷ []) bytes (said ++ t) next after
+have-one_more w q [] bytes said m rest p after t next h cut has goes = (
   after,
   t,
   [],
   h.2 ∙ cut,
-  subst (λ (v : Bool). HasText v p t) h.1 has,
+  subst (λ (v : Bool). HasText w v p t) h.1 has,
   ap (λ v. v ++ t) h.0 ∙ sym (append-nil t),
   (refl, goes ∙ ap (λ v. quoted_after v p) h.1, refl),
 )
-have-one_more q (o ∷ ps) bytes said m rest p after t next h cut has goes = (
+have-one_more w q (o ∷ ps) bytes said m rest p after t next h cut has goes = (
   h.0,
   h.1,
   h.2 ++ t,
   h.3,
   h.4,
   ap (λ v. v ++ t) h.5 ∙ append_assoc h.1 h.2 t,
-  have-one_more (quoted_after q o) ps h.0 h.2 m rest p after t next h.6 cut has goes,
+  have-one_more w (quoted_after q o) ps h.0 h.2 m rest p after t next h.6 cut has goes,
 )
 
 -- one piece more is taken
-pub taken-one_more : (front rest after : List ℕ) (m next : Bool) (old mid new : List ℕ) → ArePiecesTaken front rest m old mid → IsPieceTaken m rest after next mid new → ArePiecesTaken front after next old new
-taken-one_more front rest after m next old mid new h k = record {
+pub taken-one_more : (w : Spelling) → (front rest after : List ℕ) (m next : Bool) (old mid new : List ℕ) → ArePiecesTaken w front rest m old mid → IsPieceTaken w m rest after next mid new → ArePiecesTaken w front after next old new
+taken-one_more w front rest after m next old mid new h k = record {
   pieces = h.pieces ++ k.piece ∷ [];
   said = h.said ++ k.said;
-  have = have-one_more false h.pieces front h.said m rest k.piece after k.said next h.have k.cut k.has k.goes_on;
+  have = have-one_more w false h.pieces front h.said m rest k.piece after k.said next h.have k.cut k.has k.goes_on;
   is_text = k.is_text ∙ (ap (λ v. v ++ k.said) h.is_text ∙ append_assoc old h.said k.said);
 }
 
 -- before the first piece
-pub none_taken : (front old : List ℕ) → ArePiecesTaken front front false old old
-none_taken front old = record {
+pub none_taken : (w : Spelling) → (front old : List ℕ) → ArePiecesTaken w front front false old old
+none_taken w front old = record {
   pieces = [];
   said = [];
   have = (refl, refl, refl);
@@ -67,15 +68,15 @@ name_cut bs n e l =
     rw (next, e) (at_mark is_in_braces 125 brace_is bs lt)
 
 -- no brace closes
-pub none_closes : (bs : List ℕ) → prefix_len is_in_braces bs ≡ length bs → IsNoName bs
-none_closes bs e name rest cut closed = absurd (omega (arith, e, ap length cut, ap (prefix_len is_in_braces) cut, mark_within is_in_braces 125 refl name rest))
+pub none_closes : (w : Spelling) → (bs : List ℕ) → prefix_len is_in_braces bs ≡ length bs → IsNoName w bs
+none_closes w bs e name rest cut closed = absurd (omega (arith, e, ap length cut, ap (prefix_len is_in_braces) cut, mark_within is_in_braces 125 refl name rest))
 
 -- the one name that is closed is none
-pub none_named : (bs : List ℕ) (n : ℕ) → n ≡ prefix_len is_in_braces bs → n < length bs → named (take n bs) ≡ None → IsNoName bs
-none_named bs n e l none name rest cut closed =
+pub none_named : (w : Spelling) → (bs : List ℕ) (n : ℕ) → n ≡ prefix_len is_in_braces bs → n < length bs → named w (take n bs) ≡ None → IsNoName w bs
+none_named w bs n e l none name rest cut closed =
     let same : (name ≡ take n bs) × (rest ≡ drop (n + 1) bs) =
     first_mark is_in_braces 125 refl name (take n bs) rest (drop (n + 1) bs) closed (rw e (before_mark is_in_braces bs)) (sym cut ∙ name_cut bs n e l) in
-    ap named same.0 ∙ none
+    ap (named w) same.0 ∙ none
 
 -- a name is closed at its first brace
 pub name_closed : (bs : List ℕ) (n : ℕ) → n ≡ prefix_len is_in_braces bs → list_all is_in_braces (take n bs) ≡ true
@@ -87,12 +88,12 @@ first_byte [] h = absurd (omega arith)
 first_byte (b ∷ bs) h = refl
 
 -- a byte outside strings
-pub plain_piece : (q : Bool) (bs after old new : List ℕ) (next : Bool) → q ≡ false → 0 < length bs → after ≡ drop 1 bs → new ≡ old ++ get_or bs 0 0 ∷ [] → next ≡ (get_or bs 0 0 == 34) → IsPieceTaken q bs after next old new
-plain_piece q bs after old new next out some rest text goes = record {
+pub plain_piece : (w : Spelling) → (q : Bool) (bs after old new : List ℕ) (next : Bool) → q ≡ false → 0 < length bs → after ≡ drop 1 bs → new ≡ old ++ get_or bs 0 0 ∷ [] → next ≡ (get_or bs 0 0 == 34) → IsPieceTaken w q bs after next old new
+plain_piece w q bs after old new next out some rest text goes = record {
   piece = Character (get_or bs 0 0);
   said = get_or bs 0 0 ∷ [];
   cut = first_byte bs some ∙ ap (λ v. get_or bs 0 0 ∷ v) (sym rest);
-  has = subst (λ (v : Bool). HasText v (Character (get_or bs 0 0)) (get_or bs 0 0 ∷ [])) (sym out) refl;
+  has = subst (λ (v : Bool). HasText w v (Character (get_or bs 0 0)) (get_or bs 0 0 ∷ [])) (sym out) refl;
   goes_on = goes ∙ rw out (toggled (get_or bs 0 0 == 34));
   is_text = text;
 }
@@ -102,13 +103,13 @@ plain_piece q bs after old new next out some rest text goes = record {
     toggled false = refl
 
 -- a character of a string
-pub character_piece : (q : Bool) (bs after old new : List ℕ) (next : Bool) → q ≡ true → 0 < length bs → after ≡ drop 1 bs → ((b : ℕ) × (byte_of (get_or bs 0 0) ≡ Some b) × (new ≡ old ++ quoted_text b)) → next ≡ not (get_or bs 0 0 == 34)
-    → IsPieceTaken q bs after next old new
-character_piece q bs after old new next within some rest text goes = record {
+pub character_piece : (w : Spelling) → (q : Bool) (bs after old new : List ℕ) (next : Bool) → q ≡ true → 0 < length bs → after ≡ drop 1 bs → ((b : ℕ) × (byte_of w (get_or bs 0 0) ≡ Some b) × (new ≡ old ++ quoted_text b)) → next ≡ not (get_or bs 0 0 == 34)
+    → IsPieceTaken w q bs after next old new
+character_piece w q bs after old new next within some rest text goes = record {
   piece = Character (get_or bs 0 0);
   said = quoted_text text.0;
   cut = first_byte bs some ∙ ap (λ v. get_or bs 0 0 ∷ v) (sym rest);
-  has = subst (λ (v : Bool). HasText v (Character (get_or bs 0 0)) (quoted_text text.0)) (sym within) (text.0, text.1, refl);
+  has = subst (λ (v : Bool). HasText w v (Character (get_or bs 0 0)) (quoted_text text.0)) (sym within) (text.0, text.1, refl);
   goes_on = goes ∙ rw within (toggled (get_or bs 0 0 == 34));
   is_text = text.2;
 }
@@ -118,47 +119,47 @@ character_piece q bs after old new next within some rest text goes = record {
     toggled false = refl
 
 -- a name in a string
-pub name_piece : (q : Bool) (bs rest old new : List ℕ) → q ≡ true → 0 < length bs → get_or bs 0 0 ≡ 123 → IsNameTaken (drop 1 bs) rest old new → IsPieceTaken q bs rest true old new
-name_piece q bs rest old new within some brace taken = record {
+pub name_piece : (w : Spelling) → (q : Bool) (bs rest old new : List ℕ) → q ≡ true → 0 < length bs → get_or bs 0 0 ≡ 123 → IsNameTaken w (drop 1 bs) rest old new → IsPieceTaken w q bs rest true old new
+name_piece w q bs rest old new within some brace taken = record {
   piece = Name taken.name;
   said = repeated taken.count (string_text taken.byte);
   cut = first_byte bs some ∙ (ap (λ v. v ∷ drop 1 bs) brace ∙ ap (λ v. 123 ∷ v) taken.cut);
-  has = subst (λ (v : Bool). HasText v (Name taken.name) (repeated taken.count (string_text taken.byte))) (sym within) (taken.count, taken.byte, taken.known, taken.closed, refl);
+  has = subst (λ (v : Bool). HasText w v (Name taken.name) (repeated taken.count (string_text taken.byte))) (sym within) (taken.count, taken.byte, taken.known, taken.closed, refl);
   goes_on = sym within;
   is_text = taken.is_text;
 }
 
 -- no name after a brace
-pub name_fault : (bs : List ℕ) → 0 < length bs → get_or bs 0 0 ≡ 123 → IsNoName (drop 1 bs) → IsPieceFault piece.UnknownName bs
-name_fault bs some brace none = (drop 1 bs, first_byte bs some ∙ ap (λ v. v ∷ drop 1 bs) brace, none)
+pub name_fault : (w : Spelling) → (bs : List ℕ) → 0 < length bs → get_or bs 0 0 ≡ 123 → IsNoName w (drop 1 bs) → IsPieceFault w piece.UnknownName bs
+name_fault w bs some brace none = (drop 1 bs, first_byte bs some ∙ ap (λ v. v ∷ drop 1 bs) brace, none)
 
 -- a byte that petcat does not write
-pub byte_fault : (bs : List ℕ) → 0 < length bs → (get_or bs 0 0 ≡ 123 → ⊥) → byte_of (get_or bs 0 0) ≡ None → IsPieceFault piece.BadByte bs
-byte_fault bs some other none = (get_or bs 0 0, drop 1 bs, first_byte bs some, other, none)
+pub byte_fault : (w : Spelling) → (bs : List ℕ) → 0 < length bs → (get_or bs 0 0 ≡ 123 → ⊥) → byte_of w (get_or bs 0 0) ≡ None → IsPieceFault w piece.BadByte bs
+byte_fault w bs some other none = (get_or bs 0 0, drop 1 bs, first_byte bs some, other, none)
 
 -- one line more at the end
-have_lines-one_more : (ls : List (List ℕ)) (l text said more : List ℕ) → HaveLinesText ls text → HasLineText (without_return l) said → more ≡ text ++ (said ++ 10 ∷ []) → HaveLinesText (ls ++ l ∷ []) more
-have_lines-one_more [] l text said more h k e = (said, [], k, e ∙ ap (λ v. v ++ (said ++ 10 ∷ [])) h, refl)
-have_lines-one_more (m ∷ ls) l text said more h k e = (
+have_lines-one_more : (w : Spelling) → (ls : List (List ℕ)) (l text said more : List ℕ) → HaveLinesText w ls text → HasLineText w (without_return l) said → more ≡ text ++ (said ++ 10 ∷ []) → HaveLinesText w (ls ++ l ∷ []) more
+have_lines-one_more w [] l text said more h k e = (said, [], k, e ∙ ap (λ v. v ++ (said ++ 10 ∷ [])) h, refl)
+have_lines-one_more w (m ∷ ls) l text said more h k e = (
   h.0,
   h.1 ++ (said ++ 10 ∷ []),
   h.2,
   e ∙ (ap (λ v. v ++ (said ++ 10 ∷ [])) h.3 ∙ append_assoc h.0 (10 ∷ h.1) (said ++ 10 ∷ [])),
-  have_lines-one_more ls l h.1 said (h.1 ++ (said ++ 10 ∷ [])) h.4 k refl,
+  have_lines-one_more w ls l h.1 said (h.1 ++ (said ++ 10 ∷ [])) h.4 k refl,
 )
 
 -- one line more is read
-pub read-one_more : (file text rest line after said more : List ℕ) (number : ℕ) → IsReadTo file text rest number → lines_of rest ≡ line ∷ lines_of after → HasLineText (without_return line) said → more ≡ text ++ (said ++ 10 ∷ []) → IsReadTo file more after (number + 1)
-read-one_more file text rest line after said more number h cut k e = record {
+pub read-one_more : (w : Spelling) → (file text rest line after said more : List ℕ) (number : ℕ) → IsReadTo w file text rest number → lines_of rest ≡ line ∷ lines_of after → HasLineText w (without_return line) said → more ≡ text ++ (said ++ 10 ∷ []) → IsReadTo w file more after (number + 1)
+read-one_more w file text rest line after said more number h cut k e = record {
   before = h.before ++ line ∷ [];
   cut = h.cut ∙ (ap (λ v. h.before ++ v) cut ∙ sym (append_assoc h.before (line ∷ []) (lines_of after)));
-  has = have_lines-one_more h.before line text said more h.has k e;
+  has = have_lines-one_more w h.before line text said more h.has k e;
   numbered = omega (arith, h.numbered, length-append h.before (line ∷ []));
 }
 
 -- before the first line
-pub none_read : (file : List ℕ) → IsReadTo file [] file 1
-none_read file = record {
+pub none_read : (w : Spelling) → (file : List ℕ) → IsReadTo w file [] file 1
+none_read w file = record {
   before = [];
   cut = refl;
   has = refl;
@@ -166,15 +167,15 @@ none_read file = record {
 }
 
 -- all lines were read
-pub all_read : (file text rest : List ℕ) (number : ℕ) → IsReadTo file text rest number → length rest ≡ 0 → IsPetcatText file text
+pub all_read : (w : Spelling) → (file text rest : List ℕ) (number : ℕ) → IsReadTo w file text rest number → length rest ≡ 0 → IsTypedText w file text
 unfolding lines_of
-all_read file text [] number h e = subst (λ (ls : List (List ℕ)). HaveLinesText ls text) (sym (h.cut ∙ append-nil h.before)) h.has
-all_read file text (b ∷ rest) number h e = absurd (omega arith)
+all_read w file text [] number h e = subst (λ (ls : List (List ℕ)). HaveLinesText w ls text) (sym (h.cut ∙ append-nil h.before)) h.has
+all_read w file text (b ∷ rest) number h e = absurd (omega arith)
 
 -- a line with a fault after the lines that were read
-pub fault_found : (file text rest line after : List ℕ) (number column : ℕ) (f : PieceFault) (fault : ListingFault) → IsReadTo file text rest number → lines_of rest ≡ line ∷ lines_of after → IsLineFault f column (without_return line) → fault ≡ at_place f number (column + 1)
-    → IsPetcatFault file fault
-fault_found file text rest line after number column f fault h cut k e = (
+pub fault_found : (w : Spelling) → (file text rest line after : List ℕ) (number column : ℕ) (f : PieceFault) (fault : ListingFault) → IsReadTo w file text rest number → lines_of rest ≡ line ∷ lines_of after → IsLineFault w f column (without_return line) → fault ≡ at_place f number (column + 1)
+    → IsTypedFault w file fault
+fault_found w file text rest line after number column f fault h cut k e = (
   f,
   number,
   column,
@@ -192,20 +193,20 @@ fault_found file text rest line after number column f fault h cut k e = (
 )
 
 -- a line that fails after the lines that were read
-pub refused_at : (file text rest line cut after : List ℕ) (number column : ℕ) (f : PieceFault) (fault : ListingFault) → IsReadTo file text rest number → lines_of rest ≡ line ∷ lines_of after → cut ≡ without_return line
-    → ((f ≡ piece.NoMemory) ⊎ IsLineFault f column cut) → fault ≡ at_place f number (column + 1) → (fault ≡ listing.NoMemory) ⊎ IsPetcatFault file fault
-refused_at file text rest line cut after number column f fault h e same (inl none) k = inl (k ∙ ap (λ v. at_place v number (column + 1)) none)
-refused_at file text rest line cut after number column f fault h e same (inr found) k = inr (fault_found file text rest line after number column f fault h e (subst (IsLineFault f column) same found) k)
+pub refused_at : (w : Spelling) → (file text rest line cut after : List ℕ) (number column : ℕ) (f : PieceFault) (fault : ListingFault) → IsReadTo w file text rest number → lines_of rest ≡ line ∷ lines_of after → cut ≡ without_return line
+    → ((f ≡ piece.NoMemory) ⊎ IsLineFault w f column cut) → fault ≡ at_place f number (column + 1) → (fault ≡ listing.NoMemory) ⊎ IsTypedFault w file fault
+refused_at w file text rest line cut after number column f fault h e same (inl none) k = inl (k ∙ ap (λ v. at_place v number (column + 1)) none)
+refused_at w file text rest line cut after number column f fault h e same (inr found) k = inr (fault_found w file text rest line after number column f fault h e (subst (IsLineFault w f column) same found) k)
 
 -- the text of a line is added
-pub line_taken : (line old mid new : List ℕ) (n : ℕ) → n ≡ before_remark false line → ¬ IsHeading line → IsFrontTaken (take n line) old mid → new ≡ mid ++ drop n line → IsLineTaken line old new
-line_taken line old mid new n e none h k = (
+pub line_taken : (w : Spelling) → (line old mid new : List ℕ) (n : ℕ) → n ≡ before_remark false line → ¬ IsHeading w line → IsFrontTaken w (take n line) old mid → new ≡ mid ++ drop n line → IsLineTaken w line old new
+line_taken w line old mid new n e none h k = (
   h.1.said ++ remark_of line,
-  inr (none, (h.1.pieces, h.1.said, h.0, subst (λ (v : ℕ). HaveText false h.1.pieces (take v line) h.1.said h.0 []) e h.1.have, refl)),
+  inr (none, (h.1.pieces, h.1.said, h.0, subst (λ (v : ℕ). HaveText w false h.1.pieces (take v line) h.1.said h.0 []) e h.1.have, refl)),
   k ∙ (ap (λ v. v ++ drop n line) h.1.is_text ∙ (append_assoc old h.1.said (drop n line) ∙ ap (λ v. old ++ (h.1.said ++ drop v line)) e)),
 )
 
 -- one line more is read, with byte 10 after its text
-pub line_read : (file text rest line cut after mid more : List ℕ) (number : ℕ) → IsReadTo file text rest number → lines_of rest ≡ line ∷ lines_of after → cut ≡ without_return line → IsLineTaken cut text mid → more ≡ mid ++ 10 ∷ [] → IsReadTo file more after (number + 1)
-line_read file text rest line cut after mid more number h e same k added =
-    read-one_more file text rest line after k.0 more number h e (subst (λ (v : List ℕ). HasLineText v k.0) same k.1) (added ∙ (ap (λ v. v ++ 10 ∷ []) k.2 ∙ append_assoc text k.0 (10 ∷ [])))
+pub line_read : (w : Spelling) → (file text rest line cut after mid more : List ℕ) (number : ℕ) → IsReadTo w file text rest number → lines_of rest ≡ line ∷ lines_of after → cut ≡ without_return line → IsLineTaken w cut text mid → more ≡ mid ++ 10 ∷ [] → IsReadTo w file more after (number + 1)
+line_read w file text rest line cut after mid more number h e same k added =
+    read-one_more w file text rest line after k.0 more number h e (subst (λ (v : List ℕ). HasLineText w v k.0) same k.1) (added ∙ (ap (λ v. v ++ 10 ∷ []) k.2 ∙ append_assoc text k.0 (10 ∷ [])))

@@ -1,11 +1,11 @@
 -- A saved program's text is a script of the statements that its tokens are.
-use Rattle.std.proofs.Common.{◌≡◌, ℕ, zero, suc, ◌+◌, ◌-◌, ◌*◌, ◌^◌, ◌<◌, ◌≤◌, Bool, true, false, List, [], ◌∷◌, ◌++◌, length, refl, ap, subst, sym, ◌∙◌, arith, append_assoc, inl, inr}
+use Rattle.std.proofs.Common.{◌≡◌, ℕ, zero, suc, ◌+◌, ◌-◌, ◌*◌, ◌^◌, ◌<◌, ◌≤◌, Bool, true, false, List, [], ◌∷◌, ◌++◌, length, take, drop, take-append-drop, refl, ap, subst, sym, ◌∙◌, arith, append_assoc, inl, inr}
 use Rattle.std.proofs.lemmas.Fmt.{decimal_nonempty, digits_decimal, digits_value-decimal}
 use Rattle.std.proofs.lemmas.Grind.{common_steps}
 use Rattle.std.proofs.lemmas.Bool.Decides.{nat_tests}
 use Rattle.std.proofs.lemmas.List.Elements.{All-head, All-tail}
 use Rattle.std.proofs.lemmas.List.Folds.{list_all-append}
-use Rattle.std.specs.Prelude.{◌==◌, decimal, slice_index_or}
+use Rattle.std.specs.Prelude.{◌==◌, decimal, slice_index_or, if◌then◌else◌}
 use Rattle.std.specs.List.{All, list_all}
 use Rattle.pr_base.specs.Digits.{is_digit, number_of}
 use Rattle.pr_base.specs.Lines.{lines_of}
@@ -14,6 +14,7 @@ use Rattle.pr_basic.specs.LexemeLaws.{LexemesAreFound, LinesHaveLexemes}
 use Rattle.pr_basic.specs.Lexemes.{Lexeme, Digits}
 use Rattle.pr_basic.specs.Lexing.{lexemes_of}
 use Rattle.pr_basic.specs.declared.statement.Statement.{Statement}
+use Rattle.pr_listing.specs.Containers.{first_offset, is_p00, is_t64, program_in}
 use Rattle.pr_listing.specs.Keywords.{is_token, keyword_of, keywords}
 use Rattle.pr_listing.specs.Listing.{byte_text, bytes_text, is_held, is_letter, line_text, lines_text, mode_after, or_question, plain_text, string_text}
 use Rattle.pr_listing.specs.Program.{BeginsWith, BeginsWithLines, IsProgram, Line}
@@ -223,9 +224,22 @@ small_all (b ∷ bs) all =
     rw (e, small_all bs (All-tail (λ b. b < 256) b bs all)) refl
 
 program_fine : (ls : List Line) (file : List ℕ) → IsProgram ls file → list_all is_small file ≡ true → AreFine ls
-program_fine ls file (more, (low, high, bytes, cut, lines)) small =
+program_fine ls file (more, (low, high, bytes, cut, lines), some) small =
     let whole : list_all is_small (low ∷ high ∷ bytes) ≡ true = ap (list_all is_small) (sym cut) ∙ small in
     lines_fine ls bytes (0 ∷ 0 ∷ more) lines (of_both is_small high bytes (of_both is_small low (high ∷ bytes) whole).1).1
+
+-- so do those from a place on
+small_drop : (n : ℕ) (xs : List ℕ) → list_all is_small xs ≡ true → list_all is_small (drop n xs) ≡ true
+small_drop n xs small = (of_parts is_small (take n xs) (drop n xs) (ap (list_all is_small) (take-append-drop n xs) ∙ small)).1
+
+-- and those of the program in a file
+small_program : (file : List ℕ) → list_all is_small file ≡ true → list_all is_small (program_in file) ≡ true
+small_program file small = inside (is_p00 file) (is_t64 file)
+  where
+    inside : (p t : Bool) → list_all is_small (if p then drop 26 file else (if t then drop (first_offset file - 2) file else file)) ≡ true
+    inside true t = small_drop 26 file small
+    inside false true = small_drop (first_offset file - 2) file small
+    inside false false = small
 
 -- a saved program's text is a script of the statements that its tokens are
 pub tokens_are_statements : LinesHaveLexemes → LexemesAreFound → TokensAreStatements
@@ -233,13 +247,13 @@ tokens_are_statements all found file ss bytes = (
   λ h. (
     h.1.0,
     h.1.1,
-    to_lines all found h.1.0 ss (program_fine h.1.0 file h.1.1 (small_all file bytes)) (subst (λ v. AreLines (lines_of v) ss) h.1.2 h.2.0),
+    to_lines all found h.1.0 ss (program_fine h.1.0 (program_in file) h.1.1 (small_program file (small_all file bytes))) (subst (λ v. AreLines (lines_of v) ss) h.1.2 h.2.0),
     h.2.1,
   ),
   λ k. (
     lines_text k.0,
     (k.0, k.1, refl),
-    (from_lines all found k.0 ss (program_fine k.0 file k.1 (small_all file bytes)) k.2, k.3),
+    (from_lines all found k.0 ss (program_fine k.0 (program_in file) k.1 (small_program file (small_all file bytes))) k.2, k.3),
   ),
 )
 

@@ -1,7 +1,7 @@
 -- Words of calls: what an input looks like.
 use Rattle.std.specs.Prelude.{ℕ, ◌&&◌, ◌||◌, ◌==◌, not, Bool, false, true, List, [], ◌∷◌, length, nat_le, nat_lt, if◌then◌else◌}
 use Rattle.std.specs.List.{list_all}
-use Rattle.pr_listing.specs.Petcat.{front_of}
+use Rattle.pr_listing.specs.Typed.{front_of}
 
 -- bytes begin with the load address $0801
 abbrev pub begins_saved : List ℕ → Bool

@@ -1,11 +1,13 @@
--- Trusted: the names of bytes, as petcat writes them in braces.
-use Rattle.std.specs.Prelude.{ℕ, ◌+◌, ◌-◌, ◌*◌, ◌&&◌, ◌||◌, ◌==◌, Bool, List, [], ◌∷◌, Option, None, Some, map, take, drop, nat_le, nat_lt, if◌then◌else◌}
+-- Trusted: the names of bytes in braces, as petcat writes them and as magazines print them.
+use Rattle.std.specs.Prelude.{ℕ, ◌+◌, ◌-◌, ◌*◌, ◌&&◌, ◌||◌, ◌==◌, Bool, List, [], ◌∷◌, Option, None, Some, length, map, option_map, slice_index_or, take, drop, nat_le, nat_lt, if◌then◌else◌}
 use Rattle.std.specs.Char.{to_ascii_lowercase}
 use Rattle.std.specs.List.{position_from, prefix_len}
 use Rattle.std.specs.Str.{bytes_eq}
 use Rattle.pr_base.specs.Digits.{is_digit, number_of}
 use Rattle.pr_base.specs.Lines.{lines_of}
-use Rattle.pr_listing.specs.declared.names.TheConstants.{NAMES}
+use Rattle.pr_listing.specs.declared.names.Spelling.{Spelling}
+use Rattle.pr_listing.specs.declared.names.Spelling.TheVariants.{Magazine, Petcat}
+use Rattle.pr_listing.specs.declared.names.TheConstants.{MAGAZINE_BYTES, MAGAZINE_NAMES, NAMES}
 
 -- the byte of the name at a place of the table: bytes 0 to 31 first, then 128 to 223, and 32 twice
 abbrev pub byte_at : ℕ → ℕ
@@ -35,18 +37,48 @@ abbrev pub or_else : Option ℕ → Option ℕ → Option ℕ
 or_else None other = other
 or_else (Some b) other = Some b
 
--- the byte of a place in the table, if there is one
-abbrev pub at_place : Option ℕ → Option ℕ
-at_place None = None
-at_place (Some place) = Some (byte_at place)
+-- the place of a name in a table, which has one name in each line
+unfoldable pub place_of : List ℕ → List ℕ → Option ℕ
+place_of table name = position_from (is_name name) 0 (lines_of table)
 
--- the place of a name in the table, which has one name in each line
-unfoldable pub place_of : List ℕ → Option ℕ
-place_of name = position_from (is_name name) 0 (lines_of NAMES.now)
+-- the byte of petcat's name: its number, or its place in the table
+unfoldable pub petcat_byte : List ℕ → Option ℕ
+petcat_byte name = or_else (hex_byte name) (option_map byte_at (place_of NAMES.now name))
 
--- the byte of a name without a count: its number, or its place in the table
-unfoldable pub byte_named : List ℕ → Option ℕ
-byte_named name = or_else (hex_byte name) (at_place (place_of name))
+-- the byte of a letter with the control key, by the letter alone, in either case: A is 1
+abbrev pub control_byte : List ℕ → Option ℕ
+control_byte (letter ∷ []) =
+    let small = to_ascii_lowercase letter in
+    if nat_le 97 small && nat_le small 122 then Some (small - 96) else None
+control_byte name = None
+
+-- the byte of a magazine's own name, by its place in their table
+abbrev pub own_byte_at : ℕ → ℕ
+own_byte_at place = slice_index_or MAGAZINE_BYTES place 0
+
+abbrev pub own_byte : List ℕ → Option ℕ
+own_byte name = option_map own_byte_at (place_of MAGAZINE_NAMES.now name)
+
+-- the byte of a name in a magazine: petcat's name, a letter alone, or a name of its own
+unfoldable pub magazine_byte : List ℕ → Option ℕ
+magazine_byte name =
+    or_else (petcat_byte name) (or_else (control_byte name) (own_byte name))
+
+-- the byte of a name without a count
+unfoldable pub byte_named : Spelling → List ℕ → Option ℕ
+byte_named Petcat name = petcat_byte name
+byte_named Magazine name = magazine_byte name
+
+-- a name without the s at its end, in either case
+abbrev pub singular : List ℕ → List ℕ
+singular name =
+    if to_ascii_lowercase (slice_index_or name (length name - 1) 0) == 115
+    then take (length name - 1) name else name
+
+-- the byte of a name after a count: a magazine may have the name in the plural
+unfoldable pub byte_counted : Spelling → List ℕ → Option ℕ
+byte_counted Petcat name = byte_named Petcat name
+byte_counted Magazine name = or_else (byte_named Magazine name) (byte_named Magazine (singular name))
 
 -- this many times the byte of a name, if it has one
 abbrev pub times : ℕ → Option ℕ → Option (ℕ × ℕ)
@@ -54,15 +86,15 @@ times count None = None
 times count (Some b) = Some (count, b)
 
 -- what follows a count of 1 to 255: a space, and a name
-abbrev pub counted : ℕ → List ℕ → Option (ℕ × ℕ)
-counted count (space ∷ name) =
+abbrev pub counted : Spelling → ℕ → List ℕ → Option (ℕ × ℕ)
+counted spelling count (space ∷ name) =
     if (space == 32) && (nat_le 1 count && nat_le count 255)
-    then times count (byte_named name) else None
-counted count [] = None
+    then times count (byte_counted spelling name) else None
+counted spelling count [] = None
 
 -- how many times a name stands for a byte, and the byte: once, or by a count in front of the name
-unfoldable pub named : List ℕ → Option (ℕ × ℕ)
-named name =
+unfoldable pub named : Spelling → List ℕ → Option (ℕ × ℕ)
+named spelling name =
     let digits = prefix_len is_digit name in
-    if digits == 0 then times 1 (byte_named name)
-    else counted (number_of (take digits name)) (drop digits name)
+    if digits == 0 then times 1 (byte_named spelling name)
+    else counted spelling (number_of (take digits name)) (drop digits name)

@@ -2,7 +2,7 @@
 use Rattle.std.specs.Prelude.{◌≡◌, IsTrue, ℕ, suc, ◌+◌, ◌*◌, ◌<◌, ◌⊎◌, ◌==◌, not, Bool, List, [], ◌∷◌, ◌++◌, length}
 use Rattle.std.specs.List.{list_all}
 use Rattle.pr_listing.specs.declared.fault.ListingFault.{ListingFault}
-use Rattle.pr_listing.specs.declared.fault.ListingFault.TheVariants.{CutOff, NoAddress}
+use Rattle.pr_listing.specs.declared.fault.ListingFault.TheVariants.{CutOff, NoAddress, NoLine}
 
 -- a line: its number, and its bytes
 pub record Line : Type 0 where
@@ -36,9 +36,9 @@ abbrev pub Holds : List Line → List ℕ → List ℕ → Type 0
 Holds lines file rest = (low : ℕ) × (high : ℕ) × (bytes : List ℕ)
     × (file ≡ low ∷ high ∷ bytes) × BeginsWithLines lines bytes rest
 
--- a file is a saved program of these lines: after them comes a link of 0, and then any bytes
+-- a file is a saved program of these lines, one at least: after them comes a link of 0, and then any bytes
 abbrev pub IsProgram : List Line → List ℕ → Type 0
-IsProgram lines file = (more : List ℕ) × Holds lines file (0 ∷ 0 ∷ more)
+IsProgram lines file = (more : List ℕ) × Holds lines file (0 ∷ 0 ∷ more) × (0 < length lines)
 
 -- bytes end before the end of a line, or before the link of 0
 abbrev pub IsCutOff : List ℕ → Type 0
@@ -49,8 +49,10 @@ IsCutOff bytes = (length bytes < 2)
     ⊎ ((low : ℕ) × (high : ℕ) × (line : List ℕ) × (rest ≡ low ∷ high ∷ line)
     × IsTrue (list_all is_not_zero line))))
 
--- why a file is no saved program: it has no load address, or it ends in the line after these lines
+-- why a file is no saved program: it has no load address, it has no line, or it ends in the line after
+-- these lines
 abbrev pub IsProgramFault : List ℕ → ListingFault → Type 0
 IsProgramFault file fault = ((length file < 2) × (fault ≡ NoAddress))
+    ⊎ (((more : List ℕ) × Holds [] file (0 ∷ 0 ∷ more) × (fault ≡ NoLine))
     ⊎ ((lines : List Line) × (rest : List ℕ) × Holds lines file rest × IsCutOff rest
-    × (fault ≡ CutOff (suc (length lines))))
+    × (fault ≡ CutOff (suc (length lines)))))

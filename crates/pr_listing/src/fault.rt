@@ -12,14 +12,18 @@ pub enum ListingFault {
     /// A saved program has fewer bytes than its load address.
     #[error("not a saved program")]
     NoAddress,
+    /// A saved program has no line: its first link is 0.
+    #[error("saved program without a line")]
+    NoLine,
     /// A saved program ends in this line: in its link, in its number, or before the 0 after it.
     #[error("line {0}: cut off")]
     CutOff(usize),
-    /// In a string of petcat's text, at this line and this column: a brace with no name in it that
-    /// petcat writes, or without its other brace.
+    /// In a string of petcat's text or of a magazine's listing, at this line and this column: a brace
+    /// with no name in it that they have, or without its other brace.
     #[error("line {0}, column {1}: unknown name")]
     UnknownName(usize, usize),
-    /// In a string of petcat's text, at this line and this column: a byte that petcat does not write.
+    /// In a string of petcat's text or of a magazine's listing, at this line and this column: a byte
+    /// that its strings do not have. A magazine's have no small letters.
     #[error("line {0}, column {1}: bad byte")]
     BadByte(usize, usize),
     /// Memory was refused.

@@ -2,11 +2,14 @@
 
 ghost use Rattle.std.specs.Prelude.{◌≡◌, ◌⊎◌, ℕ, List, IfErr, IfOk, MatchResult};
 ghost use Rattle.pr_listing.specs.FormLaws.{NotBoth, OneFault, OneList, OneText};
-ghost use Rattle.pr_listing.specs.Forms.{HasNoText, HasText, IsListing, IsRefused};
+ghost use Rattle.pr_listing.specs.Forms.{HasNoPlainText, HasNoText, HasPlainText, HasText, IsListing, IsRefused, plain_form};
 
+use crate::containers::program_in;
 use crate::fault::ListingFault;
-use crate::petcat::petcat_text;
+use crate::found::found_form;
+use crate::names::Spelling;
 use crate::program::program_text;
+use crate::typed::typed_text;
 use pr_basic::{ScriptFault, Statement, each_text_is_a_script_or_has_one_fault, read_script};
 use std::alloc::Global;
 use thiserror::Error;
@@ -16,10 +19,14 @@ use thiserror::Error;
 pub enum ListingForm {
     /// The text of a script.
     Text,
-    /// A saved program.
+    /// A saved program, as it is or in a P00 or T64 file.
     Program,
     /// petcat's text of a program.
     Petcat,
+    /// A listing as magazines print it: capitals, and names of keys in braces.
+    Magazine,
+    /// The form that the listing's first bytes show ([`found_form`]).
+    Auto,
 }
 
 /// Why a listing is refused.
@@ -38,7 +45,7 @@ pub enum Refusal {
 ///
 /// # Errors
 ///
-/// Those of [`program_text`] or [`petcat_text`].
+/// Those of [`program_text`] or [`typed_text`].
 pub fn script_text(
     alloc: Global,
     form: ListingForm,
@@ -49,11 +56,35 @@ pub fn script_text(
     ensures complete { (text : List ℕ) → HasText form bytes.items text → MatchResult result (λ t. t.items ≡ text)
         (λ fault. fault ≡ ListingFault.NoMemory) }
 {
-    each_listing_has_one_text_or_one_fault();
+    let plain = plain_form(form, &bytes);
+    plain_text(alloc, plain, bytes)
+}
+
+/// The form in which a listing is read: the one that its first bytes show, where it is to be found in them.
+pub fn plain_form(form: ListingForm, bytes: &[u8]) -> ListingForm
+    ensures { result ≡ plain_form form bytes.now }
+{
     match form {
-        ListingForm::Text => Ok(bytes),
-        ListingForm::Program => program_text(alloc, &bytes),
-        ListingForm::Petcat => petcat_text(alloc, &bytes),
+        ListingForm::Auto => found_form(bytes),
+        ListingForm::Text => ListingForm::Text,
+        ListingForm::Program => ListingForm::Program,
+        ListingForm::Petcat => ListingForm::Petcat,
+        ListingForm::Magazine => ListingForm::Magazine,
+    }
+}
+
+/// Makes the script's text that a listing in this form, which is known, has.
+fn plain_text(alloc: Global, form: ListingForm, bytes: Vec<u8>) -> Result<Vec<u8>, ListingFault>
+    ensures ok { IfOk result (λ text. HasPlainText form bytes.items text.items) }
+    ensures err { IfErr result (λ fault. (fault ≡ ListingFault.NoMemory) ⊎ HasNoPlainText form bytes.items fault) }
+    ensures complete { (text : List ℕ) → HasPlainText form bytes.items text → MatchResult result (λ t. t.items ≡ text)
+        (λ fault. fault ≡ ListingFault.NoMemory) }
+{
+    match form {
+        ListingForm::Text | ListingForm::Auto => Ok(bytes),
+        ListingForm::Program => program_text(alloc, program_in(&bytes)),
+        ListingForm::Petcat => typed_text(alloc, Spelling::Petcat, &bytes),
+        ListingForm::Magazine => typed_text(alloc, Spelling::Magazine, &bytes),
     }
 }
 

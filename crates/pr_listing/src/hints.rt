@@ -5,7 +5,7 @@ ghost use Rattle.std.specs.List.{list_all, list_any};
 ghost use Rattle.pr_base.specs.Lines.{lines_of};
 ghost use Rattle.pr_listing.specs.Hints.{begins_saved, has_typed, has_typed_string, is_disk_size, is_text, is_text_byte};
 
-use crate::petcat::before_remark;
+use crate::typed::before_remark;
 use pr_basic::cut_line;
 
 /// Returns whether bytes begin as a program saved on a Commodore 64 does, with the load address

@@ -22,7 +22,7 @@ pub enum Mode {
 
 impl Mode {
     /// The place of the byte after one that is here.
-    fn after(self, b: u8) -> Mode
+    pub fn after(self, b: u8) -> Mode
         ensures { result ≡ mode_after self b }
     {
         match self {
@@ -48,21 +48,21 @@ fn is_printable(b: u8) -> bool
 }
 
 /// Whether a script's string can hold a byte.
-fn is_held(b: u8) -> bool
+pub fn is_held(b: u8) -> bool
     ensures { result ≡ is_held b }
 {
     is_printable(b) && b != b'"'
 }
 
 /// Whether a byte is a token.
-fn is_token(b: u8) -> bool
+pub fn is_token(b: u8) -> bool
     ensures { result ≡ is_token b }
 {
     b >= 128 && b <= 203
 }
 
 /// Whether a byte is a letter of a script's keywords, in either case.
-fn is_letter(b: u8) -> bool
+pub fn is_letter(b: u8) -> bool
     ensures { result ≡ is_letter b }
 {
     (b >= b'A' && b <= b'Z') || (b >= b'a' && b <= b'z')

@@ -1,8 +1,8 @@
-//! The names of bytes, as petcat writes them in braces.
+//! The names of bytes in braces, as petcat writes them and as magazines print them.
 
 ghost use Rattle.std.specs.Prelude.{◌≡◌, ◌≢◌, ◌≤◌, ◌<◌, ◌∷◌, ℕ, List, length, IsTrue, MatchOption};
 ghost use Rattle.pr_base.specs.Digits.{number_of};
-ghost use Rattle.pr_listing.specs.Names.{byte_at, byte_named, hex_byte, hex_value, is_hex, is_name, named, place_of};
+ghost use Rattle.pr_listing.specs.Names.{byte_at, byte_counted, byte_named, control_byte, hex_byte, hex_value, is_hex, is_name, magazine_byte, named, own_byte, own_byte_at, petcat_byte, place_of, singular};
 
 use pr_base::{digit_count, is_digit};
 use pr_basic::cut_line;
@@ -28,8 +28,31 @@ shift-p\nshift-q\nshift-r\nshift-s\nshift-t\nshift-u\nshift-v\nshift-w\n\
 shift-x\nshift-y\nshift-z\nshift-+\ncbm--\nshift--\n$de\ncbm-*\n\
 space\nspaces";
 
+/// The names of bytes in magazines that petcat has not, each in a line: those of COMPUTE!'s Gazette, and
+/// from `crsr dn` on those of RUN.
+pub const MAGAZINE_NAMES: &str = "\
+rvs\nrvs on\noff\nrvs off\nright\nup arrow\nback arrow\npi\n\
+crsr dn\ncrsr up\ncrsr lf\ncrsr rt\nshift clr/home\n\
+ctrl 1\nctrl 2\nctrl 3\nctrl 4\nctrl 5\nctrl 6\nctrl 7\nctrl 8\nctrl 9\nctrl 0\n\
+comd 1\ncomd 2\ncomd 3\ncomd 4\ncomd 5\ncomd 6\ncomd 7\ncomd 8";
+
+/// The bytes of [`MAGAZINE_NAMES`], in their order.
+pub const MAGAZINE_BYTES: [u8; 31] = [
+    18, 18, 146, 146, 29, 94, 95, 222, 17, 145, 157, 29, 147, 144, 5, 28, 159, 156, 30, 31, 158,
+    18, 146, 129, 149, 150, 151, 152, 153, 154, 155,
+];
+
 /// The most bytes that one name says (profile).
 const MOST: u32 = 255;
+
+/// How a typed listing spells the bytes of its strings.
+#[derive(Clone, Copy, Debug, PartialEq, Eq)]
+pub enum Spelling {
+    /// petcat's: small letters are the keys without shift, capitals those with it.
+    Petcat,
+    /// A magazine's: capitals are the keys without shift, and there are no small letters.
+    Magazine,
+}
 
 /// The byte of the name at a place of [`NAMES`].
 fn byte_at(place: usize) -> u8
@@ -44,12 +67,12 @@ fn byte_at(place: usize) -> u8
     b' '
 }
 
-/// The place of a name in [`NAMES`], in either case.
+/// The place of a name in a table of names, in either case.
 #[tactic(auto, unfolding(crate::specs::Names::place_of))]
-fn place_of(name: &[u8]) -> Option<usize>
-    ensures { result ≡ place_of name.now }
+fn place_of(table: &str, name: &[u8]) -> Option<usize>
+    ensures { result ≡ place_of table.now name.now }
 {
-    let mut rest = NAMES.as_bytes();
+    let mut rest = table.as_bytes();
     let mut place = 0;
     while !rest.is_empty() {
         let (known, more) = cut_line(rest);
@@ -101,16 +124,93 @@ fn hex_byte(name: &[u8]) -> Option<u8>
     None
 }
 
-/// The byte of a name without a count.
-#[tactic(auto, unfolding(crate::specs::Names::byte_named))]
-fn byte_named(name: &[u8]) -> Option<u8>
-    ensures { result ≡ byte_named name.now }
+/// The byte of petcat's name.
+#[tactic(auto, unfolding(crate::specs::Names::petcat_byte))]
+fn petcat_byte(name: &[u8]) -> Option<u8>
+    ensures { result ≡ petcat_byte name.now }
 {
     if let Some(b) = hex_byte(name) {
         return Some(b);
     }
-    let place = place_of(name)?;
+    let place = place_of(NAMES, name)?;
     Some(byte_at(place))
+}
+
+/// The byte that a letter is with the control key: a letter alone is its name in a magazine.
+fn control_byte(name: &[u8]) -> Option<u8>
+    ensures { result ≡ control_byte name.now }
+{
+    if name.len() == 1 && name[0].is_ascii_alphabetic() {
+        return Some(name[0].to_ascii_lowercase() - 96);
+    }
+    None
+}
+
+/// The byte of the name at a place of [`MAGAZINE_NAMES`].
+fn own_byte_at(place: usize) -> u8
+    ensures { result ≡ own_byte_at place }
+{
+    if place < MAGAZINE_BYTES.len() {
+        return MAGAZINE_BYTES[place];
+    }
+    0
+}
+
+/// The byte of a name of [`MAGAZINE_NAMES`].
+fn own_byte(name: &[u8]) -> Option<u8>
+    ensures { result ≡ own_byte name.now }
+{
+    let place = place_of(MAGAZINE_NAMES, name)?;
+    Some(own_byte_at(place))
+}
+
+/// The byte of a name in a magazine: petcat's names, letters alone, and the magazine's own names.
+#[tactic(auto, unfolding(crate::specs::Names::magazine_byte))]
+fn magazine_byte(name: &[u8]) -> Option<u8>
+    ensures { result ≡ magazine_byte name.now }
+{
+    if let Some(b) = petcat_byte(name) {
+        return Some(b);
+    }
+    if let Some(b) = control_byte(name) {
+        return Some(b);
+    }
+    own_byte(name)
+}
+
+/// The byte of a name without a count.
+#[tactic(auto, unfolding(crate::specs::Names::byte_named))]
+fn byte_named(spelling: Spelling, name: &[u8]) -> Option<u8>
+    ensures { result ≡ byte_named spelling name.now }
+{
+    match spelling {
+        Spelling::Petcat => petcat_byte(name),
+        Spelling::Magazine => magazine_byte(name),
+    }
+}
+
+/// A name without the `s` at its end.
+fn singular(name: &[u8]) -> &[u8]
+    ensures { result.now ≡ singular name.now }
+{
+    if name.is_empty() || !matches!(name[name.len() - 1], b's' | b'S') {
+        return name;
+    }
+    &name[..name.len() - 1]
+}
+
+/// The byte of a name after a count, in the plural too where a magazine has it.
+#[tactic(auto, unfolding(crate::specs::Names::byte_counted))]
+fn byte_counted(spelling: Spelling, name: &[u8]) -> Option<u8>
+    ensures { result ≡ byte_counted spelling name.now }
+{
+    if let Some(b) = byte_named(spelling, name) {
+        return Some(b);
+    }
+    match spelling {
+        Spelling::Petcat => None,
+        Spelling::Magazine => byte_named(spelling, singular(name)),
+    }
 }
 
 /// The number that digits spell; None above 255.
@@ -140,12 +240,12 @@ fn after_space(bytes: &[u8]) -> Option<&[u8]>
 /// How many times a name says a byte, and the byte: `down` and `$8e` once, `3 down` three times. A
 /// count is 1 to 255.
 #[tactic(auto, unfolding(crate::specs::Names::named))]
-pub fn named(name: &[u8]) -> Option<(u32, u8)>
-    ensures { result ≡ named name.now }
+pub fn named(spelling: Spelling, name: &[u8]) -> Option<(u32, u8)>
+    ensures { result ≡ named spelling name.now }
 {
     let n = digit_count(name);
     if n == 0 {
-        let b = byte_named(name)?;
+        let b = byte_named(spelling, name)?;
         return Some((1, b));
     }
     let count = count_of(&name[..n])?;
@@ -153,6 +253,6 @@ pub fn named(name: &[u8]) -> Option<(u32, u8)>
         return None;
     }
     let once = after_space(&name[n..])?;
-    let b = byte_named(once)?;
+    let b = byte_counted(spelling, once)?;
     Some((count, b))
 }

@@ -26,7 +26,7 @@ pub enum Front<'a> {
 }
 
 /// How many bytes are before the first 0.
-fn count_to_zero(bytes: &[u8]) -> usize
+pub fn count_to_zero(bytes: &[u8]) -> usize
     ensures count { result ≡ prefix_len is_not_zero bytes.now }
     ensures within { result ≤ length bytes.now }
 {
@@ -39,7 +39,7 @@ fn count_to_zero(bytes: &[u8]) -> usize
 }
 
 /// What is at the front of the bytes that are left of a program.
-fn front_of(bytes: &[u8]) -> Front<'_>
+pub fn front_of(bytes: &[u8]) -> Front<'_>
     ensures { IsFront result bytes.now }
 {
     if bytes.len() < 2 {
@@ -69,13 +69,14 @@ fn front_of(bytes: &[u8]) -> Front<'_>
 /// reads the text as a script.
 ///
 /// A saved program is two bytes of a load address, and then lines. A line is two bytes of a link,
-/// two of its number (the low one first), its bytes, and a 0. A link of 0 ends the program; what
-/// follows it is ignored, as all other links are (Commodore 64 Programmer's Reference Guide, BASIC
+/// two of its number (the low one first), its bytes, and a 0. A link of 0 after one line or more ends
+/// the program; what follows it is ignored, as all other links are (Commodore 64 Programmer's Reference Guide, BASIC
 /// storage).
 ///
 /// # Errors
 ///
 /// - [`ListingFault::NoAddress`]: the file has fewer than two bytes.
+/// - [`ListingFault::NoLine`]: the first link is 0.
 /// - [`ListingFault::CutOff`]: the file ends in that line, counted from 1.
 /// - [`ListingFault::NoMemory`]: memory was refused.
 pub fn program_text(alloc: Global, file: &[u8]) -> Result<Vec<u8>, ListingFault>
@@ -101,6 +102,7 @@ pub fn program_text(alloc: Global, file: &[u8]) -> Result<Vec<u8>, ListingFault>
                 number += 1;
                 rest = more;
             }
+            Front::End if number == 1 => return Err(ListingFault::NoLine),
             Front::End => return Ok(text),
             Front::CutOff => return Err(ListingFault::CutOff(number)),
         }

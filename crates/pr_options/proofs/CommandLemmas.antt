@@ -4,7 +4,7 @@ use Rattle.std.specs.Prelude.{option_and_then, option_map, unwrap_or, IfSome, fi
 use Rattle.std.specs.Option.{option_map_or}
 use Rattle.std.specs.Str.{bytes_eq}
 use Rattle.clap.specs.declared.error.Error.{Error}
-use Rattle.clap.specs.Words.{App, HasKind, HasMatchesOf, Row, Rule, Text, built, first_of, first_value, fault_of, is_simple, is_simple_and_free, rows_of, subcommand_of, subcommand_rows_of, with_rule}
+use Rattle.clap.specs.Words.{App, HasKind, HasMatchesOf, Row, Rule, Text, built, first_of, first_value, fault_of, is_simple, is_simple_and_free, rows_of, subcommand_of, subcommand_rows_of, with_rule, with_subcommand}
 use Rattle.clap.specs.declared.parser.matches.ArgMatches.{ArgMatches}
 use Rattle.clap.proofs.WalkLemmas.{find_row, first_value-rows}
 use Rattle.clap.specs.Simple.{Shape, argument_words, entered, names_of, rows_at, label_of}
@@ -21,7 +21,7 @@ use Rattle.pr_options.specs.Steps.{Met}
 use Rattle.pr_options.specs.Values.{bad_value, option_of, value_given}
 use Rattle.pr_options.specs.declared.command_line.JobFault.{JobFault}
 use Rattle.pr_options.specs.Rows.{command_name, options_of}
-use Rattle.pr_options.specs.Subcommands.{alone, endings_view, with_files, with_options}
+use Rattle.pr_options.specs.Subcommands.{alone, endings_view, with_files, with_options, with_subcommands}
 use Rattle.pr_options.specs.declared.options.Opt.{Opt}
 use Rattle.pr_options.specs.declared.options.Subcommand.{Subcommand}
 use Rattle.pr_options.specs.CommandLaws.{IsOurs}
@@ -134,6 +134,13 @@ pub one_option : (old new : App) (os : List Opt) (i : ℕ) (d : Opt) (r : Rule) 
 one_option old new os i d r whole within adds is h =
     let cut : drop i os ≡ get_or os i d ∷ drop (i + 1) os = rw add-one (drop-cons os i d within) in
     ap (λ a. with_options a (drop (i + 1) os)) (adds ∙ ap (with_rule old) is) ∙ (ap (with_options old) (sym cut) ∙ h)
+
+-- one more subcommand
+pub one_subcommand : (old new : App) (ss : List Subcommand) (i : ℕ) (d : Subcommand) (s : Shape) (whole : App) → i < length ss → new ≡ with_subcommand old s → s ≡ subcommand (get_or ss i d)
+    → with_subcommands old (drop i ss) ≡ whole → with_subcommands new (drop (i + 1) ss) ≡ whole
+one_subcommand old new ss i d s whole within adds is h =
+    let cut : drop i ss ≡ get_or ss i d ∷ drop (i + 1) ss = rw add-one (drop-cons ss i d within) in
+    ap (λ a. with_subcommands a (drop (i + 1) ss)) (adds ∙ ap (with_subcommand old) is) ∙ (ap (with_subcommands old) (sym cut) ∙ h)
 
 -- neither of two has options for all
 pub both_local : (a b v : Bool) → v ≡ (a || b) → a ≡ false → b ≡ false → v ≡ false

@@ -40,10 +40,11 @@ present_of = meaning_of ((codes "none", record { four = false; five = false })
     ∷ (codes "5", record { four = false; five = true })
     ∷ (codes "both", record { four = true; five = true }) ∷ [])
 
--- the form of a listing: text, prg or petcat
+-- the form of a listing: text, prg, petcat, magazine, or auto, which the first bytes show
 abbrev pub form_of : Text → Option ListingForm
 form_of = meaning_of (
-    (codes "text", form.Text) ∷ (codes "prg", form.Program) ∷ (codes "petcat", form.Petcat) ∷ [])
+    (codes "text", form.Text) ∷ (codes "prg", form.Program) ∷ (codes "petcat", form.Petcat)
+    ∷ (codes "magazine", form.Magazine) ∷ (codes "auto", form.Auto) ∷ [])
 
 -- whether the status is kept from statement to statement: each (cleared) or kept
 abbrev pub mode_of : Text → Option StatusMode

@@ -45,7 +45,8 @@ no_value kind name help = record (plain name [] [] help) { kind = kind }
 
 -- what the endings of a listing's name say
 abbrev pub listing_endings : List (Text × Text)
-listing_endings = (codes ".prg", codes "prg") ∷ (codes ".petcat", codes "petcat") ∷ []
+listing_endings = (codes ".prg", codes "prg") ∷ (codes ".p00", codes "prg") ∷ (codes ".t64", codes "prg")
+    ∷ (codes ".petcat", codes "petcat") ∷ (codes ".bas", codes "text") ∷ (codes ".txt", codes "text") ∷ []
 
 -- what the endings of a recording's name say; the reader of tables refuses archives by name
 abbrev pub recording_endings : List (Text × Text)
@@ -76,12 +77,12 @@ reading_endings = (codes ".svg", codes "svg") ∷ (codes ".png", codes "png") �
 abbrev pub foreign_listings : List (Text × Text)
 foreign_listings = (codes ".d64", codes "d64") ∷ (codes ".d71", codes "d71") ∷ (codes ".d80", codes "d80")
     ∷ (codes ".d81", codes "d81") ∷ (codes ".d82", codes "d82") ∷ (codes ".g64", codes "g64")
-    ∷ (codes ".g71", codes "g71") ∷ (codes ".nib", codes "nib") ∷ (codes ".t64", codes "t64")
-    ∷ (codes ".p00", codes "p00") ∷ (codes ".s00", codes "s00") ∷ (codes ".tap", codes "tap")
+    ∷ (codes ".g71", codes "g71") ∷ (codes ".nib", codes "nib") ∷ (codes ".s00", codes "s00") ∷ (codes ".tap", codes "tap")
     ∷ (codes ".crt", codes "crt") ∷ (codes ".lnx", codes "lnx") ∷ (codes ".gz", codes "gz")
     ∷ (codes ".xz", codes "xz") ∷ (codes ".zip", codes "zip") ∷ (codes ".7z", codes "7z")
     ∷ (codes ".rar", codes "rar") ∷ (codes ".vcd", codes "vcd") ∷ (codes ".svg", codes "svg")
-    ∷ (codes ".png", codes "png") ∷ (codes ".pdf", codes "pdf") ∷ []
+    ∷ (codes ".png", codes "png") ∷ (codes ".pdf", codes "pdf")
+    ∷ (codes "-", codes "text") ∷ (codes "", codes "auto") ∷ []
 
 -- the same of files that are no recording which is read
 abbrev pub foreign_recordings : List (Text × Text)

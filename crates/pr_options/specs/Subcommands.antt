@@ -1,11 +1,13 @@
 -- Linking words, for proofs: commands on their way to the program. No reader needs to believe them.
 use denote.Ref.{Bor}
 use Rattle.std.specs.Prelude.{◌≡◌, ◌∷◌, [], List, false, map}
-use Rattle.clap.specs.Words.{App, Shape, Text, new_app, with_rule}
-use Rattle.pr_options.specs.CommandLine.{input_rule, output_rule, rule}
+use Rattle.clap.specs.Words.{App, Shape, Text, new_app, with_rule, with_subcommand}
+use Rattle.pr_options.specs.CommandLine.{input_rule, output_rule, rule, subcommand}
 use Rattle.pr_options.specs.Rows.{OptionRow}
 use Rattle.pr_options.specs.Rows as option
 use Rattle.pr_options.specs.declared.options.Opt.{Opt}
+use Rattle.pr_options.specs.declared.options.Subcommand.{Subcommand}
+use Rattle.pr_options.specs.declared.options.Subcommand.TheVariants.{Bus, Check, Decode, Pages, Raw}
 use Rattle.pr_options.specs.declared.options.OptionRow.{OptionRow as CodeRow}
 use Rattle.clap.specs.declared.Command.{Command}
 use Rattle.clap.specs.declared.Command.TheViews.{out-Command}
@@ -22,6 +24,15 @@ with_files name = with_rule (with_rule (new_app name) (input_rule option.input))
 abbrev pub with_options : App → List Opt → App
 with_options app [] = app
 with_options app (o ∷ os) = with_options (with_rule app (rule o)) os
+
+-- a command with these subcommands too
+abbrev pub with_subcommands : App → List Subcommand → App
+with_subcommands app [] = app
+with_subcommands app (s ∷ ss) = with_subcommands (with_subcommand app (subcommand s)) ss
+
+-- all subcommands, in the order in which help lists them
+abbrev pub subcommands : List Subcommand
+subcommands = Pages ∷ Bus ∷ Check ∷ Decode ∷ Raw ∷ []
 
 -- no option of the command holds for its subcommands too
 abbrev pub IsLocal : Command → Type 0

@@ -148,15 +148,11 @@ pub fn make_command<'a>(alloc: Global) -> Result<Command<'a>, AllocError>
         .version(VERSION)
         .subcommand_required(true)
         .disable_help_subcommand(true);
-    let pages = subcommand(alloc, Subcommand::Pages)?;
-    let one = program.subcommand(pages)?;
-    let bus = subcommand(alloc, Subcommand::Bus)?;
-    let two = one.subcommand(bus)?;
-    let check = subcommand(alloc, Subcommand::Check)?;
-    let three = two.subcommand(check)?;
-    let decode = subcommand(alloc, Subcommand::Decode)?;
-    let four = three.subcommand(decode)?;
-    let raw = subcommand(alloc, Subcommand::Raw)?;
-    let whole = four.subcommand(raw)?;
+    let all = Subcommand::all();
+    let mut whole = program;
+    for which in all {
+        let made = subcommand(alloc, *which)?;
+        whole = whole.subcommand(made)?;
+    }
     Ok(whole)
 }

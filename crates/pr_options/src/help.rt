@@ -48,8 +48,10 @@ are ignored; statements run in file order.
   REM remark
 A list has strings, CHR$(n) and `;`. Variables, loops and `+` are refused.
 With --from prg the script is a saved program, whose strings have any byte but
-0 and 34; with --from petcat it is petcat's text of one, with names as {down}.
-A FILE named *.prg or *.petcat is read so without --from.
+0 and 34; with --from petcat it is petcat's text of one, with names as {down};
+with --from magazine it is in capitals, with names as {CLR} and {5 SPACES}.
+Without --from a FILE named *.prg, *.p00, *.t64, *.petcat, *.bas or *.txt is
+read so, and any other by what its first bytes show.
 
 Output: the marks on the paper of printers 4 and 5, the status of each
 statement, the bytes on the screen, and the BASIC error that stopped the run.

@@ -28,7 +28,7 @@ pub fn read_present(text: &str) -> Option<Present>
     Some(Present { four, five })
 }
 
-/// The form of a listing: `text`, `prg` or `petcat` (profile). None for any other text.
+/// The form of a listing: `text`, `prg`, `petcat`, `magazine` or `auto`, which the first bytes show (profile). None for any other text.
 pub fn read_form(text: &str) -> Option<ListingForm>
     ensures { result ≡ form_of text.now }
 {
@@ -36,6 +36,8 @@ pub fn read_form(text: &str) -> Option<ListingForm>
         "text" => Some(ListingForm::Text),
         "prg" => Some(ListingForm::Program),
         "petcat" => Some(ListingForm::Petcat),
+        "magazine" => Some(ListingForm::Magazine),
+        "auto" => Some(ListingForm::Auto),
         _ => None,
     }
 }

@@ -6,7 +6,7 @@
 
 ghost use Rattle.std.specs.Prelude.{◌≡◌};
 ghost use Rattle.pr_options.specs.Rows.{by_file, command_name, foreign, letter, no_value, options_of, plain, row};
-ghost use Rattle.pr_options.specs.Subcommands.{endings_view, row_view};
+ghost use Rattle.pr_options.specs.Subcommands.{endings_view, row_view, subcommands};
 
 use std::fmt;
 
@@ -21,6 +21,19 @@ pub enum Subcommand {
 }
 
 impl Subcommand {
+    /// All subcommands, in the order in which help lists them.
+    pub fn all() -> &'static [Subcommand]
+        ensures { result.now ≡ subcommands }
+    {
+        &[
+            Subcommand::Pages,
+            Subcommand::Bus,
+            Subcommand::Check,
+            Subcommand::Decode,
+            Subcommand::Raw,
+        ]
+    }
+
     /// Its name in a command line.
     pub fn name(self) -> &'static str
         ensures { result.now ≡ command_name self }
@@ -222,7 +235,14 @@ pub const OUTPUT: FileArgument = FileArgument {
 pub const OUTPUT_LETTER: char = 'o';
 
 /// What the endings of a listing's name say.
-const LISTING_ENDINGS: &[Ending] = &[(".prg", "prg"), (".petcat", "petcat")];
+const LISTING_ENDINGS: &[Ending] = &[
+    (".prg", "prg"),
+    (".p00", "prg"),
+    (".t64", "prg"),
+    (".petcat", "petcat"),
+    (".bas", "text"),
+    (".txt", "text"),
+];
 
 /// What the endings of a recording's name say.
 const RECORDING_ENDINGS: &[Ending] = &[
@@ -258,7 +278,8 @@ const READING_ENDINGS: &[Ending] = &[
     (".json", "json"),
 ];
 
-/// The endings of files that are no listing: images of disks and tapes, archives, and recordings.
+/// The endings of files that are no listing: images of disks and tapes, archives, and recordings. `-` is standard input,
+/// whose text is a script's. Any other name says nothing, so the first bytes show the form.
 const FOREIGN_LISTINGS: &[Ending] = &[
     (".d64", "d64"),
     (".d71", "d71"),
@@ -268,8 +289,6 @@ const FOREIGN_LISTINGS: &[Ending] = &[
     (".g64", "g64"),
     (".g71", "g71"),
     (".nib", "nib"),
-    (".t64", "t64"),
-    (".p00", "p00"),
     (".s00", "s00"),
     (".tap", "tap"),
     (".crt", "crt"),
@@ -283,6 +302,8 @@ const FOREIGN_LISTINGS: &[Ending] = &[
     (".svg", "svg"),
     (".png", "png"),
     (".pdf", "pdf"),
+    ("-", "text"),
+    ("", "auto"),
 ];
 
 /// The endings of files that are no recording which is read: dumps in other forms, and archives.
@@ -338,10 +359,12 @@ const NO_ENDINGS: &[Ending] = &[];
 
 // What help says of the options, and their values in a few words.
 
-const LISTING_FROM_HELP: &str = "text, prg (a saved program) or\n\
-     petcat (petcat's text of a program)";
+const LISTING_FROM_HELP: &str = "auto (what the first bytes show),\n\
+     text, prg (a saved program),\n\
+     petcat (petcat's text of a program) or\n\
+     magazine (a magazine's listing)";
 
-const LISTING_FROM_VALUES: &str = "text, prg or petcat";
+const LISTING_FROM_VALUES: &str = "auto, text, prg, petcat or magazine";
 
 const FROM_HELP: &str = "text (a trace as bus writes it),\n\
      vcd (a Value Change Dump) or\n\

@@ -319,6 +319,11 @@ static PAGES: [Page; 21] = [
     },
 ];
 
+/// The pages, for callers whose proofs do not read them.
+fn pages() -> &'static [Page] {
+    &PAGES
+}
+
 /// Whether these marks are at these dots, and no others.
 fn are_marks(given: &[Placed], wanted: Marks) -> bool {
     given.len() == wanted.len()
@@ -355,6 +360,11 @@ static LONG: [Long; 2] = [
     },
 ];
 
+/// Those, for callers whose proofs do not read them.
+fn long_pages() -> &'static [Long] {
+    &LONG
+}
+
 /// Whether a row is filled so.
 fn is_filled(row: &Row, (y, first, width, count, mark): Filled) -> bool {
     row.y == y
@@ -376,13 +386,20 @@ fn is_long(paper: &Paper, page: &Long) -> bool {
             .all(|(row, wanted)| is_filled(row, wanted))
 }
 
+/// Gives a printer inputs.
+fn print(rt: &impl Abort, printer: &mut Printer, inputs: &[Input]) {
+    for &input in inputs {
+        assert!(rt; printer.taken() < 1000);
+        printer.take(input).expect(rt, "memory");
+    }
+}
+
 #[test]
 fn long_lines(rt: HostRuntime) {
-    for page in &LONG {
+    for page in long_pages() {
         let mut printer = Printer::new(rt.alloc());
-        for &input in page.inputs.iter().copied().flatten() {
-            assert!(rt; printer.taken() < 1000);
-            printer.take(input).expect(&rt, "memory");
+        for inputs in page.inputs {
+            print(&rt, &mut printer, inputs);
         }
         assert!(rt; is_long(printer.paper(), page), "{}", page.name);
     }
@@ -416,21 +433,30 @@ fn is_refused(
     true
 }
 
-/// Prints a page, and returns how many inputs were refused. Another printer, which is one input after,
-/// has the paper of one whose input is refused.
-fn refusals(rt: &(impl Abort + AllocGlobal), page: &Page) -> usize {
+/// Gives inputs to a printer and to another, which is one input after, and returns how many were refused. The
+/// other printer has the paper of one whose input is refused.
+fn feeds(rt: &impl Abort, printer: &mut Printer, behind: &mut Printer, inputs: &[Input]) -> usize {
     let mut refused: usize = 0;
-    let mut printer = Printer::new(rt.alloc());
-    let mut behind = Printer::new(rt.alloc());
-    for &input in page.inputs {
-        let first = is_refused(rt, &mut printer, input, Some(&behind));
-        let second = is_refused(rt, &mut behind, input, None);
+    for &input in inputs {
+        let first = is_refused(rt, printer, input, Some(&*behind));
+        let second = is_refused(rt, behind, input, None);
         refused = refused.saturating_add(usize::from(first) + usize::from(second));
     }
-    let is_printed = printer.taken() == page.inputs.len() as u64
+    refused
+}
+
+/// Whether a printer has printed a page.
+fn has_printed(printer: Printer, page: &Page) -> bool {
+    printer.taken() == page.inputs.len() as u64
         && is_page(printer.paper(), page)
-        && is_page(&printer.into_paper(), page);
-    assert!(rt; is_printed, "{}", page.name);
+        && is_page(&printer.into_paper(), page)
+}
+
+/// Prints a page, and returns how many inputs were refused.
+fn refusals(rt: &(impl Abort + AllocGlobal), page: &Page) -> usize {
+    let mut printer = Printer::new(rt.alloc());
+    let refused = feeds(rt, &mut printer, &mut Printer::new(rt.alloc()), page.inputs);
+    assert!(rt; has_printed(printer, page), "{}", page.name);
     refused
 }
 
@@ -440,7 +466,7 @@ fn refusals(rt: &(impl Abort + AllocGlobal), page: &Page) -> usize {
 #[test]
 fn refused_take_changes_nothing(rt: HostRuntime) {
     let mut refused: usize = 0;
-    for page in &PAGES {
+    for page in pages() {
         refused = refused.saturating_add(refusals(&rt, page));
     }
     assert!(rt; refused <= most_refusals(&rt));

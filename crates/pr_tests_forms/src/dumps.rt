@@ -3,12 +3,42 @@
 
 ghost use Rattle.std.specs.Prelude.{◌≤◌, length};
 
+use crate::samples::edges_from;
 use crate::tables::NAMES;
-use pr_capture::{CaptureFault, EdgeDetector, Signals, VcdReader, write_vcd};
-use pr_wire::{read_trace, write_trace};
+use pr_capture::{CaptureFault, Signals, VcdReader, write_vcd};
+use pr_wire::{Edge, read_trace, write_trace};
 use std::alloc::Global;
 use std::process::Abort;
 use std::test::Fail;
+
+/// The samples of a text that comes in two blocks.
+fn samples(
+    alloc: Global,
+    signals: Signals<'_>,
+    text: &[u8],
+    cut: usize,
+) -> Result<Vec<Edge>, CaptureFault>
+    requires { cut ≤ length text.now }
+{
+    let mut reader = VcdReader::new(alloc, signals);
+    let mut samples = Vec::new(alloc);
+    let mut at = 0;
+    for _step in 0..text.len() {
+        let end = if at < cut { cut } else { text.len() };
+        if at == end {
+            break;
+        }
+        let (len, sample) = reader.take_front(&text[at..end])?;
+        if let Some(sample) = sample {
+            samples.push(sample)?;
+        }
+        at += len;
+    }
+    if let Some(sample) = reader.finish()? {
+        samples.push(sample)?;
+    }
+    Ok(samples)
+}
 
 /// The edges of a text that comes in two blocks, as a trace text.
 pub fn read(
@@ -19,32 +49,9 @@ pub fn read(
 ) -> Result<Vec<u8>, CaptureFault>
     requires { cut ≤ length text.now }
 {
-    let mut reader = VcdReader::new(alloc, signals);
-    let mut gatherer = EdgeDetector::new(0);
-    let mut edges = Vec::new(alloc);
-    let mut at = 0;
-    for _step in 0..text.len() {
-        let end = if at < cut { cut } else { text.len() };
-        if at == end {
-            break;
-        }
-        let (len, sample) = reader.take_front(&text[at..end])?;
-        if let Some(sample) = sample
-            && let Some(edge) = gatherer.take(sample)
-        {
-            edges.push(edge)?;
-        }
-        at += len;
-    }
-    if let Some(sample) = reader.finish()?
-        && let Some(edge) = gatherer.take(sample)
-    {
-        edges.push(edge)?;
-    }
-    if let Some(edge) = gatherer.finish() {
-        edges.push(edge)?;
-    }
-    let trace = write_trace(alloc, edges.as_slice())?;
+    let samples = samples(alloc, signals, text, cut)?;
+    let edges = edges_from(alloc, 0, &samples)?;
+    let trace = write_trace(alloc, &edges)?;
     Ok(trace)
 }
 

@@ -14,8 +14,6 @@ mod dumps;
 #[cfg(test)]
 mod growths;
 #[cfg(test)]
-mod inflating;
-#[cfg(test)]
 mod picture;
 #[cfg(test)]
 mod readings;

@@ -1,5 +1,6 @@
 //! Pictures and lines of papers that no run of the program gives.
 
+use crate::text::joined;
 use pr_dots::Shapes;
 use pr_page::{Mark, Paper, Placed, Row, Sequence};
 use pr_render::laws::{discs_are_the_dots, lines_show_each_cell, names_tell_marks};
@@ -142,7 +143,7 @@ fn holding(rt: &impl AllocGlobal, held: Sequence<Placed>) -> Paper {
 }
 
 /// What a run leaves that printed on these papers alone.
-pub fn printed(rt: &impl AllocGlobal, paper4: Paper, held5: Sequence<Placed>) -> Outcome {
+fn printed(rt: &impl AllocGlobal, paper4: Paper, held5: Sequence<Placed>) -> Outcome {
     Outcome {
         paper4,
         paper5: holding(rt, held5),
@@ -153,6 +154,16 @@ pub fn printed(rt: &impl AllocGlobal, paper4: Paper, held5: Sequence<Placed>) ->
     }
 }
 
+/// The picture of what a run leaves.
+fn drawn(rt: &(impl Abort + AllocGlobal), outcome: &Outcome, present: Present) -> Vec<u8> {
+    svg(rt.alloc(), &Shapes::own(), outcome, present).expect(rt, "memory")
+}
+
+/// Its lines.
+fn said(rt: &(impl Abort + AllocGlobal), outcome: &Outcome, present: Present) -> Vec<u8> {
+    text(rt.alloc(), outcome, present).expect(rt, "memory")
+}
+
 /// The picture has these parts, and the lines are these.
 fn shows(
     rt: &(impl Abort + AllocGlobal),
@@ -161,14 +172,22 @@ fn shows(
     parts: &[&str],
     lines: &str,
 ) {
-    let mut wanted = String::new(rt.alloc());
-    for part in parts {
-        wanted.push_str(part).expect(rt, "memory");
-    }
-    let drawn = svg(rt.alloc(), &Shapes::own(), outcome, present).expect(rt, "memory");
-    let said = text(rt.alloc(), outcome, present).expect(rt, "memory");
-    let is_well = drawn.as_slice() == wanted.as_bytes() && said.as_slice() == lines.as_bytes();
-    assert!(rt; is_well, "{lines}");
+    let wanted = joined(rt, parts);
+    let is_drawn = drawn(rt, outcome, present).as_slice() == wanted.as_bytes();
+    let is_said = said(rt, outcome, present).as_slice() == lines.as_bytes();
+    assert!(rt; is_drawn && is_said, "{lines}");
+}
+
+/// The same of a run that printed on this paper alone.
+fn shows_paper(
+    rt: &(impl Abort + AllocGlobal),
+    paper4: Paper,
+    present: Present,
+    parts: &[&str],
+    lines: &str,
+) {
+    let outcome = printed(rt, paper4, Sequence::new(rt.alloc()));
+    shows(rt, &outcome, present, parts, lines);
 }
 
 #[test]
@@ -184,10 +203,9 @@ fn rows_by_their_distance(rt: HostRuntime) {
         (118, &[cell(6, 66, false)]),
         (160, &[cell(12, 67, false)]),
     ];
-    let outcome = printed(&rt, paper(&rt, &rows), Sequence::new(rt.alloc()));
-    shows(
+    shows_paper(
         &rt,
-        &outcome,
+        paper(&rt, &rows),
         FOUR,
         &[
             BEGIN,
@@ -215,10 +233,9 @@ fn wide_cell_at_the_edge(rt: HostRuntime) {
             wide: true,
         },
     };
-    let outcome = printed(&rt, paper(&rt, &[(0, &[CELL])]), Sequence::new(rt.alloc()));
-    shows(
+    shows_paper(
         &rt,
-        &outcome,
+        paper(&rt, &[(0, &[CELL])]),
         FOUR,
         &[
             BEGIN,
@@ -285,31 +302,38 @@ fn printers_that_are_there(rt: HostRuntime) {
     }
 }
 
-/// A printer that is there and printed nothing has a sheet only if no other has one.
+/// A printer that is there and printed nothing has no sheet where another one has.
 #[test]
-fn printers_that_printed_nothing(rt: HostRuntime) {
-    const TWO: &str = "width=\"129pc\" height=\"15pc\" viewBox=\"0 0 27090 3150\"";
-    let paper4 = paper(&rt, &[(0, &[cell(0, 65, false)])]);
-    let outcome = printed(&rt, paper4, Sequence::new(rt.alloc()));
+fn printer_beside_one_that_printed(rt: HostRuntime) {
     let parts = [
         BEGIN, SIZE, ABOUT, DEFINED_A, DEFINED, FIRST, FOUR_BEGIN, A, LETTER_A, FOUR_END, BELOW,
     ];
-    shows(&rt, &outcome, BOTH, &parts, "Printer 4\nA\nPrinter 5\n");
-    let nothing = holding(&rt, Sequence::new(rt.alloc()));
-    let outcome = printed(&rt, nothing, Sequence::new(rt.alloc()));
-    shows(
-        &rt,
-        &outcome,
-        BOTH,
-        &[BEGIN, TWO, ABOUT, DEFINED, EMPTY],
-        "Printer 4\nPrinter 5\n",
-    );
+    let paper4 = paper(&rt, &[(0, &[cell(0, 65, false)])]);
+    shows_paper(&rt, paper4, BOTH, &parts, "Printer 4\nA\nPrinter 5\n");
 }
 
-/// The blocks of a picture, one after the other, are that picture.
+/// It has one where no other has.
+#[test]
+fn printers_that_printed_nothing(rt: HostRuntime) {
+    const TWO: &str = "width=\"129pc\" height=\"15pc\" viewBox=\"0 0 27090 3150\"";
+    let parts = [BEGIN, TWO, ABOUT, DEFINED, EMPTY];
+    let nothing = holding(&rt, Sequence::new(rt.alloc()));
+    shows_paper(&rt, nothing, BOTH, &parts, "Printer 4\nPrinter 5\n");
+}
+
+/// The blocks of a picture, one after the other.
+fn drawn_in_blocks(rt: &(impl Abort + AllocGlobal), outcome: Outcome, present: Present) -> Vec<u8> {
+    let mut bytes = Vec::new(rt.alloc());
+    let blocks = svg_blocks(rt.alloc(), &Shapes::own(), outcome, present).expect(rt, "memory");
+    for block in blocks {
+        bytes.extend_from_slice(&block).expect(rt, "memory");
+    }
+    bytes
+}
+
+/// They are that picture.
 #[test]
 fn pictures_in_blocks(rt: HostRuntime) {
-    let shapes = Shapes::own();
     let rows: [(u64, &[Placed]); 3] = [
         (0, &[cell(0, 65, false)]),
         (21, &[]),
@@ -318,12 +342,9 @@ fn pictures_in_blocks(rt: HostRuntime) {
     for present in [FOUR, FIVE, BOTH, NONE] {
         let held = sequence(&rt, &[cell(12, 67, true)]);
         let outcome = printed(&rt, paper(&rt, &rows), held);
-        let whole = svg(rt.alloc(), &shapes, &outcome, present).expect(&rt, "memory");
-        let mut joined = Vec::new(rt.alloc());
-        for block in svg_blocks(rt.alloc(), &shapes, outcome, present).expect(&rt, "memory") {
-            joined.extend_from_slice(&block).expect(&rt, "memory");
-        }
-        assert!(&rt; joined.as_slice() == whole.as_slice());
+        let whole = drawn(&rt, &outcome, present);
+        let blocks = drawn_in_blocks(&rt, outcome, present);
+        assert!(&rt; blocks.as_slice() == whole.as_slice());
     }
 }
 

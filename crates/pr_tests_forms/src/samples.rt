@@ -7,7 +7,7 @@ use std::process::Abort;
 use std::test::Fail;
 
 /// The edges that samples make from this start.
-fn edges_from(alloc: Global, start: u64, samples: &[Edge]) -> Result<Vec<Edge>, NoMemory> {
+pub fn edges_from(alloc: Global, start: u64, samples: &[Edge]) -> Result<Vec<Edge>, NoMemory> {
     let mut gatherer = EdgeDetector::new(start);
     let mut edges = Vec::new(alloc);
     for sample in samples {

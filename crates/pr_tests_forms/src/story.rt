@@ -1,79 +1,12 @@
-//! The lines of a story, and a story without memory.
+//! The lines of a story, and a story without memory. Whole stories are in tests/cases/stories.case.
 
 use crate::text::joined;
 use ByteRole::{Data, First, Second};
-use WaveFault::{Start, TooLate, Truncated};
 use pr_refusals::most_refusals;
 use pr_report::{TimedFrame, push_story, push_story_line};
 use pr_wire::example::TRACE_TEXT;
-use pr_wire::{ByteRole, Frame, WaveFault, read_trace};
+use pr_wire::{ByteRole, Frame, read_trace};
 use std::process::Abort;
-
-/// LISTEN 4 and, a millisecond after it, the secondary address 7.
-const TWO_COMMANDS: &str = "\
-    0 111\n100 001\n200 000\n1100 010\n1150 011\n1190 000\n1260 010\n1280 000\n1350 010\n1370 001\n\
-    1440 011\n1460 000\n1530 010\n1550 000\n1620 010\n1640 001\n1710 011\n1730 000\n1800 010\n\
-    1820 000\n1890 010\n1910 001\n1930 000\n2930 010\n2980 011\n3020 001\n3090 011\n3110 001\n\
-    3180 011\n3200 001\n3270 011\n3290 000\n3360 010\n3380 000\n3450 010\n3470 001\n3540 011\n\
-    3560 001\n3630 011\n3650 000\n3720 010\n3740 001\n3760 000\n\
-";
-
-/// The story of two commands.
-const TWO_LINES: &str = "\
-attention
-        1100         1930  $24  LISTEN 4
-        2930         3760  $67  SECOND 7
-";
-
-/// The story of the example: an attention, a line of data, and an attention.
-const EXAMPLE_LINES: &str = "\
-attention
-        1100         1930  $24  LISTEN 4
-data
-        2130         2960  $48  'H'
-        3060         3890  $49  'I'
-        3990         5140  $0D  return, end-or-identify
-attention
-        6240         7070  $3F  UNLISTEN
-";
-
-/// Traces in two parts, their stories in two parts, and their faults. A lawful trace ends with `lawful`, and
-/// of another one the frames before its fault are listed.
-static STORIES: [([&str; 2], [&str; 2], Option<WaveFault>); 7] = [
-    ([TRACE_TEXT, ""], [EXAMPLE_LINES, "lawful\n"], None),
-    ([TWO_COMMANDS, "3860 100\n"], [TWO_LINES, "lawful\n"], None),
-    ([TWO_COMMANDS, ""], [TWO_LINES, ""], Some(Truncated(43))),
-    (
-        [TWO_COMMANDS, "3961 100\n9000 111\n"],
-        [TWO_LINES, ""],
-        Some(TooLate(43)),
-    ),
-    (["", ""], ["", ""], Some(Start(0))),
-    (["", "1 111\n100 001\n"], ["", ""], Some(Start(0))),
-    (["", "0 111\n"], ["", "lawful\n"], None),
-];
-
-/// Whether the edges of a text have this story and this fault.
-fn has_story(
-    rt: &(impl Abort + AllocGlobal),
-    trace: &str,
-    story: &str,
-    wanted: Option<WaveFault>,
-) -> bool {
-    let edges = read_trace(rt.alloc(), trace.as_bytes()).expect(rt, "a trace");
-    let mut text = Vec::new(rt.alloc());
-    let fault = push_story(&mut text, edges.as_slice()).expect(rt, "memory");
-    text.as_slice() == story.as_bytes() && fault == wanted
-}
-
-#[test]
-fn stories(rt: HostRuntime) {
-    for &(trace, story, fault) in &STORIES {
-        let trace = joined(&rt, &trace);
-        let is_told = has_story(&rt, &trace, &joined(&rt, &story), fault);
-        assert!(rt; is_told, "{trace}");
-    }
-}
 
 /// The moments of the frames below.
 const MOMENTS: &str = "           7 1234567890123  ";

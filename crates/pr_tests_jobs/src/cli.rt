@@ -6,6 +6,5 @@ mod growths;
 mod limits;
 mod pictures;
 mod readers;
-mod reports;
 mod slow;
 mod worked;

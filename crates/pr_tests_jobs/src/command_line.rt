@@ -5,8 +5,7 @@ use pr_bus::Delays;
 use pr_capture::{Source, found_source};
 use pr_cli::read_job;
 use pr_options::{
-    DecodeOutput, DelayFault, Job, JobFault, Opt, PagesOutput, bad_value, explains, read_delays,
-    read_task,
+    DecodeOutput, DelayFault, Job, JobFault, PagesOutput, explains, read_delays, read_task,
 };
 use pr_render::{Device, Format};
 use pr_report::{Bounds, Detail};
@@ -185,65 +184,6 @@ fn fault_texts(rt: HostRuntime) {
     assert!(rt; JobFault::NoMemory.values().is_none());
 }
 
-/// Whether words ask for a job that draws the characters of this file.
-fn has_characters<'a>(alloc: Global, words: &'a [&'a str], characters: Option<&str>) -> bool {
-    match read_task(alloc, words) {
-        Ok(task) => task.characters == characters,
-        Err(_fault) => false,
-    }
-}
-
-/// The file of characters is the one that words name, whatever its name.
-#[test]
-fn characters_of_tasks(rt: HostRuntime) {
-    const ROWS: [(&[&str], Option<&str>); 7] = [
-        (&["print1525", "pages", "--as", "svg"], None),
-        (&["print1525", "pages"], None),
-        (
-            &[
-                "print1525",
-                "pages",
-                "--as",
-                "svg",
-                "--characters",
-                "rom.txt",
-            ],
-            Some("rom.txt"),
-        ),
-        (
-            &["print1525", "raw", "-o", "a.pdf", "--characters=-"],
-            Some("-"),
-        ),
-        (
-            &["print1525", "decode", "--characters", "", "--as=png"],
-            Some(""),
-        ),
-        (&["print1525", "bus"], None),
-        (&["print1525", "check"], None),
-    ];
-    for (words, characters) in ROWS {
-        assert!(&rt; has_characters(rt.alloc(), words, characters), "{words:?}");
-    }
-}
-
-/// Lines and lists draw no characters.
-#[test]
-fn characters_without_a_picture(rt: HostRuntime) {
-    const ROWS: [&[&str]; 4] = [
-        &["print1525", "pages", "--characters", "rom.txt"],
-        &["print1525", "raw", "--as=text", "--characters", "rom.txt"],
-        &["print1525", "decode", "--characters", "rom.txt"],
-        &["print1525", "pages", "-o", "a.txt", "--characters", "a"],
-    ];
-    for words in ROWS {
-        let is_well = match read_task(rt.alloc(), words) {
-            Ok(_task) => false,
-            Err(fault) => matches!(fault, JobFault::NoPicture),
-        };
-        assert!(&rt; is_well, "{words:?}");
-    }
-}
-
 /// Whether words ask `decode` for this output.
 fn decodes_to<'a>(alloc: Global, words: &'a [&'a str], wanted: DecodeOutput) -> bool {
     match job_of(alloc, words) {
@@ -400,37 +340,6 @@ fn rates_of_recordings(rt: HostRuntime) {
     }
 }
 
-/// Whether words are refused with this line.
-fn refuses<'a>(rt: &(impl Abort + AllocGlobal), words: &'a [&'a str], wanted: &str) {
-    match read_task(rt.alloc(), words) {
-        Ok(_task) => assert!(rt; false, "{words:?}"),
-        Err(fault) => tells(rt, &fault, wanted),
-    }
-}
-
-/// An empty value is not one that an option has.
-#[test]
-fn empty_values(rt: HostRuntime) {
-    const ROWS: [(&[&str], &str); 4] = [
-        (
-            &["print1525", "check", "--from=csv", "--rate="],
-            "bad --rate",
-        ),
-        (
-            &["print1525", "pages", "--as=svg", "--device="],
-            "bad --device",
-        ),
-        (
-            &["print1525", "raw", "--sheet", "", "--as=png"],
-            "bad --sheet",
-        ),
-        (&["print1525", "decode", "--from-time="], "bad --from-time"),
-    ];
-    for (words, wanted) in ROWS {
-        refuses(&rt, words, wanted);
-    }
-}
-
 /// How long before its own moment 0 words have a recording's trace start.
 fn before_of<'a>(alloc: Global, words: &'a [&'a str]) -> Option<u64> {
     match read_task(alloc, words) {
@@ -450,145 +359,24 @@ fn starts_before_moment_0(rt: HostRuntime) {
     assert!(rt; before_of(rt.alloc(), &LATER).is_none());
 }
 
-/// Options that do not go with what is read or written.
-#[test]
-fn options_without_use(rt: HostRuntime) {
-    const PART: &str = "--device goes with --as svg, png, pdf or bytes, --sheet with svg or png";
-    const PICTURE: &str = "--characters goes with --as svg, png or pdf";
-    const READINGS: &str = "--intervals and --bounds go with --as list";
-    const TABLE: &str = "--rate goes with --from csv";
-    const ROWS: [(&[&str], &str); 16] = [
-        (&["print1525", "decode", "--device", "4"], PART),
-        (&["print1525", "decode", "--as=json", "--device=4"], PART),
-        (&["print1525", "decode", "--as=bytes", "--sheet=1"], PART),
-        (
-            &[
-                "print1525",
-                "pages",
-                "--as=bytes",
-                "--sheet=1",
-                "--device=4",
-            ],
-            PART,
-        ),
-        (
-            &["print1525", "pages", "--as=bytes", "--characters=a"],
-            PICTURE,
-        ),
-        (
-            &["print1525", "decode", "--as=json", "--characters=a"],
-            PICTURE,
-        ),
-        (
-            &["print1525", "decode", "--as=svg", "--intervals"],
-            READINGS,
-        ),
-        (
-            &["print1525", "decode", "-o", "a.png", "--bounds=profile"],
-            READINGS,
-        ),
-        (
-            &["print1525", "decode", "--as=bytes", "--bounds", "guide"],
-            READINGS,
-        ),
-        (
-            &["print1525", "decode", "--as=text", "--bounds=x"],
-            "bad --bounds",
-        ),
-        (&["print1525", "decode", "--bounds="], "bad --bounds"),
-        (&["print1525", "check", "--rate", "4M"], TABLE),
-        (&["print1525", "decode", "a.vcd", "--rate=4M"], TABLE),
-        (
-            &["print1525", "check", "--rate=4M", "--invert"],
-            "--names, --invert and --from-time go with --from vcd or csv",
-        ),
-        (&["print1525", "decode", "--rate", "4 M"], "bad --rate"),
-        (&["print1525", "raw", "--as", "bytes"], "bad --as"),
-    ];
-    for (words, wanted) in ROWS {
-        refuses(&rt, words, wanted);
-    }
-}
-
-/// Whether words ask for a job that reads and writes these files.
-fn has_files<'a>(
-    alloc: Global,
-    words: &'a [&'a str],
-    input: Option<&str>,
-    output: Option<&str>,
-) -> bool {
-    match read_task(alloc, words) {
-        Ok(task) => task.input == input && task.output == output,
-        Err(_fault) => false,
-    }
-}
-
-/// The files that words name: `-` is none.
-#[test]
-fn files_of_tasks(rt: HostRuntime) {
-    let alloc = rt.alloc();
-    assert!(rt; has_files(alloc, &["print1525", "pages"], None, None));
-    let alloc = rt.alloc();
-    assert!(rt;
-        has_files(
-            alloc,
-            &["print1525", "raw", "a", "--output=b"],
-            Some("a"),
-            Some("b")
-        )
-    );
-    let alloc = rt.alloc();
-    assert!(rt;
-        has_files(
-            alloc,
-            &["print1525", "bus", "-o", "b.vcd", "-"],
-            None,
-            Some("b.vcd")
-        )
-    );
-    let alloc = rt.alloc();
-    assert!(rt; has_files(alloc, &["print1525", "check", "-o-", "--", "-"], None, None));
-    let alloc = rt.alloc();
-    assert!(rt;
-        has_files(
-            alloc,
-            &["print1525", "decode", "--", "-o"],
-            Some("-o"),
-            None
-        )
-    );
-}
-
-/// The value of a fault is that of the words.
-#[test]
-fn bad_values(rt: HostRuntime) {
-    const WORDS: [&str; 4] = ["print1525", "pages", "--as", "gif"];
-    assert!(rt; bad_value(rt.alloc(), &WORDS, &JobFault::Bad(Opt::PageAs)) == Some("gif"));
-    assert!(rt; bad_value(rt.alloc(), &WORDS, &JobFault::NoMemory).is_none());
-    assert!(rt;
-        JobFault::Bad(Opt::PageAs).good_values() == Some("list, text, svg, png, pdf or bytes")
-    );
-    assert!(rt; JobFault::Bad(Opt::RawAs).good_values() == Some("list, text, svg, png or pdf"));
-    assert!(rt;
-        JobFault::Bad(Opt::Rate).good_values()
-            == Some("samples in a second, as in 4M, 500k or 1000000, or none")
-    );
-    assert!(rt; JobFault::BadPresent.good_values().is_none());
-}
-
 /// The format of a recording by its first bytes.
 #[test]
 fn found_sources(rt: HostRuntime) {
-    assert!(rt; found_source(Source::Text, b"") == Source::Text);
-    assert!(rt; found_source(Source::Text, b"0 111\n1,1\n") == Source::Text);
-    assert!(rt; found_source(Source::Text, b" \n\t$date") == Source::Vcd);
-    assert!(rt; found_source(Source::Text, b"# a, b") == Source::Csv);
-    assert!(rt; found_source(Source::Text, b"\n; table") == Source::Csv);
-    assert!(rt; found_source(Source::Text, b"Time,ATN\n") == Source::Csv);
-    assert!(rt; found_source(Source::Csv, b"0 111") == Source::Csv);
-    assert!(rt; found_source(Source::Text, b"t;ATN") == Source::Csv);
-    assert!(rt; found_source(Source::Text, b"META samplerate: 1\n$date") == Source::Vcd);
-    assert!(rt; found_source(Source::Text, b"META samplerate: 1\nATN") == Source::Csv);
-    assert!(rt; found_source(Source::Text, &[254, 255, 0, b't']) == Source::Csv);
-    assert!(rt; found_source(Source::Text, &[b'P', b'K', 3, 4]) == Source::Csv);
+    const ROWS: [(Source, &[u8], Source); 12] = [
+        (Source::Text, b"", Source::Text),
+        (Source::Text, b"0 111\n1,1\n", Source::Text),
+        (Source::Text, b" \n\t$date", Source::Vcd),
+        (Source::Text, b"# a, b", Source::Csv),
+        (Source::Text, b"\n; table", Source::Csv),
+        (Source::Text, b"Time,ATN\n", Source::Csv),
+        (Source::Csv, b"0 111", Source::Csv),
+        (Source::Text, b"t;ATN", Source::Csv),
+        (Source::Text, b"META samplerate: 1\n$date", Source::Vcd),
+        (Source::Text, b"META samplerate: 1\nATN", Source::Csv),
+        (Source::Text, b"\xfe\xff\0t", Source::Csv),
+        (Source::Text, b"PK\x03\x04", Source::Csv),
+    ];
+    for (told, first, wanted) in ROWS {
+        assert!(rt; found_source(told, first) == wanted, "{first:?}");
+    }
 }

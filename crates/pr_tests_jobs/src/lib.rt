@@ -9,8 +9,6 @@ mod command_line;
 #[cfg(test)]
 mod explanations;
 #[cfg(test)]
-mod files;
-#[cfg(test)]
 mod program;
 #[cfg(test)]
 mod recordings;

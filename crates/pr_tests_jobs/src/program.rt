@@ -1,7 +1,7 @@
 //! The program over memory, and the job that words ask for.
 
 use crate::cli::calls::{EXAMPLE_LINES, HI};
-use pr_cli::{End, Job, JobFault, answer_in_memory, answer_line, named_files, read_job};
+use pr_cli::{End, Job, JobFault, answer_in_memory, answer_line, read_job};
 use pr_wire::example::TRACE_TEXT;
 use std::alloc::Global;
 
@@ -131,37 +131,17 @@ const BAD_BYTE: pr_cli::CliFault = pr_cli::CliFault::Script(pr_basic::ScriptFaul
 /// Words as one text, with a byte 0 between each two.
 #[test]
 fn words_as_one_text(rt: HostRuntime) {
-    let alloc = rt.alloc();
-    let answered = answer_line(alloc, b"print1525\0pages", false, HI.as_bytes(), b"");
+    let answered = answer_line(rt.alloc(), b"print1525\0pages", false, HI.as_bytes(), b"");
     assert!(&rt; answered.end == End::Done && answered.output.as_slice() == PAGE.as_bytes());
-    let answered = answer_line(alloc, b"print1525\0\xff", false, b"", b"");
-    assert!(&rt; answered.end == End::Words && answered.output.is_empty());
-    assert!(&rt;
-        answered
-            .messages
-            .starts_with(b"print1525: \\xff: not UTF-8\n")
-    );
 }
 
-/// The files that words name: the one that is read, the one that is written, and that of characters.
 #[test]
-fn files_that_words_name(rt: HostRuntime) {
-    const ROWS: [(&[u8], End, &[u8]); 3] = [
-        (b"print1525\0raw\0a\0-o\0b", End::Done, b"=a\0=b\0\0"),
-        (
-            b"print1525\0raw\0--as\0svg\0--characters\0c",
-            End::Done,
-            b"\0\0=c\0",
-        ),
-        (b"print1525\0nothing", End::Words, b""),
-    ];
-    for (words, end, names) in ROWS {
-        let named = named_files(rt.alloc(), words);
-        assert!(&rt;
-            named.end == end && named.output.as_slice() == names,
-            "{names:?}"
-        );
-    }
+fn words_that_are_not_utf_8(rt: HostRuntime) {
+    let answered = answer_line(rt.alloc(), b"print1525\0\xff", false, b"", b"");
+    let is_told = answered
+        .messages
+        .starts_with(b"print1525: \\xff: not UTF-8\n");
+    assert!(&rt; answered.end == End::Words && answered.output.is_empty() && is_told);
 }
 
 /// Why words ask for no job.

@@ -120,21 +120,29 @@ fn are_commands(frames: &[Frame], commands: &[u8]) -> bool {
         })
 }
 
+/// What a quiet run gives.
+fn outcome_by_settings(rt: &(impl Abort + AllocGlobal), row: &Quiet) -> Outcome {
+    let statements = statements_of(rt, row.script);
+    let delays = Delays {
+        computer: choices(rt, row.numbers[0]),
+        four: choices(rt, row.numbers[1]),
+        five: choices(rt, &[]),
+    };
+    run(rt.alloc(), &statements, row.present, delays, row.mode).expect(rt, "memory")
+}
+
+/// Whether the trace of an outcome spells these commands.
+fn spells(rt: &(impl Abort + AllocGlobal), outcome: &Outcome, commands: &[u8]) -> bool {
+    let frames = analyse(rt.alloc(), outcome.trace.as_slice()).expect(rt, "a lawful trace");
+    are_commands(frames.as_slice(), commands)
+}
+
 /// The program steps through a run; these settings reach `run` here alone.
 #[test]
 fn runs_by_settings(rt: HostRuntime) {
     for row in &QUIET {
-        let statements = statements_of(&rt, row.script);
-        let delays = Delays {
-            computer: choices(&rt, row.numbers[0]),
-            four: choices(&rt, row.numbers[1]),
-            five: choices(&rt, &[]),
-        };
-        let outcome = run(rt.alloc(), &statements, row.present, delays, row.mode).expect(
-            &rt, "memory",
-        );
-        let frames = analyse(rt.alloc(), outcome.trace.as_slice()).expect(&rt, "a lawful trace");
-        let is_well = is_quiet(&outcome, row) && are_commands(frames.as_slice(), row.commands);
+        let outcome = outcome_by_settings(&rt, row);
+        let is_well = is_quiet(&outcome, row) && spells(&rt, &outcome, row.commands);
         assert!(rt; is_well, "{} edges", row.edges);
     }
 }

@@ -41,12 +41,8 @@ enum Reading {
     Report,
 }
 
-const READINGS: [Reading; 4] = [
-    Reading::Whole,
-    Reading::Raw,
-    Reading::Check,
-    Reading::Report,
-];
+/// Those that read blocks.
+const READINGS: [Reading; 3] = [Reading::Raw, Reading::Check, Reading::Report];
 
 impl Reading {
     /// The fault of a reader with this limit, if there is one.
@@ -80,6 +76,17 @@ const ENDLESS: [(usize, usize, usize); 7] = [
     (usize::MAX, BLOCK, 2 * BLOCK),
 ];
 
+/// The same of input that is read whole, in pieces of 8,192 bytes.
+const ENDLESS_WHOLE: [(usize, usize, usize); 7] = [
+    (1, 0, 1),
+    (1, 1000, 1001),
+    (7, 1000, 1001),
+    (7, 1001, 1008),
+    (BLOCK, 3 * BLOCK, 3 * BLOCK + 8_192),
+    (BLOCK, 3 * BLOCK - 1, 3 * BLOCK),
+    (usize::MAX, BLOCK, BLOCK + 8_192),
+];
+
 /// With this limit an endless reader is too large as soon as it has given this many bytes.
 fn too_large(
     rt: &(impl Abort + AllocGlobal),
@@ -97,6 +104,9 @@ fn too_large(
 
 #[test]
 fn too_large_by_an_endless_reader(rt: HostRuntime) {
+    for row in ENDLESS_WHOLE {
+        too_large(&rt, Reading::Whole, row);
+    }
     for reading in READINGS {
         for row in ENDLESS {
             too_large(&rt, reading, row);

@@ -5,8 +5,7 @@ use pr_basic::{StatusMode, read_script};
 use pr_dots::Shapes;
 use pr_jobs::{CliFault, Ending, PictureFault, pages_text};
 use pr_page::Sequence;
-use pr_png::png;
-use pr_render::{Device, Format, Part, sheet_svg};
+use pr_render::{Device, Format, Part};
 use pr_serial::Present;
 use pr_system::{Outcome, run};
 use std::alloc::Global;
@@ -105,33 +104,6 @@ fn shown(alloc: Global, format: Format) -> (Result<Ending, CliFault>, Vec<u8>) {
 
 /// A script that prints letters on printer 5.
 const FIVE_LETTERS: &str = "OPEN 5,5\nPRINT#5,\"HI\"\n";
-
-/// Printer 5 is the first that has printed; an empty sheet of printer 4 is shown where it is asked for.
-#[test]
-fn parts_of_pages(rt: HostRuntime) {
-    let alloc = rt.alloc();
-    let outcome = outcome(alloc, FIVE_LETTERS, BOTH).expect(&rt, "memory");
-    let five = Some(Device::Five);
-    let four = Some(Device::Four);
-    let shapes = Shapes::own();
-    let printed = sheet_svg(alloc, &shapes, &outcome.paper5, 0).expect(&rt, "memory");
-    let empty = sheet_svg(alloc, &shapes, &outcome.paper4, 0).expect(&rt, "memory");
-    let bitmap = png(alloc, &shapes, &outcome.paper5, 0).expect(&rt, "memory");
-    let blank = png(alloc, &shapes, &outcome.paper4, 0).expect(&rt, "memory");
-    let all = drawn(alloc, FIVE_LETTERS, BOTH).expect(&rt, "memory");
-    for (format, wanted) in [
-        (Format::Svg(part(None, Some(1))), &printed),
-        (Format::Svg(part(five, Some(1))), &printed),
-        (Format::Svg(part(four, Some(1))), &empty),
-        (Format::Svg(part(five, None)), &all),
-        (Format::Png(part(None, None)), &bitmap),
-        (Format::Png(part(five, Some(1))), &bitmap),
-        (Format::Png(part(four, None)), &blank),
-    ] {
-        let (answer, written) = shown(alloc, format);
-        assert!(&rt; answer == Ok(Ending::Done) && written.as_slice() == wanted.as_slice());
-    }
-}
 
 /// A sheet that does not exist is refused with how many there are, and nothing is written.
 #[test]

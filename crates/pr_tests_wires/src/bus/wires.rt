@@ -447,6 +447,11 @@ static RUNS: [Run; 15] = [
     },
 ];
 
+/// Those runs, for callers whose proofs do not read them.
+fn all_runs() -> &'static [Run] {
+    &RUNS
+}
+
 /// Numbers for a party.
 fn choices(rt: &impl AllocGlobal, numbers: &[u16]) -> Result<Choices, NoMemory> {
     let mut list = Vec::new(rt.alloc());
@@ -585,7 +590,7 @@ fn plays(rt: &(impl Abort + AllocGlobal), run: &Run) -> bool {
 
 #[test]
 fn runs(rt: HostRuntime) {
-    for run in &RUNS {
+    for run in all_runs() {
         let is_well = plays(&rt, run);
         assert!(rt; is_well, "{}", run.name);
     }

@@ -7,8 +7,8 @@ use Rattle.pr_listing.proofs.names.place_of.Given as goal
 -- the name is none of those so far
 abbrev pub invariant-loop-rest : goal.invariant-loop-rest
 invariant-loop-rest l = record {
-  none : position_from (is_name l.name) l.place (lines_of l.rest) ≡ place_of l.name;
-  count : l.place + length l.rest ≤ 10000;
+  none : position_from (is_name l.name) l.place (lines_of l.rest) ≡ place_of l.table l.name;
+  count : l.place + length l.rest ≤ length l.table;
 }
 
 abbrev pub decreases-loop-rest : goal.decreases-loop-rest

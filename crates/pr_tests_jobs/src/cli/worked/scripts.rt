@@ -56,7 +56,7 @@ const NOBODY: Setting = Setting {
 };
 
 /// Both printers: printer 4 answers as fast as may be, printer 5 slowly.
-pub const EXTREME: Setting = Setting {
+const EXTREME: Setting = Setting {
     computer: &[198; 200],
     four: &[0; 200],
     five: &[968; 200],
@@ -104,7 +104,7 @@ const HELD_LETTERS: &str = "\
 ";
 
 /// A line that both printers hear.
-pub const BOTH_PRINT: &str = "OPEN 4,4\nOPEN 5,5\nCMD 4,\"\";\nPRINT#5,\"X\"";
+const BOTH_PRINT: &str = "OPEN 4,4\nOPEN 5,5\nCMD 4,\"\";\nPRINT#5,\"X\"";
 
 /// Its pages.
 const ON_BOTH: &str =

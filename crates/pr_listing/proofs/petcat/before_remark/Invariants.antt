@@ -1,7 +1,0 @@
-use Rattle.std.proofs.Common.{◌≡◌, ◌+◌, drop, false}
-use Rattle.pr_listing.specs.Petcat.{before_remark}
-use Rattle.pr_listing.proofs.petcat.before_remark.Given as goal
-
--- no remark begins so far
-abbrev pub invariant-loop-i : goal.invariant-loop-i
-invariant-loop-i l = before_remark false l.line ≡ l.i + before_remark l.quoted (drop l.i l.line)
