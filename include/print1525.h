@@ -3,7 +3,7 @@
  *     Texts                       give                                                          as the subcommand
  *     print1525_pages             the pages of a script: a list, lines, SVG, PNG or PDF         pages
  *     print1525_bus               the trace of a script's run: a text or a Value Change Dump    bus
- *     print1525_listing           a saved program or petcat's text as the text of a script      pages --from
+ *     print1525_listing           a listing in any form as the text of a script                 pages --from
  *     print1525_raw               the page of the bytes that a printer gets                     raw
  *     print1525_print             the page of bytes and of selections of a character set
  *     print1525_check             the frames or the story of a trace, or its first fault        check
@@ -344,9 +344,9 @@ PRINT1525_CALL int print1525_bus(const void *script, size_t length, const print1
 /* Gives the text of the script that a listing says.
  *
  * Reads: a listing of any length; from.
- * Gives: the text that `print1525 pages --from prg` and `--from petcat` run: a line for each line of the listing, of
- * the same number. A listing that is the text of a script is itself.
- * Refuses: from (60); then a listing that has no text, by its first fault (61 to 64). The calls that run the text say
+ * Gives: the text that `print1525 pages --from prg`, `--from petcat` and `--from magazine` run: a line for each line of
+ * the listing, of the same number. A listing that is the text of a script is itself.
+ * Refuses: from (60); then a listing that has no text, by its first fault (61 to 65). The calls that run the text say
  * whether it is a script: its faults are those of the listing's lines. */
 PRINT1525_CALL int print1525_listing(const void *listing, size_t length, const print1525_settings *settings,
                                      void *buffer, size_t capacity, print1525_details *details);
