@@ -36,7 +36,7 @@ SHARED := libprint1525.so.$(LIBRARY_VERSION)
 SONAME := libprint1525.so.$(firstword $(subst ., ,$(LIBRARY_VERSION)))
 
 # The tests that go on after a refused allocation (tests/growths).
-TEST_CRATES := pr_tests_core pr_tests_wires pr_tests_forms pr_tests_jobs
+TEST_CRATES := pr_tests_core pr_tests_forms pr_tests_jobs
 TESTS := $(foreach crate,$(TEST_CRATES),crates/$(crate)/out/$(crate)_tests)
 
 # The static libraries that the library for C is made of.

@@ -292,7 +292,7 @@ typedef struct {
                                        * first printer that printed */
     uint8_t recording;                /* --from of check and decode: enum print1525_recording */
     uint8_t words;                    /* --as of check and decode: enum print1525_words */
-    uint8_t intervals;                /* --intervals: 1: also the intervals outside their bounds; 0: not */
+    uint8_t intervals;                /* --intervals: 1: also those outside their bounds, and a table; 0: not */
     uint8_t bounds;                   /* --bounds: enum print1525_bounds */
     uint8_t inverted;                 /* --invert: 1: the levels of a dump or a table are inverted; 0: not */
     uint8_t reserved[4];              /* 0 */

@@ -38,7 +38,7 @@ static void trace_without_frames(void) {
     CHECK(inputs[0] == 7 && inputs[1] == 7);
 }
 
-/* Printer 4 is selected at edge 22 and receives a byte at 43, 63 and 85. */
+/* inputs_come_with_their_edge: printer 4 is selected at edge 22 and receives a byte at 43, 63 and 85. */
 static void example_edge_by_edge(void) {
     static const size_t received_at[] = {22, 43, 63, 85}, inputs[] = {256, 72, 73, 13};
     print1525_strict strict;
@@ -152,6 +152,140 @@ static void example_received(void) {
     }
 }
 
+/* ---- Worked traces (profile), all edges at once. What print1525_check says of them is in tests/cases: refused_traces in
+ * traces_refused_by_check, the others in fronts_of_the_example_trace and changes_of_the_example_trace. ---- */
+
+static const uint16_t letters[] = {PRINT1525_SELECT_UPPER, 72, 73, 13};
+
+/* A device receives the letters of a trace, or nothing. */
+static void gives(const print1525_edge *trace, uint8_t device, size_t length) {
+    uint16_t inputs[EDGES];
+    print1525_details answer;
+    print1525_strict_edges(device, trace, EDGES, inputs, EDGES, &answer);
+    CHECK(answers(answer, PRINT1525_DONE, 0, 0, length));
+    CHECK(length == 0 || memcmp(inputs, letters, sizeof letters) == 0);
+}
+
+static void refuses(const print1525_edge *trace, size_t count, int fault, size_t place) {
+    uint16_t inputs[EDGES];
+    print1525_details answer;
+    print1525_strict_edges(4, trace, count, inputs, EDGES, &answer);
+    CHECK(answers(answer, PRINT1525_REFUSED, fault, place, 0));
+}
+
+/* What refuses a trace for the check refuses it for a receiver. */
+static void replay_refuses_as_analyse(void) {
+    static const struct {
+        print1525_edge trace[3];
+        size_t count, place;
+        int fault;
+    } rows[] = {
+        {{{0, 1, 1, 1}, {0, 0, 0, 0}, {0, 0, 0, 0}}, 0, 0, PRINT1525_FAULT_BAD_START},
+        {{{1, 1, 1, 1}, {0, 0, 0, 0}, {0, 0, 0, 0}}, 1, 0, PRINT1525_FAULT_BAD_START},
+        {{{0, 1, 1, 1}, {0, 0, 0, 1}, {0, 0, 0, 0}}, 2, 1, PRINT1525_FAULT_BAD_ORDER},
+        {{{0, 1, 1, 1}, {99, 0, 0, 1}, {0, 0, 0, 0}}, 2, 1, PRINT1525_FAULT_TOO_EARLY},
+        {{{0, 1, 1, 1}, {100, 0, 1, 1}, {0, 0, 0, 0}}, 2, 1, PRINT1525_FAULT_BAD_SHAPE},
+        {{{0, 1, 1, 1}, {100, 0, 0, 1}, {0, 0, 0, 0}}, 2, 2, PRINT1525_FAULT_TRUNCATED},
+        {{{0, 1, 1, 1}, {100, 0, 0, 1}, {2101, 1, 1, 1}}, 3, 2, PRINT1525_FAULT_TOO_LATE},
+        {{{0, 1, 1, 1}, {100, 0, 0, 1}, {1101, 0, 1, 0}}, 3, 2, PRINT1525_FAULT_TOO_LATE},
+        {{{0, 1, 1, 1}, {100, 0, 0, 1}, {1099, 0, 1, 0}}, 3, 2, PRINT1525_FAULT_TOO_EARLY},
+    };
+    size_t row;
+    for (row = 0; row < sizeof rows / sizeof *rows; row++)
+        refuses(rows[row].trace, rows[row].count, rows[row].fault, rows[row].place);
+}
+
+static void replay_of_the_example_trace(void) {
+    gives(edges, 4, 4);
+    gives(edges, 5, 0);
+    gives(edges, 30, 0);
+}
+
+/* A trace may end where the bus rests, or while printers that listen wait for the next byte. */
+static void fronts_of_the_example_trace(void) {
+    static const size_t lawful[] = {1, 24, 44, 64, 86, 110};
+    uint16_t inputs[EDGES];
+    print1525_details answer;
+    size_t count, next = 0;
+    refuses(edges, 0, PRINT1525_FAULT_BAD_START, 0);
+    for (count = 1; count <= EDGES; count++) {
+        if (count != lawful[next]) {
+            refuses(edges, count, PRINT1525_FAULT_TRUNCATED, count);
+            continue;
+        }
+        CHECK(print1525_strict_edges(4, edges, count, inputs, EDGES, &answer) == PRINT1525_DONE);
+        next++;
+    }
+    CHECK(next == sizeof lawful / sizeof *lawful);
+}
+
+static void single_changes_of_the_example_trace(void) {
+    print1525_edge changed[EDGES + 1];
+    /* Edges 10 and 11 are exchanged. */
+    memcpy(changed, edges, sizeof edges);
+    changed[10] = edges[11], changed[11] = edges[10];
+    refuses(changed, EDGES, PRINT1525_FAULT_BAD_SHAPE, 10);
+    /* Edge 10 comes twice. */
+    memcpy(changed, edges, 11 * sizeof *edges);
+    memcpy(changed + 11, edges + 10, (EDGES - 10) * sizeof *edges);
+    refuses(changed, EDGES + 1, PRINT1525_FAULT_BAD_ORDER, 11);
+    /* Edge 4 is left out. */
+    memcpy(changed, edges, 4 * sizeof *edges);
+    memcpy(changed + 4, edges + 5, (EDGES - 5) * sizeof *edges);
+    refuses(changed, EDGES - 1, PRINT1525_FAULT_BAD_SHAPE, 4);
+    /* Edge 4 comes in the microsecond of the one before. */
+    memcpy(changed, edges, sizeof edges);
+    changed[4].time = 1100;
+    refuses(changed, EDGES, PRINT1525_FAULT_BAD_ORDER, 4);
+    /* Edge 5 comes too late. */
+    memcpy(changed, edges, sizeof edges);
+    changed[5].time = 1350;
+    refuses(changed, EDGES, PRINT1525_FAULT_TOO_LATE, 5);
+}
+
+/* A pulse of 250 that one listener cannot make, but two can; of 251 none. */
+static void joint_pulse_of_two_listeners(void) {
+    print1525_edge stretched[EDGES];
+    size_t index;
+    memcpy(stretched, edges, sizeof edges);
+    stretched[66].time = 4240;
+    for (index = 67; index < EDGES; index++) stretched[index].time += 120;
+    gives(stretched, 4, 4);
+    stretched[66].time = 4290;
+    for (index = 67; index < EDGES; index++) stretched[index].time += 1;
+    refuses(stretched, EDGES, PRINT1525_FAULT_TOO_LATE, 67);
+}
+
+/* LISTEN to device 9 in place of device 4: two bits differ. */
+static void another_device_is_addressed(void) {
+    static const size_t bits[] = {5, 6, 9, 10, 11, 12};
+    print1525_edge changed[EDGES];
+    size_t bit;
+    memcpy(changed, edges, sizeof edges);
+    for (bit = 0; bit < sizeof bits / sizeof *bits; bit++) changed[bits[bit]].data = !changed[bits[bit]].data;
+    gives(changed, 9, 4);
+    gives(changed, 4, 0);
+}
+
+/* A refused edge is not counted, and is refused for good. */
+static void refusal_is_for_good(void) {
+    static const print1525_edge early[] = {{99, 0, 0, 1}, {100, 0, 0, 1}};
+    print1525_strict strict;
+    print1525_details answer;
+    uint16_t input = 7;
+    size_t turn;
+    print1525_strict_begin(&strict, 4);
+    print1525_strict_edge(&strict, &first, &input, &answer);
+    CHECK(answers(answer, PRINT1525_DONE, 0, 0, 0));
+    for (turn = 0; turn < 2; turn++) {
+        print1525_strict_edge(&strict, &early[turn], &input, &answer);
+        CHECK(answers(answer, PRINT1525_REFUSED, PRINT1525_FAULT_TOO_EARLY, 1, 0));
+        print1525_strict_end(&strict, &answer);
+        CHECK(answers(answer, PRINT1525_REFUSED, PRINT1525_FAULT_TOO_EARLY, 1, 0));
+    }
+    CHECK(strict.taken == 1);
+}
+
 int main(void) {
     size_t index;
     for (index = 0; index < EDGES; index++) {
@@ -169,5 +303,12 @@ int main(void) {
     example_decoded();
     example_received();
     refusals_of_decoders();
+    replay_refuses_as_analyse();
+    replay_of_the_example_trace();
+    fronts_of_the_example_trace();
+    single_changes_of_the_example_trace();
+    joint_pulse_of_two_listeners();
+    another_device_is_addressed();
+    refusal_is_for_good();
     return failed;
 }

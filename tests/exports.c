@@ -91,7 +91,7 @@ static void print(const text_row *row, print1525_plain_numbers *answer) {
 }
 
 static const text_row text_rows[] = {
-    {"no frame", readings, "0 111\n", 0, 0, 999, 0, 0, 0, MORE_THAN(9), "frames: 0\ncommands: 0\ndata bytes: 0\n"},
+    {"no frame", readings, "0 111\n", 0, 0, 999, 0, 0, 0, MORE_THAN(9), "frames: 0, commands: 0, data bytes: 0\nnot acknowledged: 0\n"},
     {"no room", readings, "0 111\n", 0, 0, 0, 4, 0, 0, MORE_THAN(99), ""},
     {"a bad line", readings, "0 111\n5 11\n", 0, 0, 999, 2, 8, 2, EXACTLY(0), ""},
     {"a table without CLOCK", readings, "Time [s],ATN,DATA\n0,1,1\n", 2, 0, 999, 2, 32, 1, ANY, ""},
@@ -214,6 +214,7 @@ static const number_row number_rows[] = {
     /* CLOCK is released at 1100, DATA at 1150, CLOCK is pulled at 1190, and the recording ends: no bit comes. */
     {"a byte without a bit", reading_rows, CALL, 0, 40, {0, 0, 0, 18}, 17,
      {4, 0, 0, 0, 1, 1100, 1150, 0, 0, 0, 1190, 1190, 0, 0, 0, 0, 0}},
+    /* bounds_of_each_kind; the typical delays are those of tests/cases/trace_of_two_letters.case. */
     {"the bounds of delays", bounds, "", 0, 40, {0, 0, 0, 30}, 30,
      {100, 1000, 1000, 2000, 1, 199, 1, 60, 20, 200, 20, 200, 100, 200, 100, 200,
       1, 1000, 1, 10000, 200, 250, 80, 200, 1, 80, 1, 60, 80, 250}},

@@ -9,6 +9,7 @@
  * FAULT_LINK=N   the Nth link cannot be read
  * FAULT_SYNC=N   the Nth sync fails
  * FAULT_RENAME=N the Nth file cannot be renamed
+ * FAULT_REMOVE=N the Nth file cannot be removed
  * FAULT_SLOW=1   each read and write moves one byte
  * FAULT_SIGNAL=1 a signal interrupts each read and write, and each moves bytes when it is made again
  * FAULT_MARK=F   the file F is made when a fault happens
@@ -64,7 +65,7 @@ static void told(const char *call, const char *name, const char *other)
     syscall(SYS_close, file);
 }
 
-static long allocations, reads, writes, fulls, opens, modes, links, syncs, renames;
+static long allocations, reads, writes, fulls, opens, modes, links, syncs, renames, removals;
 
 static int refused(void)
 {
@@ -211,5 +212,9 @@ int rename(const char *from, const char *to)
 int unlink(const char *name)
 {
     told("remove", name, "");
+    if (fails("FAULT_REMOVE", &removals)) {
+        errno = EPERM;
+        return -1;
+    }
     return syscall(SYS_unlinkat, AT_FDCWD, name, 0);
 }

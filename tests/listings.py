@@ -2,8 +2,8 @@
 """tests/listings.py PROGRAM [COUNT]: one listing in four forms prints the same.
 
 It makes COUNT listings (200 where none is given) of random statements from a fixed seed. Each is written as the text
-of a script, as a saved program, as petcat's text and as a magazine prints it; PROGRAM prints all four, and writes their
-traces. It also writes each byte in a string, as the three forms that can hold it, and cuts saved programs off at each
+of a script, as a saved program, as petcat's text and as a magazine prints it, and the saved program in a T64 file too;
+PROGRAM prints all of them, and writes their traces. It also writes each byte in a string, as the three forms that can hold it, and cuts saved programs off at each
 place: the exit status is 2, a line is on standard error, and nothing on standard output. It prints what differs and
 ends with 1 then.
 
@@ -56,11 +56,18 @@ MAGAZINE = {18: ["RVS", "RVS ON", "CTRL 9"], 146: ["OFF", "RVS OFF", "CTRL 0"], 
     154: ["COMD 7"], 155: ["COMD 8"], 32: ["SPACE"], 160: ["SHIFT-SPACE"], 27: ["ESC"], 148: ["INST"], 20: ["DEL", "T"]}
 
 
+# Keys with the Commodore key, by their bytes: those that petcat names so, and the colours of the digits 1 to 8.
+KEYS = {byte: name[-1] for byte, name in NAMES.items() if re.fullmatch("CBM-.", name)}
+KEYS.update(zip([129] + list(range(149, 156)), "12345678"))
+
+
 def magazine_name(byte, rng):
     """A byte in a magazine's listing: as a character, by a name or by its number, now and then with a count."""
     if 32 <= byte <= 95 and byte != 34 and rng.random() < 0.9:
         return chr(byte)
     names = MAGAZINE.get(byte, [])
+    if byte in KEYS and rng.random() < 0.5:
+        return rng.choice(["[<%s>]", "[<1 %s>]"]) % rng.choice([KEYS[byte], KEYS[byte].lower()])
     if 1 <= byte <= 26:
         names = names + [chr(byte + 64)]
     if 193 <= byte <= 218:
@@ -152,6 +159,24 @@ def as_program(lines, rng):
         out += bytes([link & 255, link >> 8, number & 255, number >> 8]) + body + b"\0"
     out += b"\0\0"
     return bytes(out + rng.randbytes(rng.choice([0, 0, 5])))
+
+
+def as_tape(program, rng):
+    """A saved program in a T64 file: entries that are empty or a snapshot's, that of the program, and that of another
+    program beside it. Some end addresses are the wrong one of old tools."""
+    bytes_of_program, other = program[2:], bytes([14, 8, 10, 0, 153, 34, 78, 79, 34, 0, 0, 0])
+    kinds = [rng.choice([0, 3]) for _ in range(rng.randrange(3))] + [1, 1]
+    first = 64 + 32 * len(kinds)
+    other_first = rng.random() < 0.5
+    places = {True: first, False: first + (len(other) if other_first else len(bytes_of_program))}
+    out = b"C64 tape image file".ljust(32, b"\0") + bytes([0, 1, len(kinds), 0, len(kinds), 0, 0, 0]) + b"TAPE".ljust(24)
+    for i, kind in enumerate(kinds):
+        is_program = i == len(kinds) - 2
+        size = len(bytes_of_program) if is_program else len(other)
+        stop = 0x0801 + size if rng.random() < 0.7 else 0xC3C6
+        place = places[other_first != is_program] if kind == 1 else first
+        out += bytes([kind, 130, 1, 8, stop & 255, stop >> 8, 0, 0]) + place.to_bytes(4, "little") + bytes(4) + b"A".ljust(16)
+    return out + (other + bytes_of_program if other_first else bytes_of_program + other)
 
 
 def as_petcat(lines, rng):
@@ -267,8 +292,9 @@ def main():
     rng = random.Random(1525)
     for i in range(count):
         lines = listing(rng)
-        forms = {"text": as_text(lines), "prg": as_program(lines, rng), "petcat": as_petcat(lines, rng),
-            "magazine": as_magazine(lines, rng)}
+        saved = as_program(lines, rng)
+        forms = {"text": as_text(lines), "prg": saved, "petcat": as_petcat(lines, rng),
+            "magazine": as_magazine(lines, rng), "auto": as_tape(saved, rng)}
         for words in (["pages"], ["bus"], ["pages", "--as", "text", "--status", "kept"]):
             answers = {form: run(program, words + ["--from", form], data) for form, data in forms.items()}
             if len(set(answers.values())) != 1:

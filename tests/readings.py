@@ -1,12 +1,13 @@
 #!/usr/bin/env python3
-"""tests/readings.py [--frames|--fields|--odd [FORM]|--json] [--intervals] [--bounds profile|guide] [--sigrok RULE..] < TRACE: what a
-recording says, by the definitions and not by the program's code.
+"""tests/readings.py [--frames|--fields|--odd [FORM]|--json] [--intervals] [--bounds profile|guide] [--fault WORDS] [--sigrok RULE..]
+< TRACE: what a recording says, by the definitions and not by the program's code.
 
 It goes through whole stretches (crates/pr_decode/specs/Readings.antt) and writes the lines of `print1525 decode`
-(crates/pr_report/specs) up to the verdict, with --bounds guide up to and with it, or with --odd those after it, on what
-is odd about the recording, of which the trace is written so: text, signals or inverted. --intervals and --bounds guide are those of `decode`, --json is its `--as json` without the
-verdict. With --frames it writes of each whole byte when it was ready, CLOCK's last pull, and the byte. The times of the
-trace do not go back.
+(crates/pr_report/specs) up to and with the verdict, or with --odd those after it, on what is odd about the recording, of which the
+trace is written so: text, signals or inverted. --intervals and --bounds guide are those of `decode`, --json is its `--as json`
+without the verdict. The verdict by the profile names the fault of --fault, in the words of `check` (`edge 1: bad shape`); without
+it the trace is lawful. With --frames it writes of each whole byte when it was ready, CLOCK's last pull, and the byte. The times of
+the trace do not go back.
 
 With --fields it writes of each reading how it ends and when, and all of its moments and bits, as `tests/calls.c` does.
 
@@ -286,28 +287,42 @@ def place_of(reading):
     return f"{'command' if reading.is_command else 'byte'} ${reading.byte():02X} at {reading.look} us"
 
 
-def guide_verdict(readings):
+def guide_words(readings):
     for reading in readings:
         for measure in measures_of(reading, GUIDE):
             return f"outside the guide's bounds: {place_of(reading)}, {measure}"
-    return "within the guide's bounds"
+    return "within the guide's bounds" if readings else "no byte to measure"
 
 
-def tell(readings, bounds, has_intervals):
+def damage_words(readings):
+    """The first incomplete byte, or the one that the recording's end cuts."""
+    for reading in readings:
+        if not reading.is_whole():
+            return f"damaged: {place_of(reading)}; "
+        if reading.end == "cut":
+            return f"damaged: {place_of(reading)}, cut by the recording's end; "
+    return ""
+
+
+def verdict_words(readings, bounds, fault):
+    """The verdict by these bounds, with the first fault of the edges as `check` has it, or none."""
+    if bounds is GUIDE:
+        return damage_words(readings) + guide_words(readings)
+    if not fault:
+        return damage_words(readings) + "this project's timing"
+    place, reason = fault.split(": ")
+    timing = f"this project's timing, truncated at {place}" if reason == "truncated" else f"differs from this project's timing at {fault}"
+    return damage_words(readings) + timing + "; " + guide_words(readings)
+
+
+def tell(readings, bounds, has_intervals, fault=""):
     context = Context()
     for reading in readings:
         print(line_of(context, reading))
         if has_intervals:
             for measure in measures_of(reading, bounds):
                 print("    " + measure)
-    frames = [reading for reading in readings if reading.is_whole()]
-    print("frames:", len(frames))
-    print("commands:", sum(reading.is_command for reading in frames))
-    print("data bytes:", sum(not reading.is_command for reading in frames))
-    print("not acknowledged:", sum(reading.end == "not acknowledged" for reading in frames))
-    print("glitches:", len(readings) - len(frames))
-    print("cut by the recording's end:", sum(reading.end == "cut" for reading in readings))
-    for name in bounds:
+    for name in bounds if has_intervals else ():
         lengths = sorted(it.lengths()[name] for it in readings if name in it.lengths())
         if not lengths:
             print(f"{name}: none")
@@ -318,8 +333,12 @@ def tell(readings, bounds, has_intervals):
             f"{name}: {len(lengths)}, least {lengths[0]}, middle {middle if middle < 16384 else 'over 16383'}, "
             f"greatest {lengths[-1]}, outside {bounds_text(bounds[name])}: {outside}"
         )
-    if bounds is GUIDE:
-        print(guide_verdict(readings))
+    frames = [reading for reading in readings if reading.is_whole()]
+    commands = sum(reading.is_command for reading in frames)
+    print(f"frames: {len(frames)}, commands: {commands}, data bytes: {len(frames) - commands}")
+    print("not acknowledged:", sum(reading.end == "not acknowledged" for reading in frames))
+    print("glitches:", len(readings) - len(frames))
+    print("verdict:", verdict_words(readings, bounds, fault))
 
 
 # What to try of a recording, by its form.
@@ -399,7 +418,8 @@ def main():
         return
     if words[:1] != ["--frames"]:
         bounds = words[words.index("--bounds") + 1] if "--bounds" in words else "profile"
-        tell(readings, {"profile": PROFILE, "guide": GUIDE}[bounds], "--intervals" in words)
+        fault = words[words.index("--fault") + 1] if "--fault" in words else ""
+        tell(readings, {"profile": PROFILE, "guide": GUIDE}[bounds], "--intervals" in words, fault)
         return
     for reading in readings:
         if reading.is_whole():

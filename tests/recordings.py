@@ -129,8 +129,8 @@ def readings_in(edges):
     return readings.readings_of([readings.Edge(f"{time} {levels}") for time, levels in edges], ())
 
 
-def wanted_of(edges, way, words):
-    """What is to be written of these edges, without the line of the profile's verdict, and what on standard error."""
+def wanted_of(edges, way, words, fault):
+    """What is to be written of these edges, with this fault, and what on standard error."""
     found = readings_in(edges)
     edges = [readings.Edge(f"{time} {levels}") for time, levels in edges]
     form = "text" if "text" in words else "inverted" if "--invert" in words else "signals"
@@ -140,15 +140,21 @@ def wanted_of(edges, way, words):
         if "json" in way:
             readings.tell_json(found)
         else:
-            readings.tell(found, readings.GUIDE if "guide" in way else readings.PROFILE, "--intervals" in way)
+            readings.tell(found, readings.GUIDE if "guide" in way else readings.PROFILE, "--intervals" in way, fault)
     if "json" in way:
         return text.getvalue(), re.sub("(?m)^", "  ", odd.getvalue()).rstrip(" ")
     return text.getvalue() + odd.getvalue(), ""
 
 
+def fault_in(text):
+    """The fault that a verdict by the profile names, or nothing; which it is, is a matter of `check`."""
+    found = re.search(r"(?m)^verdict: .*timing(?: at |, truncated at )(edge \d+)(: [a-z ]+)?; ", text)
+    return found[1] + (found[2] or ": truncated") if found else ""
+
+
 def without_verdict(text):
-    """A text without the line of the profile's verdict, in words or as JSON."""
-    return re.sub(r'(?m)^(lawful|not lawful: .*|\{"kind":"verdict".*)\n', "", text)
+    """A text without the verdict in JSON."""
+    return re.sub(r'(?m)^\{"kind":"verdict".*\n', "", text)
 
 
 def differs(program, seed):
@@ -166,7 +172,8 @@ def differs(program, seed):
     way = choice.choice(WAYS)
     command = [program, "decode", *words, *way]
     ran = subprocess.run(command, input=text.encode(), stdout=subprocess.PIPE, stderr=subprocess.PIPE, check=False)
-    said, (wanted, aside) = without_verdict(ran.stdout.decode()), wanted_of(edges, way, words)
+    said = without_verdict(ran.stdout.decode())
+    wanted, aside = wanted_of(edges, way, words, fault_in(said))
     if ran.returncode == 0 and ran.stderr.decode() == aside and said == wanted:
         return None
     with tempfile.NamedTemporaryFile("w", delete=False, suffix=f"-{seed}") as file:
@@ -205,8 +212,8 @@ def verdict_by(program, edges):
     """The verdict of the program by the guide's bounds, and that of the definitions."""
     text = "".join(f"{time} {levels}\n" for time, levels in edges)
     ran = subprocess.run([program, "decode", "--bounds", "guide"], input=text.encode(), stdout=subprocess.PIPE, check=False)
-    found = [line for line in ran.stdout.decode().splitlines() if "the guide's bounds" in line]
-    return (ran.returncode, found), (0, [readings.guide_verdict(readings_in(edges))])
+    found = [line for line in ran.stdout.decode().splitlines() if line.startswith("verdict: ")]
+    return (ran.returncode, found), (0, ["verdict: " + readings.verdict_words(readings_in(edges), readings.GUIDE, "")])
 
 
 def guide_differs(program, seed, broken):
@@ -218,7 +225,7 @@ def guide_differs(program, seed, broken):
     edges = session.part(session.run())
     found = readings_in(edges)
     said, wanted = verdict_by(program, edges)
-    if said != wanted or wanted != (0, ["within the guide's bounds"]):
+    if said != wanted or "outside" in wanted[1][0]:
         return f"says {said}, wanted {wanted}"
     for name, length in ((name, length) for name, lengths in OUTSIDE.items() for length in lengths):
         for reading in (reading for reading in found if name in reading.lengths()):

@@ -102,7 +102,7 @@ export function showWire(answer) {
     state.source?.name, counted(counts[0].count, 'byte'), counted(times.length, 'edge'),
     times.length ? `${spaced(Math.round(times[times.length - 1] / 100) / 10)} ms` : '',
   ].filter(Boolean).join(' · ');
-  $('verdict').textContent = isLawful === null ? '' : answer?.bounds === 'guide' ? verdict.replace(/:.*/, '') : isLawful ? 'lawful' : 'differs from this project\'s timing';
+  $('verdict').textContent = verdict.replace(/(?: at edge |[:,;]).*/, '');
   $('verdict').title = verdict;
   $('verdict').classList.toggle('unlawful', isLawful === false);
   tellUnder(null);
@@ -116,10 +116,9 @@ export function showWire(answer) {
 }
 
 /** What is said of a recording's timing. A real bus hardly ever has this project's, so that is no failure. */
-export function verdictWords({ verdict, isLawful, bounds }) {
+export function verdictWords({ verdict }) {
   if (!verdict) return '';
-  if (bounds === 'guide') return `${verdict[0].toUpperCase()}${verdict.slice(1)}.`;
-  return isLawful ? 'It is lawful.' : `It differs from this project's timing: ${verdict.replace(/^not lawful: /, '')}. A real bus does so; its bytes and pages are here all the same.`;
+  return `Verdict: ${verdict}.${verdict.startsWith('differs ') ? ' A real bus differs so; its bytes and pages are here all the same.' : ''}`;
 }
 
 /** The intervals of a recording's bytes beside the profile's bounds. */

@@ -58,7 +58,7 @@ function rowsOf(numbers, names) {
 /** What the lengths of each interval come to, by the module's numbers. */
 export const figuresOf = numbers => rowsOf(numbers, FIGURES).map((row, index) => ({ name: INTERVALS[index], ...row }));
 
-/** The same by the summary of a recording's text, which has the guide's bounds under --bounds guide. */
+/** The same by the table of a recording's text under --intervals, which has the guide's bounds under --bounds guide. */
 export function figuresOfText(text) {
   const rows = new Map(Array.from(text.matchAll(/^([a-z ]+): (\d+), least (\d+), middle (?:over )?(\d+), greatest (\d+), outside (\d+) (?:to (\d+)|or more): (\d+)$/gm), row => [row[1], row]));
   return INTERVALS.map(name => {
@@ -193,13 +193,12 @@ export class Frames {
 
   /** How many frames there are of each kind, as `{ name, count }`. */
   counts() {
-    const found = { frames: 0, commands: 0, 'data bytes': 0, 'not acknowledged': 0, glitches: 0, 'cut by the recording\'s end': 0 };
+    const found = { frames: 0, commands: 0, 'data bytes': 0, 'not acknowledged': 0, glitches: 0 };
     for (let index = 0; index < this.length; index++) {
       const isWhole = this.number(index, 'bits') === 8, end = ENDS[this.number(index, 'end')];
       if (isWhole) found.frames++; else found.glitches++;
       if (isWhole) found[this.number(index, 'isCommand') ? 'commands' : 'data bytes']++;
       if (isWhole && end === 'not acknowledged') found['not acknowledged']++;
-      if (end === 'cut') found['cut by the recording\'s end']++;
     }
     return Object.entries(found).map(([name, count]) => ({ name, count }));
   }

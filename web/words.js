@@ -17,6 +17,7 @@ const WORDS = [
   [/remove --invert/, 'choose no “inverted levels”'],
   [/--from-time US starts the trace at microsecond US of the recording/, '“starts at” begins the trace at a microsecond of the recording'],
   [/sample rate with --rate, such as --rate 4M,/, 'sample rate in “samples a second”,'],
+  [/--rate gives the distance of the samples, such as --rate 4M,/, '“samples a second” gives the distance of the samples,'],
   [/without --rate/, 'without a rate'],
   [/--from-time/, '“starts at”'],
   [/use --from vcd for a dump, --from csv for a table/, 'read it as a Value Change Dump, or as a table of samples'],

@@ -171,18 +171,16 @@ function least(count, isSo) {
   return low;
 }
 
-const LAWFUL = { isLawful: true, verdict: 'lawful' }, UNKNOWN = { isLawful: null, verdict: '' };
+const LAWFUL = { isLawful: true, verdict: 'this project\'s timing' }, UNKNOWN = { isLawful: null, verdict: '' };
 
-/** Whether a recording with these readings is lawful, and that in words, neither where it cannot be read to its end; and why, where it is not. */
+/** The verdict on a recording with these readings, whether it is the best one of its bounds, and why, where it is not this project's timing. */
 function verdictOf(ask, readings) {
-  const guide = ask.bounds === 'guide' ? latin(readings.subarray(-4000)).match(/^(within|outside) the guide's bounds.*$/m) : null;
-  if (guide) return { isLawful: guide[1] === 'within', verdict: guide[0], told: [] };
-  const words = recordingWords('check', ask, 'frames'), checked = answer(words, ask.bytes);
-  if (checked.status === 0) return LAWFUL;
-  const { words: fault, more } = answerOf(answer(words, ask.bytes, true));
+  const [, verdict] = latin(readings.subarray(-4000)).match(/^verdict: (.*)$/m), isLawful = /^(this project's timing|within the guide's bounds)$/.test(verdict);
+  if (isLawful || ask.bounds === 'guide') return { isLawful, verdict, told: [] };
+  const { more } = answerOf(answer(recordingWords('check', ask, 'frames'), ask.bytes, true));
   // (what is odd about a recording is at the end of its readings too)
   const end = latin(readings.subarray(-2000)).split('\n'), told = more.filter(line => !end.includes(line.trim()));
-  return { ...(fault.startsWith('edge ') ? { isLawful: false, verdict: `not lawful: ${fault}` } : UNKNOWN), told };
+  return { isLawful, verdict, told };
 }
 
 /** How many of these moments there are before time goes back, which no reading and no picture has. */
@@ -202,8 +200,8 @@ function keepWire(ask, said, verdict) {
   tellProgress(.33, 'finding its delays');
   const delays = print1525.edgeDelays(given), [times, levels, kinds, since] = [all.times, all.levels, delays.kinds, delays.since].map(it => (count < it.length ? it.slice(0, count) : it));
   tellProgress(.5, 'measuring its intervals');
-  const { bytes, input, bounds } = ask, { status, output: readings } = said;
-  const intervals = bounds === 'guide' ? figuresOfText(latin(readings.subarray(-4000))) : figuresOf(print1525.intervals(given).numbers);
+  const { bytes, input, bounds } = ask, { status, output: readings } = said, table = () => answer([...recordingWords('decode', ask, 'list'), '--intervals'], bytes).output;
+  const intervals = bounds === 'guide' ? figuresOfText(latin(table().subarray(-4000))) : figuresOf(print1525.intervals(given).numbers);
   tellProgress(.61, 'finding its frames');
   const { numbers: rows } = status === 3 ? { numbers: new Float64Array(0) } : print1525.readingRows({ ...given, detail }), lines = frameLines(rows, readings);
   const frames = new Frames(rows, lines), edges = { times, levels };

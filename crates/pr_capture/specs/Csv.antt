@@ -19,7 +19,7 @@ use Rattle.pr_capture.specs.declared.fault.Wire.TheVariants.{Atn, Clock, Data}
 use Rattle.pr_capture.specs.declared.fault.CaptureFault.{CaptureFault}
 use Rattle.pr_capture.specs.declared.fault.CaptureFault.TheVariants.{Archive, BadLevel, BadTime, NoLevel, NoSignal, NoTime, TwoSignals, WideText}
 use Rattle.pr_capture.specs.declared.signals.Signals.{Signals}
-use Rattle.pr_capture.specs.Recording.{◌>>=◌, ended, first_some, is_framing, is_named, level_in, refused, second_name, with_samples, without_front, CaptureContents}
+use Rattle.pr_capture.specs.Recording.{◌>>=◌, ended, first_some, is_framing, is_named, level_in, refused, second_name, shared, unless, with_samples, without_front, CaptureContents}
 use Rattle.pr_capture.specs.Words.{is_space}
 use Rattle.pr_capture.specs.Numbers.{behind_word, onward}
 use Rattle.pr_capture.specs.TableTimes.{bare_unit, count_in, from_start, has_numbers, instant_in, is_counting, is_timing, no_remarks, rate_known, remarked, sample_in, scale_of, start_of, time_at_rate, time_or, time_unit}
@@ -128,13 +128,14 @@ clock_name s fs = if is_some (column_of s.clock.now 0 fs) then s.clock.now else 
 abbrev pub is_other : (place atn clock line : ℕ) → Bool
 is_other place atn clock line = place == 0 && not (atn == 0) && not (clock == 0) && not (line == 0)
 
--- the columns of the three lines
+-- the columns of the three lines, each of its own
 abbrev pub columns_in : Signals → (number place : ℕ) → (fields : List (List ℕ)) → Result Columns CaptureFault
 columns_in s number place fs =
     column_in number Atn s.atn.now place fs >>= λ atn.
     column_in number Clock (clock_name s fs) place fs >>= λ clock.
     column_in number Data s.line.now place fs >>= λ line.
-    Ok (record { atn = atn; clock = clock; line = line; has_other_first = is_other place atn clock line })
+    unless (shared number (clock == atn) (line == atn || line == clock))
+    (Ok (record { atn = atn; clock = clock; line = line; has_other_first = is_other place atn clock line }))
 
 -- Before the names.
 
@@ -191,12 +192,16 @@ abbrev pub rate_beside : Remarks → (first : Option (List ℕ)) → Option ℕ
 rate_beside r None = rate_known r
 rate_beside r (Some name) = if is_counting name then None else rate_known r
 
--- a column is of times
-abbrev pub has_times : (fields : List (List ℕ)) → Bool
-has_times [] = false
-has_times (f ∷ fs) = is_timing f || has_times fs
+-- the column at a place is that of a line
+abbrev pub is_line_at : Columns → (place : ℕ) → Bool
+is_line_at c place = c.atn == place || c.clock == place || c.line == place
 
--- the rate counts where no column is of times: times count only in the first column
+-- one of these columns, of which the first has this place, has times or numbers by its name, and is none of the three
+abbrev pub has_times : Columns → (place : ℕ) → (fields : List (List ℕ)) → Bool
+has_times c place [] = false
+has_times c place (f ∷ fs) = (is_timing f && not (is_line_at c place)) || has_times c (place + 1) fs
+
+-- the rate counts where no later column has times or numbers: they count only in the first one
 abbrev pub rate_alone : (times : Bool) → (rate : Option ℕ) → Option ℕ
 rate_alone true rate = None
 rate_alone false rate = rate
@@ -205,10 +210,10 @@ rate_alone false rate = rate
 abbrev pub layout_beside : Signals → Remarks → (number separator : ℕ) → (numbers : Bool) → (fields : List (List ℕ)) → Result Layout CaptureFault
 layout_beside s r number sep true fs =
     columns_by s r.behind number 1 (drop 1 fs) >>= λ c.
-    rate_or number (rate_alone (has_times fs) (rate_known r)) >>= λ rate. Ok (record { columns = c; separator = sep; scale = Numbered 1 rate })
+    rate_or number (rate_alone (has_times c 1 (drop 1 fs)) (rate_known r)) >>= λ rate. Ok (record { columns = c; separator = sep; scale = Numbered 1 rate })
 layout_beside s r number sep false fs =
     columns_by s r.alone number 0 fs >>= λ c.
-    rate_or number (rate_alone (has_times fs) (rate_beside r (field_at 0 fs))) >>= λ rate. Ok (record { columns = c; separator = sep; scale = Counted rate })
+    rate_or number (rate_alone (has_times c 1 (drop 1 fs)) (rate_beside r (field_at 0 fs))) >>= λ rate. Ok (record { columns = c; separator = sep; scale = Counted rate })
 
 -- or with times in its first column, by their unit
 abbrev pub layout_by : Signals → Remarks → (number separator : ℕ) → (unit : Option ℕ) → (fields : List (List ℕ)) → Result Layout CaptureFault

@@ -1,10 +1,11 @@
 -- Trusted: what a recording says of the bus, and how its signals are named.
-use Rattle.std.specs.Prelude.{ℕ, ◌==◌, ◌&&◌, ◌||◌, Bool, false, not, List, [], ◌∷◌, ◌++◌, codes, nat_le, if◌then◌else◌, Option, Some, None, Result, Ok, Err}
+use Rattle.std.specs.Prelude.{ℕ, ◌==◌, ◌&&◌, ◌||◌, Bool, true, false, not, List, [], ◌∷◌, ◌++◌, codes, nat_le, if◌then◌else◌, Option, Some, None, Result, Ok, Err}
 use Rattle.std.specs.Char.{eq_ignore_ascii_case}
 use Rattle.std.specs.List.{list_all}
 use Rattle.pr_wire.specs.declared.Edge.{Edge}
 use Rattle.pr_capture.specs.declared.fault.CaptureFault.{CaptureFault}
-use Rattle.pr_capture.specs.declared.fault.CaptureFault.TheVariants.{BadLevel, Floating, Unknown}
+use Rattle.pr_capture.specs.declared.fault.CaptureFault.TheVariants.{BadLevel, Floating, NoSignal, Unknown}
+use Rattle.pr_capture.specs.declared.fault.Wire.TheVariants.{Clock, Data}
 use Rattle.pr_capture.specs.declared.signals.Signals.{Signals}
 
 -- what a recording says: its samples up to its fault, if it has one, so that clauses also say what comes before a fault
@@ -29,6 +30,17 @@ infixl 10 ◌>>=◌
 abbrev pub ◌>>=◌ : {A B : Type 0} → Result A CaptureFault → (A → Result B CaptureFault) → Result B CaptureFault
 (Ok x) >>= f = f x
 (Err e) >>= f = Err e
+
+-- the fault of a wire that has no signal of its own: CLOCK has that of ATN, or DATA that of another
+abbrev pub shared : (number : ℕ) → (clock line : Bool) → Option CaptureFault
+shared number true line = Some (NoSignal number Clock)
+shared number false true = Some (NoSignal number Data)
+shared number false false = None
+
+-- what is read where there is no such fault
+abbrev pub unless : {A : Type 0} → Option CaptureFault → Result A CaptureFault → Result A CaptureFault
+unless None read = read
+unless (Some f) read = Err f
 
 -- white space (a space, and the bytes from tab to carriage return) and quotation marks, which mean
 -- nothing around a field

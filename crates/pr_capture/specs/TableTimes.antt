@@ -63,18 +63,17 @@ time_unit bare l =
 abbrev pub begins : (word name : List ℕ) → Bool
 begins word l = ends_there (behind_word word l)
 
--- a first column that is called so has times or numbers, never levels: Time (min), Delta [us], Elapsed, Sample No., Row, n, or nothing
-abbrev pub is_counting : (name : List ℕ) → Bool
-is_counting l =
+-- a name is by a word one of times or of numbers: Time (min), Delta [us], Elapsed, Sample No., Row, n
+abbrev pub is_count_word : (name : List ℕ) → Bool
+is_count_word l =
     begins (codes "t") l || begins (codes "time") l || begins (codes "timestamp") l || begins (codes "elapsed") l
     || begins (codes "delta") l || begins (codes "relative") l || begins (codes "sample") l || begins (codes "samples") l || begins (codes "row") l
     || begins (codes "index") l || begins (codes "number") l || begins (codes "count") l || begins (codes "tick") l
     || begins (codes "ticks") l || spells (codes "n") l || spells (codes "nr") l || spells (codes "no") l
-    || list_all is_sign l
 
--- a column has times, wherever it stands: Time [s], Timestamp, Elapsed, Delta
-abbrev pub is_timing : (name : List ℕ) → Bool
-is_timing l = begins (codes "time") l || begins (codes "timestamp") l || begins (codes "elapsed") l || begins (codes "delta") l
+-- a first column that is called so, or has no name, has times or numbers, never levels
+abbrev pub is_counting : (name : List ℕ) → Bool
+is_counting l = is_count_word l || list_all is_sign l
 
 -- sigrok's own names for times: Time, or their unit in full
 abbrev pub is_sigrok_word : (name : List ℕ) → Bool
@@ -91,16 +90,61 @@ abbrev pub is_sample_word : (name : List ℕ) → Bool
 is_sample_word l =
     spells (codes "sample") l || spells (codes "samples") l || spells (codes "sampleindex") l || spells (codes "samplenumber") l || spells (codes "index") l
 
+-- a column has times or numbers, wherever it stands: by the unit that it names, or by such a word: us, Time [s], Elapsed, Sample, Row
+abbrev pub is_timing : (name : List ℕ) → Bool
+is_timing l = is_some (time_unit (Some 0) l) || is_sample_word l || is_count_word l
+
+-- Exponents.
+
+-- a sign, if one is here, and what follows it
+abbrev pub is_minus : List ℕ → Bool
+is_minus [] = false
+is_minus (b ∷ bs) = b == 45
+
+abbrev pub behind_plus_minus : List ℕ → List ℕ
+behind_plus_minus [] = []
+behind_plus_minus (b ∷ bs) = if b == 45 || b == 43 then bs else b ∷ bs
+
+-- up to 255 places
+abbrev pub few_places : (negative : Bool) → Option ℕ → Option Exponent
+few_places negative None = None
+few_places true (Some n) = if nat_lt n 256 then Some (record { right = 0; left = n }) else None
+few_places false (Some n) = if nat_lt n 256 then Some (record { right = n; left = 0 }) else None
+
+abbrev pub places_in : (negative : Bool) → List ℕ → Option Exponent
+places_in negative l =
+    if not (length (digits_in l) == 0) && list_all is_framing (behind_digits l) then few_places negative (number_from 0 (digits_in l)) else None
+
+-- after the digits of a number: e, a sign and digits, or nothing
+abbrev pub exponent_in : List ℕ → Option Exponent
+exponent_in [] = Some (record { right = 0; left = 0 })
+exponent_in (b ∷ bs) =
+    if b == 69 || b == 101 then places_in (is_minus bs) (behind_plus_minus bs)
+    else (if list_all is_framing (b ∷ bs) then Some (record { right = 0; left = 0 }) else None)
+
 -- Remarks: the rate of samples, in samples a second, and the unit of a bare word for time.
 
--- the power of ten after a number
+-- the unit of a rate, as the power of ten that it is; signs do not count, so S/s is Ss, and Sa/s is Sas
 abbrev pub rate_unit : (name : List ℕ) → Option ℕ
 rate_unit l =
-    if list_all is_sign l || spells (codes "Hz") l then Some 0
-    else (if spells (codes "k") l || spells (codes "kHz") l then Some 3
-    else (if spells (codes "M") l || spells (codes "MHz") l then Some 6
-    else (if spells (codes "G") l || spells (codes "GHz") l then Some 9
+    if list_all is_sign l || is_unit (codes "Hz") (codes "Ss") (codes "Sas") l || spells (codes "sps") l then Some 0
+    else (if is_unit (codes "k") (codes "kHz") (codes "kSs") l || is_cut (codes "kSas") (codes "ksps") l then Some 3
+    else (if is_unit (codes "M") (codes "MHz") (codes "MSs") l || is_cut (codes "MSas") (codes "Msps") l then Some 6
+    else (if is_unit (codes "G") (codes "GHz") (codes "GSs") l || is_cut (codes "GSas") (codes "Gsps") l then Some 9
     else None)))
+
+-- e and a number stand here, as in 4e6
+abbrev pub is_power : (rest : List ℕ) → Bool
+is_power [] = false
+is_power (b ∷ bs) = (b == 69 || b == 101) && length (behind_digits (behind_plus_minus bs)) == 0
+
+abbrev pub places_right : Option Exponent → Option ℕ
+places_right None = None
+places_right (Some e) = if e.left == 0 then Some e.right else None
+
+-- the power of ten after a number: that of an exponent, or of a unit
+abbrev pub rate_power : (rest : List ℕ) → Option ℕ
+rate_power l = if is_power l then places_right (exponent_in l) else rate_unit l
 
 -- a rate is not 0
 abbrev pub some_rate : Option ℕ → Option ℕ
@@ -112,9 +156,9 @@ rate_by whole ds None = None
 rate_by whole ds (Some k) =
     if length whole == 0 then None else some_rate (onward (number_from 0 whole) (λ n. number_of_first n k ds))
 
--- 4 MHz, 1.5 kHz, 4000000
+-- 4 MHz, 1.5 kS/s, 4e6, 4000000
 abbrev pub rate_in : (text : List ℕ) → Option ℕ
-rate_in l = rate_by (digits_in l) (decimals_in (behind_digits l)) (rate_unit (behind_decimals (behind_digits l)))
+rate_in l = rate_by (digits_in l) (decimals_in (behind_digits l)) (rate_power (behind_decimals (behind_digits l)))
 
 -- these decimals before this power of ten are whole samples a second
 abbrev pub is_whole : (decimals : List ℕ) → (power : Option ℕ) → Bool
@@ -125,10 +169,17 @@ is_whole ds (Some k) = not (are_some (drop k ds))
 abbrev pub behind_fraction : List ℕ → List ℕ
 behind_fraction l = if length (decimals_in l) == 0 then l else behind_decimals l
 
--- the same of the value of an option, which has digits, letters and perhaps a point alone: 4M, 12.5M, 500k, 24MHz, 4000000
+-- what may stand in a unit of a rate: letters, spaces and /
+abbrev pub is_in_unit : ℕ → Bool
+is_in_unit b = is_letter b || b == 32 || b == 47
+
+abbrev pub is_plain_rate : (rest : List ℕ) → Bool
+is_plain_rate l = is_power l || list_all is_in_unit l
+
+-- the same of the value of an option, which has digits, perhaps a point, and an exponent or a unit: 4M, 12.5M, 500k, 24 MHz, 4MS/s, 4e6
 abbrev pub rate_given : (text : List ℕ) → Option ℕ
 rate_given l =
-    if list_all is_letter (behind_fraction (behind_digits l)) && is_whole (decimals_in (behind_digits l)) (rate_unit (behind_fraction (behind_digits l)))
+    if is_plain_rate (behind_fraction (behind_digits l)) && is_whole (decimals_in (behind_digits l)) (rate_power (behind_fraction (behind_digits l)))
     then rate_in l else None
 
 -- the unit that sigrok takes for times, by the rate of samples: the largest that is no longer than a sample
@@ -143,15 +194,20 @@ unit_by (Some n) =
 
 -- before any remark, a bare word for time is of seconds. A rate that the caller gives counts before that of a remark
 abbrev pub no_remarks : (given : Option ℕ) → Remarks
-no_remarks given = record { given = given; rate = None; bare = Some 0; separator = None; alone = None; behind = None }
+no_remarks given = record { given = given; rate = None; differs = false; bare = Some 0; separator = None; alone = None; behind = None }
+
+-- and none is known by remarks that differ
+abbrev pub rate_told : (differs : Bool) → (rate : Option ℕ) → Option ℕ
+rate_told true rate = None
+rate_told false rate = rate
 
 abbrev pub rate_known : Remarks → Option ℕ
-rate_known r = first_some r.given r.rate
+rate_known r = first_some r.given (rate_told r.differs r.rate)
 
--- the unit of a bare word for time: none where a caller gives a rate and no remark does, since sigrok's units go by the
--- rate, and other tools' are seconds
+-- the unit of a bare word for time: none where remarks differ, or a caller gives a rate and no remark does, since sigrok's
+-- units go by the rate, and other tools' are seconds
 abbrev pub bare_unit : Remarks → Option ℕ
-bare_unit r = if is_some r.given && not (is_some r.rate) then None else r.bare
+bare_unit r = if r.differs || (is_some r.given && not (is_some r.rate)) then None else r.bare
 
 -- what a remark has between its word and the rate: blanks, a colon, an equals sign
 abbrev pub is_mark : ℕ → Bool
@@ -161,11 +217,18 @@ abbrev pub behind_marks : List ℕ → List ℕ
 behind_marks [] = []
 behind_marks (b ∷ bs) = if is_mark b then behind_marks bs else b ∷ bs
 
+-- a remark does not give the rate that is known
+abbrev pub is_another : (known rate : Option ℕ) → Bool
+is_another None rate = false
+is_another (Some a) None = true
+is_another (Some a) (Some b) = not (a == b)
+
 -- after a rate: a remark of sigrok's, whatever signs it begins with, gives the unit of a bare word for time too
 abbrev pub with_rate : Remarks → (line : List ℕ) → (text : Option (List ℕ)) → Remarks
 with_rate r line None = r
 with_rate r line (Some text) = record r {
   rate = rate_in (behind_marks text);
+  differs = r.differs || is_another r.rate (rate_in (behind_marks text));
   bare = if bytes_eq (take 11 (without_signs line)) (codes "Samplerate:")
       then unit_by (rate_in (behind_marks text)) else r.bare;
 }
@@ -173,7 +236,11 @@ with_rate r line (Some text) = record r {
 -- the line that sigrok-cli puts in front of what it writes before it knows the rate, so that all its times are 0
 abbrev pub with_meta : Remarks → (line : List ℕ) → (text : Option (List ℕ)) → Remarks
 with_meta r line None = with_rate r line (behind_word (codes "samplerate") line)
-with_meta r line (Some text) = record r { rate = rate_in (behind_marks text); bare = None }
+with_meta r line (Some text) = record r {
+  rate = rate_in (behind_marks text);
+  differs = r.differs || is_another r.rate (rate_in (behind_marks text));
+  bare = None;
+}
 
 -- after a remark
 abbrev pub remarked : Remarks → (line : List ℕ) → Remarks
@@ -203,7 +270,7 @@ scale_at unit (Some rate) = scale_by unit rate (with_zeros unit 1)
 
 -- what the first column has, whose name is of times in this unit
 abbrev pub scale_of : Remarks → (unit : ℕ) → (first : Option (List ℕ)) → Scale
-scale_of r unit first = scale_at unit (own_rate r unit first r.rate)
+scale_of r unit first = scale_at unit (own_rate r unit first (rate_told r.differs r.rate))
 
 -- it has numbers of samples; but none after the line that sigrok-cli puts in front, since all are 0 then
 abbrev pub has_numbers : (bare : Option ℕ) → (first : Option (List ℕ)) → Bool
@@ -225,32 +292,6 @@ decimals_by sep (b ∷ bs) = if is_decimal_sign sep b then digits_in bs else []
 abbrev pub behind_decimals_by : (separator : ℕ) → List ℕ → List ℕ
 behind_decimals_by sep [] = []
 behind_decimals_by sep (b ∷ bs) = if is_decimal_sign sep b then behind_digits bs else b ∷ bs
-
--- a sign, if one is here, and what follows it
-abbrev pub is_minus : List ℕ → Bool
-is_minus [] = false
-is_minus (b ∷ bs) = b == 45
-
-abbrev pub behind_plus_minus : List ℕ → List ℕ
-behind_plus_minus [] = []
-behind_plus_minus (b ∷ bs) = if b == 45 || b == 43 then bs else b ∷ bs
-
--- up to 255 places
-abbrev pub few_places : (negative : Bool) → Option ℕ → Option Exponent
-few_places negative None = None
-few_places true (Some n) = if nat_lt n 256 then Some (record { right = 0; left = n }) else None
-few_places false (Some n) = if nat_lt n 256 then Some (record { right = n; left = 0 }) else None
-
-abbrev pub places_in : (negative : Bool) → List ℕ → Option Exponent
-places_in negative l =
-    if not (length (digits_in l) == 0) && list_all is_framing (behind_digits l) then few_places negative (number_from 0 (digits_in l)) else None
-
--- after the digits of a number: e, a sign and digits, or nothing
-abbrev pub exponent_in : List ℕ → Option Exponent
-exponent_in [] = Some (record { right = 0; left = 0 })
-exponent_in (b ∷ bs) =
-    if b == 69 || b == 101 then places_in (is_minus bs) (behind_plus_minus bs)
-    else (if list_all is_framing (b ∷ bs) then Some (record { right = 0; left = 0 }) else None)
 
 -- the whole microseconds of a number whose point moves to the right by this many places, and then to the left
 abbrev pub micros_of : (right left : ℕ) → (whole decimals : List ℕ) → Option ℕ

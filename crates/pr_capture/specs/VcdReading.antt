@@ -13,7 +13,7 @@ use Rattle.pr_capture.specs.declared.fault.Wire.TheVariants.{Atn, Clock, Data}
 use Rattle.pr_capture.specs.declared.fault.CaptureFault.{CaptureFault}
 use Rattle.pr_capture.specs.declared.fault.CaptureFault.TheVariants.{BadLevel, BadTimescale, BadWord, NoEnd, NoDefinitions, NoLevel, NoTimescale, NoSignal, TwoSignals, Unknown}
 use Rattle.pr_capture.specs.declared.signals.Signals.{Signals}
-use Rattle.pr_capture.specs.Recording.{◌>>=◌, ended, first_some, is_named, level_in, refused, second_name, with_samples, CaptureContents}
+use Rattle.pr_capture.specs.Recording.{◌>>=◌, ended, first_some, is_named, level_in, refused, second_name, shared, unless, with_samples, CaptureContents}
 use Rattle.pr_capture.specs.Samples.{listed}
 use Rattle.pr_capture.specs.Csv.{field_at}
 use Rattle.pr_capture.specs.Numbers.{behind_digits, digits_in, number_from, number_in}
@@ -255,14 +255,35 @@ alone wire (Some line) code = Err (TwoSignals line wire)
 abbrev pub signal_or : (line : ℕ) → Wire → Found → Result (List ℕ) CaptureFault
 signal_or line wire f = code_or line wire f.code >>= λ code. alone wire f.other code
 
--- the end of the header
+-- a code is that of a wire
+abbrev pub is_code : Option (List ℕ) → (code : List ℕ) → Bool
+is_code None code = false
+is_code (Some known) code = bytes_eq known code
+
+-- two wires have one signal: one code, and not two of its bits
+abbrev pub is_code_too : (known other : Option (List ℕ)) → Bool
+is_code_too known None = false
+is_code_too known (Some code) = is_code known code
+
+abbrev pub is_bit_too : (bit other : Option ℕ) → Bool
+is_bit_too None other = true
+is_bit_too (Some a) None = true
+is_bit_too (Some a) (Some b) = a == b
+
+abbrev pub is_same : Found → Found → Bool
+is_same f g = is_code_too f.code g.code && is_bit_too f.bit g.bit
+
+abbrev pub shared_in : (line : ℕ) → Codes → Option CaptureFault
+shared_in line c = shared line (is_same c.atn (clock_found c)) (is_same c.atn c.line || is_same (clock_found c) c.line)
+
+-- the end of the header, where each wire has a signal of its own
 abbrev pub header_ended : (line : ℕ) → (scale : Option ℕ) → Codes → Result Place CaptureFault
 header_ended line scale c =
     scale_or line scale >>= λ n.
     signal_or line Atn c.atn >>= λ atn.
     signal_or line Clock (clock_found c) >>= λ clock.
     signal_or line Data c.line >>= λ code.
-    Ok (Changes n c nothing_seen)
+    unless (shared_in line c) (Ok (Changes n c nothing_seen))
 
 -- a section of the header
 abbrev pub headed : Signals → (scale : Option ℕ) → (scopes : List (List ℕ)) → Codes → (line : ℕ) → Keyword
@@ -292,11 +313,6 @@ is_number (d ∷ ds) = list_all is_digit (d ∷ ds)
 abbrev pub time_at : (scale : ℕ) → (digits : List ℕ) → Option ℕ
 time_at scale [] = None
 time_at scale (d ∷ ds) = if list_all is_digit (d ∷ ds) then whole_micros scale (number_from 0 (d ∷ ds)) else None
-
--- a code is that of a wire
-abbrev pub is_code : Option (List ℕ) → (code : List ℕ) → Bool
-is_code None code = false
-is_code (Some known) code = bytes_eq known code
 
 -- all three levels are known
 abbrev pub all_known : (atn clock line : Option Bool) → Bool

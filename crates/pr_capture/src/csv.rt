@@ -6,7 +6,7 @@
 
 ghost use Rattle.std.specs.Prelude.{◌≡◌, ◌+◌, ◌^◌, ◌<◌, ◌≤◌, ◌∷◌, [], false, true, None, Err, IfErr, IfOk, Ok, drop, length, option_copied, take, IfSome, Some};
 ghost use Rattle.std.specs.List.{list_all, prefix_len};
-ghost use Rattle.pr_capture.specs.Csv.{are_logic, behind_colon, behind_point, cell_level, channels_in, clock_name, column_in, columns_by, columns_called, columns_or, column_of, columns_in, field_at, fields_of, first_moment, has_level, has_numeral, has_times, is_archive, is_foreign, is_in_front, is_inner, is_level, is_level_letter, is_other, is_separator, is_silent, is_twice, is_wide, layout_beside, layout_by, layout_of, level_of, level_or, moment_at, moment_next, moment_of, noted, opened, place_meant, rate_beside, row_of, sample_by, sample_of, separator_behind, separator_of, separator_or, separator_said, with_channels, with_separator, without_space, without_zeros};
+ghost use Rattle.pr_capture.specs.Csv.{are_logic, behind_colon, behind_point, cell_level, channels_in, clock_name, column_in, columns_by, columns_called, columns_or, column_of, columns_in, field_at, fields_of, first_moment, has_level, has_numeral, has_times, is_archive, is_foreign, is_in_front, is_inner, is_level, is_line_at, is_level_letter, is_other, is_separator, is_silent, is_twice, is_wide, layout_beside, layout_by, layout_of, level_of, level_or, moment_at, moment_next, moment_of, noted, opened, place_meant, rate_beside, row_of, sample_by, sample_of, separator_behind, separator_of, separator_or, separator_said, with_channels, with_separator, without_space, without_zeros};
 ghost use Rattle.pr_capture.specs.CsvReads.{EndsText, FaultsIn, ReadsMore, RefusesTable, SkipsRows, TakesRepeats};
 ghost use Rattle.pr_capture.specs.CsvSteps.{field_len, fields_left, line_number, moment_after, with_len, AreTimed, AnswersEnd, HasNoRows, HasReadTable, HoldsMore, IsRowOf, NamesAreRefused, NamesLeadTo, ReadsLine};
 ghost use Rattle.pr_capture.specs.TableTimes.{time_at_rate};
@@ -17,7 +17,7 @@ use crate::fault::{CaptureFault, Wire};
 use crate::last_row::LastRow;
 use crate::numbers::{behind_first, behind_word, first_of};
 use crate::remarks::{Remarks, has_numbers, is_counting, is_timing, scale_of, time_unit};
-use crate::signals::{Signals, are_framing, is_named, is_space, level_in, without_front};
+use crate::signals::{Signals, are_framing, is_named, is_space, level_in, shared, without_front};
 use crate::times::{
     Instant, count_in, from_start, instant_in, sample_in, start_of, time_at_rate, time_or,
 };
@@ -264,17 +264,27 @@ fn place_meant(name: &[u8], place: usize, separator: u8, fields: Option<&[u8]>) 
     }
 }
 
-/// Whether a column is of times.
-fn has_times(separator: u8, fields: Option<&[u8]>) -> bool
-    requires { length (fields_left separator (option_copied fields)) < 2 ^ 64 }
-    ensures { result ≡ has_times (fields_left separator (option_copied fields.entry)) }
+/// Whether the column at a place is that of a line.
+fn is_line_at(columns: Columns, place: usize) -> bool
+    ensures { result ≡ is_line_at columns place }
 {
+    columns.atn == place || columns.clock == place || columns.line == place
+}
+
+/// Whether one of these columns, of which the first has this place, has times or numbers by its name, and is none of the
+/// three lines'.
+fn has_times(columns: Columns, place: usize, separator: u8, fields: Option<&[u8]>) -> bool
+    requires { place + length (fields_left separator (option_copied fields)) < 2 ^ 64 }
+    ensures { result ≡ has_times columns place (fields_left separator (option_copied fields.entry)) }
+{
+    let mut column = place;
     let mut left = fields;
     while let Some(line) = left {
         let (field, more) = split_field(separator, line);
-        if is_timing(field) {
+        if is_timing(field) && !is_line_at(columns, column) {
             return true;
         }
+        column += 1;
         left = more;
     }
     false
@@ -319,7 +329,7 @@ fn is_other(place: usize, atn: usize, clock: usize, line: usize) -> bool
     place == 0 && atn != 0 && clock != 0 && line != 0
 }
 
-/// The columns of the three lines, by the fields from a place on.
+/// The columns of the three lines, each of its own, by the fields from a place on.
 fn columns_in(
     signals: &Signals<'_>,
     number: usize,
@@ -334,6 +344,9 @@ fn columns_in(
     let atn = column_in(number, Wire::Atn, signals.atn, place, separator, fields)?;
     let clock = column_in(number, Wire::Clock, clock, place, separator, fields)?;
     let line = column_in(number, Wire::Data, signals.line, place, separator, fields)?;
+    if let Some(fault) = shared(number, clock == atn, line == atn || line == clock) {
+        return Err(fault);
+    }
     Ok(Columns {
         atn,
         clock,
@@ -387,6 +400,7 @@ fn with_separator(remarks: Remarks, said: Option<u8>) -> Remarks
         Some(separator) => Remarks {
             given: remarks.given,
             rate: remarks.rate,
+            differs: remarks.differs,
             bare: remarks.bare,
             separator: Some(separator),
             alone: remarks.alone,
@@ -405,6 +419,7 @@ fn with_channels(signals: &Signals<'_>, remarks: Remarks, names: Option<&[u8]>) 
         Some(names) => Remarks {
             given: remarks.given,
             rate: remarks.rate,
+            differs: remarks.differs,
             bare: remarks.bare,
             separator: remarks.separator,
             alone: columns_called(signals, 0, names),
@@ -495,7 +510,7 @@ fn layout_beside(
     } else {
         columns_by(signals, remarks.alone, number, 0, separator, Some(line))?
     };
-    let rate = if has_times(separator, Some(line)) {
+    let rate = if has_times(columns, 1, separator, more) {
         None
     } else if has_numbers {
         remarks.rate_known()

@@ -20,11 +20,12 @@ pub enum Wire {
 /// Why a recording can not be read. The number is that of the line of the text, from 1.
 #[derive(Clone, Copy, Debug, Drop, Error, PartialEq, Eq)]
 pub enum CaptureFault {
-    /// No signal has the wire's name.
+    /// No signal has the wire's name, or only one that another wire has.
     #[error("line {0}: no signal {1}")]
     NoSignal(usize, Wire),
-    /// The first column of a table is not one of times in a known unit: it has other counts by its name, or no rate of
-    /// samples is known; or, in a row at a rate, it has a cell that is no level, and its name does not say of what.
+    /// The first column of a table is not one of times in a known unit: it has other counts by its name, no rate of
+    /// samples is known, or a later column has times or counts by its name; or, in a row at a rate, it has a cell that is
+    /// no level, and its name does not say of what.
     #[error("line {0}: no time")]
     NoTime(usize),
     /// A word that can not be here.

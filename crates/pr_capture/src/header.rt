@@ -2,13 +2,14 @@
 
 ghost use Rattle.std.specs.Prelude.{◌≡◌, ◌≤◌, option_copied, IfOk, IfSome, OnOk};
 ghost use Rattle.pr_capture.specs.Csv.{field_at};
-ghost use Rattle.pr_capture.specs.VcdReading.{bit_wanted, clock_found, found_too, has_levels, is_bit, is_code, nothing, other_line, scale_in, scale_of, unit_in, with_path, with_signal, with_words};
+ghost use Rattle.pr_capture.specs.VcdReading.{bit_wanted, clock_found, found_too, has_levels, is_bit, is_bit_too, is_code, is_same, nothing, other_line, scale_in, scale_of, shared_in, unit_in, with_path, with_signal, with_words};
 ghost use Rattle.pr_capture.specs.VcdSteps.{code_of, codes_of, found_of, words_in};
 
 use crate::bits::bit_in;
 use crate::entries::is_word;
+use crate::fault::CaptureFault;
 use crate::paths::{has_path, path_of};
-use crate::signals::Signals;
+use crate::signals::{Signals, shared};
 use pr_base::digit_count;
 use pr_wire::NoMemory;
 use std::alloc::Global;
@@ -139,6 +140,16 @@ fn is_bit(known: Option<u64>, bit: Option<u64>) -> bool
     }
 }
 
+/// Whether two bits of a signal are not two of them: a signal of one bit names none.
+fn is_bit_too(bit: Option<u64>, other: Option<u64>) -> bool
+    ensures { result ≡ is_bit_too bit other }
+{
+    match (bit, other) {
+        (Some(bit), Some(other)) => bit == other,
+        _ => true,
+    }
+}
+
 /// The line of a signal, if it is another than the known one.
 fn other_line(
     line: usize,
@@ -176,6 +187,16 @@ impl WireCode {
             None => false,
             Some(known) => is_word(known.as_slice(), code),
         }
+    }
+
+    /// Whether another wire has the same signal: by the same code, and not by another of its bits.
+    fn is_same(&self, other: &WireCode) -> bool
+        ensures { result ≡ is_same (found_of self.now) (found_of other.now) }
+    {
+        let Some(code) = &other.code else {
+            return false;
+        };
+        self.has_code(code.as_slice()) && is_bit_too(self.bit, other.bit)
     }
 
     /// Notes the code of a signal on a line that has the wire's name, and its bit.
@@ -280,5 +301,14 @@ impl WireCodes {
         } else {
             &self.second
         }
+    }
+    /// The fault of a wire that has no signal of its own, after a header that ends on a line.
+    pub fn shared(&self, line: usize) -> Option<CaptureFault>
+        ensures { result ≡ shared_in line (codes_of self.now) }
+    {
+        let clock = self.clock_code();
+        let has_clock = self.atn.is_same(clock);
+        let has_data = self.atn.is_same(&self.line) || clock.is_same(&self.line);
+        shared(line, has_clock, has_data)
     }
 }

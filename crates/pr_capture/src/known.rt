@@ -62,6 +62,9 @@ fn header_ended(line: usize, scale: Option<u64>, codes: &WireCodes) -> Result<St
     check_signal(line, Wire::Atn, &codes.atn)?;
     check_signal(line, Wire::Clock, codes.clock_code())?;
     check_signal(line, Wire::Data, &codes.line)?;
+    if let Some(fault) = codes.shared(line) {
+        return Err(fault);
+    }
     let seen = Seen {
         time: 0,
         atn: None,

@@ -3,6 +3,7 @@
 ghost use Rattle.std.specs.Prelude.{◌≡◌, ◌≤◌, length, option_copied, take, drop, IfSome};
 ghost use Rattle.std.specs.List.{list_all};
 ghost use Rattle.pr_capture.specs.CsvSteps.{digits_ahead};
+ghost use Rattle.pr_capture.specs.TableTimes.{is_in_unit};
 ghost use Rattle.pr_capture.specs.Numbers.{are_some, behind_decimals, behind_digits, behind_word, decimals_in, digits_in, is_letter, is_sign, number_from, number_in, number_of_first, spells, with_zeros, without_signs};
 
 use crate::signals::behind_letter;
@@ -113,12 +114,19 @@ fn is_letter(b: u8) -> bool
     (b >= b'A' && b <= b'Z') || (b >= b'a' && b <= b'z')
 }
 
-/// Whether these are all letters from A to Z, in either case.
-pub fn are_letters(bytes: &[u8]) -> bool
-    ensures { result ≡ list_all is_letter bytes.now }
+/// Whether a byte may stand in the unit of a rate: a letter, a space or a slash.
+fn is_in_unit(b: u8) -> bool
+    ensures { result ≡ is_in_unit b }
+{
+    is_letter(b) || b == b' ' || b == b'/'
+}
+
+/// Whether these bytes all may.
+pub fn are_in_units(bytes: &[u8]) -> bool
+    ensures { result ≡ list_all is_in_unit bytes.now }
 {
     for b in bytes {
-        if !is_letter(*b) {
+        if !is_in_unit(*b) {
             return false;
         }
     }

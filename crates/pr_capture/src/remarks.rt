@@ -1,23 +1,26 @@
 //! What the name of a table's first column and its remarks say of time.
 
 ghost use Rattle.std.specs.Prelude.{◌≡◌, ◌∷◌, [], option_copied};
-ghost use Rattle.pr_capture.specs.TableTimes.{bare_unit, begins, behind_fraction, behind_marks, ends_there, has_numbers, is_counting, is_cut, is_mark, is_micro, is_sample_word, is_sigrok_name, is_sigrok_word, is_this, is_timing, is_unit, is_whole, no_remarks, own_rate, scale_by, scale_of, rate_by, rate_given, rate_in, rate_known, rate_unit, remarked, time_unit, unit_apart, unit_behind, unit_by, unit_of, with_rate};
+ghost use Rattle.pr_capture.specs.TableTimes.{bare_unit, begins, behind_fraction, behind_marks, ends_there, has_numbers, is_another, is_count_word, is_counting, is_cut, is_mark, is_micro, is_plain_rate, is_power, is_sample_word, is_sigrok_name, is_sigrok_word, is_this, is_timing, is_unit, is_whole, no_remarks, own_rate, places_right, scale_by, scale_of, rate_by, rate_given, rate_in, rate_known, rate_power, rate_told, rate_unit, remarked, time_unit, unit_apart, unit_behind, unit_by, unit_of, with_rate};
 
 use crate::csv::{Columns, Scale};
 use crate::entries::is_word;
 use crate::numbers::{
-    are_letters, are_signs, are_some, behind_decimals, behind_digits, behind_first, behind_word,
+    are_in_units, are_signs, are_some, behind_decimals, behind_digits, behind_first, behind_word,
     decimals_in, digits_in, first_of, is_sign, number_from, number_of_first, spells, with_zeros,
     without_signs,
 };
+use crate::times::{Exponent, behind_plus_minus, exponent_in};
 
 /// What remarks say of time.
 #[derive(Clone, Copy)]
 pub struct Remarks {
     /// How many samples there are in a second, if the caller says so.
     pub given: Option<u64>,
-    /// How many samples there are in a second, if a remark says so.
+    /// How many samples there are in a second, if a remark says so: the last one of them.
     pub rate: Option<u64>,
+    /// Whether a remark says another rate than one before it.
+    pub differs: bool,
     /// The unit of a column that is called Time alone, if it has times: how many decimals it is of a
     /// second.
     pub bare: Option<u8>,
@@ -132,9 +135,9 @@ fn begins(word: &[u8], name: &[u8]) -> bool
     ends_there(behind_word(word, name))
 }
 
-/// Whether a first column has times or numbers, never levels, by its name.
-pub fn is_counting(name: &[u8]) -> bool
-    ensures { result ≡ is_counting name.now }
+/// Whether a name is by a word one of times or of numbers.
+fn is_count_word(name: &[u8]) -> bool
+    ensures { result ≡ is_count_word name.now }
 {
     begins(b"t", name)
         || begins(b"time", name)
@@ -153,17 +156,13 @@ pub fn is_counting(name: &[u8]) -> bool
         || spells(b"n", name)
         || spells(b"nr", name)
         || spells(b"no", name)
-        || are_signs(name)
 }
 
-/// Whether a column has times, wherever it stands.
-pub fn is_timing(name: &[u8]) -> bool
-    ensures { result ≡ is_timing name.now }
+/// Whether a first column has times or numbers, never levels, by its name, or has none.
+pub fn is_counting(name: &[u8]) -> bool
+    ensures { result ≡ is_counting name.now }
 {
-    begins(b"time", name)
-        || begins(b"timestamp", name)
-        || begins(b"elapsed", name)
-        || begins(b"delta", name)
+    is_count_word(name) || are_signs(name)
 }
 
 /// Whether a name is one that sigrok gives to times: Time, or their unit in full.
@@ -199,20 +198,62 @@ fn is_sample_word(name: &[u8]) -> bool
         || spells(b"index", name)
 }
 
-/// The power of ten after the number of a rate.
+/// Whether a column has times or numbers by its name, wherever it stands.
+pub fn is_timing(name: &[u8]) -> bool
+    ensures { result ≡ is_timing name.now }
+{
+    time_unit(Some(0), name).is_some() || is_sample_word(name) || is_count_word(name)
+}
+
+/// The unit of a rate, as the power of ten that it is. Signs do not count in words: `S/s` is `Ss`.
 fn rate_unit(name: &[u8]) -> Option<u8>
     ensures { result ≡ rate_unit name.now }
 {
-    if are_signs(name) || spells(b"Hz", name) {
+    if are_signs(name) || is_unit(b"Hz", b"Ss", b"Sas", name) || spells(b"sps", name) {
         Some(0)
-    } else if spells(b"k", name) || spells(b"kHz", name) {
+    } else if is_unit(b"k", b"kHz", b"kSs", name) || is_cut(b"kSas", b"ksps", name) {
         Some(3)
-    } else if spells(b"M", name) || spells(b"MHz", name) {
+    } else if is_unit(b"M", b"MHz", b"MSs", name) || is_cut(b"MSas", b"Msps", name) {
         Some(6)
-    } else if spells(b"G", name) || spells(b"GHz", name) {
+    } else if is_unit(b"G", b"GHz", b"GSs", name) || is_cut(b"GSas", b"Gsps", name) {
         Some(9)
     } else {
         None
+    }
+}
+
+/// Whether `e` and a number stand here, as in `4e6`.
+fn is_power(rest: &[u8]) -> bool
+    ensures { result ≡ is_power rest.now }
+{
+    match rest {
+        [] => false,
+        [b, rest @ ..] => {
+            (*b == b'E' || *b == b'e') && behind_digits(behind_plus_minus(rest)).is_empty()
+        }
+    }
+}
+
+/// The places that an exponent moves the point to the right, if it moves it there.
+fn places_right(exponent: Option<Exponent>) -> Option<u8>
+    ensures { result ≡ places_right exponent }
+{
+    let exponent = exponent?;
+    if exponent.left == 0 {
+        Some(exponent.right)
+    } else {
+        None
+    }
+}
+
+/// The power of ten after the number of a rate: that of an exponent, or of a unit.
+fn rate_power(rest: &[u8]) -> Option<u8>
+    ensures { result ≡ rate_power rest.now }
+{
+    if is_power(rest) {
+        places_right(exponent_in(rest))
+    } else {
+        rate_unit(rest)
     }
 }
 
@@ -237,7 +278,7 @@ fn rate_in(text: &[u8]) -> Option<u64>
     rate_by(
         digits_in(text),
         decimals_in(behind),
-        rate_unit(behind_decimals(behind)),
+        rate_power(behind_decimals(behind)),
     )
 }
 
@@ -262,17 +303,24 @@ fn behind_fraction(text: &[u8]) -> &[u8]
     }
 }
 
+/// Whether an exponent or a unit is all that stands here.
+fn is_plain_rate(rest: &[u8]) -> bool
+    ensures { result ≡ is_plain_rate rest.now }
+{
+    is_power(rest) || are_in_units(rest)
+}
+
 /// Returns the rate that the value of an option spells, in samples a second: digits, perhaps a point and
-/// decimals, then nothing or `k`, `M` or `G`, then nothing or `Hz`, in either case, as `4M`, `12.5M`, `500kHz` or
-/// `4000000` (profile). None for any other text, for 0, for 2^64 samples a second and more, and for a part of a
-/// sample.
+/// decimals, then an exponent, as in `4e6`, or nothing, `k`, `M` or `G`, then nothing, `Hz`, `S/s`, `Sa/s` or `sps`, in
+/// either case and with spaces between, as `4M`, `12.5M`, `500kHz`, `4 MS/s` or `4000000` (profile). None for any
+/// other text, for 0, for 2^64 samples a second and more, and for a part of a sample.
 pub fn read_rate(text: &str) -> Option<u64>
     ensures { result ≡ rate_given text.now }
 {
     let bytes = text.as_bytes();
     let behind = behind_digits(bytes);
     let unit = behind_fraction(behind);
-    if are_letters(unit) && is_whole(decimals_in(behind), rate_unit(unit)) {
+    if is_plain_rate(unit) && is_whole(decimals_in(behind), rate_power(unit)) {
         rate_in(bytes)
     } else {
         None
@@ -366,6 +414,17 @@ fn behind_marks(text: &[u8]) -> &[u8]
     &[]
 }
 
+/// Whether a remark does not give the rate that is known.
+fn is_another(known: Option<u64>, rate: Option<u64>) -> bool
+    ensures { result ≡ is_another known rate }
+{
+    match (known, rate) {
+        (None, _) => false,
+        (Some(_), None) => true,
+        (Some(known), Some(rate)) => known != rate,
+    }
+}
+
 impl Remarks {
     /// No remark: a column that is called Time alone is of seconds. The rate is that of the caller.
     pub fn new(given: Option<u64>) -> Remarks
@@ -374,6 +433,7 @@ impl Remarks {
         Remarks {
             given,
             rate: None,
+            differs: false,
             bare: Some(0),
             separator: None,
             alone: None,
@@ -381,22 +441,29 @@ impl Remarks {
         }
     }
 
-    /// The rate of samples: that of the caller, or else that of a remark.
+    /// The rate of samples by remarks, unless they differ.
+    fn rate_told(self) -> Option<u64>
+        ensures { result ≡ rate_told self.differs self.rate }
+    {
+        if self.differs { None } else { self.rate }
+    }
+
+    /// The rate of samples: that of the caller, or else that of remarks.
     pub fn rate_known(self) -> Option<u64>
         ensures { result ≡ rate_known self }
     {
         match self.given {
             Some(rate) => Some(rate),
-            None => self.rate,
+            None => self.rate_told(),
         }
     }
 
-    /// The unit of a column that is called Time alone, if it is known: where the caller gives a rate, no remark
-    /// does and so it may be sigrok's or not, it is not.
+    /// The unit of a column that is called Time alone, if it is known: where remarks differ, it is not, nor where the
+    /// caller gives a rate, no remark does and so it may be sigrok's or not.
     pub fn bare_unit(self) -> Option<u8>
         ensures { result ≡ bare_unit self }
     {
-        if self.given.is_some() && self.rate.is_none() {
+        if self.differs || (self.given.is_some() && self.rate.is_none()) {
             None
         } else {
             self.bare
@@ -406,9 +473,9 @@ impl Remarks {
     /// The rate of sigrok's remark, if this is the unit that it has for it, and the first column has a name of
     /// sigrok's.
     fn own_rate(self, unit: u8, first: Option<&[u8]>) -> Option<u64>
-        ensures { result ≡ own_rate self unit (option_copied first.entry) self.rate }
+        ensures { result ≡ own_rate self unit (option_copied first.entry) (rate_told self.differs self.rate) }
     {
-        let rate = self.rate?;
+        let rate = self.rate_told()?;
         if is_sigrok_name(first) && is_this(unit, self.bare) && is_this(unit, unit_by(Some(rate))) {
             Some(rate)
         } else {
@@ -424,6 +491,7 @@ impl Remarks {
             return self;
         };
         let rate = rate_in(behind_marks(text));
+        let differs = self.differs || is_another(self.rate, rate);
         let bare = if is_word(first_of(without_signs(line), 11), b"Samplerate:") {
             unit_by(rate)
         } else {
@@ -432,6 +500,7 @@ impl Remarks {
         Remarks {
             given: self.given,
             rate,
+            differs,
             bare,
             separator: self.separator,
             alone: self.alone,
@@ -446,14 +515,18 @@ impl Remarks {
     {
         match behind_word(b"METAsamplerate", line) {
             None => self.with_rate(line, behind_word(b"samplerate", line)),
-            Some(text) => Remarks {
-                given: self.given,
-                rate: rate_in(behind_marks(text)),
-                bare: None,
-                separator: self.separator,
-                alone: self.alone,
-                behind: self.behind,
-            },
+            Some(text) => {
+                let rate = rate_in(behind_marks(text));
+                Remarks {
+                    given: self.given,
+                    rate,
+                    differs: self.differs || is_another(self.rate, rate),
+                    bare: None,
+                    separator: self.separator,
+                    alone: self.alone,
+                    behind: self.behind,
+                }
+            }
         }
     }
 }

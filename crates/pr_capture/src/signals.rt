@@ -2,10 +2,10 @@
 
 ghost use Rattle.std.specs.Prelude.{◌≡◌, option_copied};
 ghost use Rattle.std.specs.List.{list_all};
-ghost use Rattle.pr_capture.specs.Recording.{behind_letter, behind_sign, is_framing, is_named, level_in, second_name, without_front};
+ghost use Rattle.pr_capture.specs.Recording.{behind_letter, behind_sign, is_framing, is_named, level_in, second_name, shared, without_front};
 ghost use Rattle.pr_capture.specs.Words.{is_space};
 
-use crate::fault::CaptureFault;
+use crate::fault::{CaptureFault, Wire};
 
 /// Which signals of a recording are the lines of the bus, and how their levels are meant.
 #[derive(Clone, Copy)]
@@ -110,6 +110,19 @@ impl Signals<'_> {
         } else {
             self.clock
         }
+    }
+}
+
+/// The fault of a wire that has no signal of its own, on a line: where CLOCK has that of ATN, or DATA that of another.
+pub fn shared(number: usize, has_clock: bool, has_data: bool) -> Option<CaptureFault>
+    ensures { result ≡ shared number has_clock has_data }
+{
+    if has_clock {
+        Some(CaptureFault::NoSignal(number, Wire::Clock))
+    } else if has_data {
+        Some(CaptureFault::NoSignal(number, Wire::Data))
+    } else {
+        None
     }
 }
 

@@ -40,7 +40,7 @@ fn is_minus(text: &[u8]) -> bool
 }
 
 /// What follows a sign, if one is in front.
-fn behind_plus_minus(text: &[u8]) -> &[u8]
+pub fn behind_plus_minus(text: &[u8]) -> &[u8]
     ensures { result.now ≡ behind_plus_minus text.now }
 {
     match text {
@@ -79,7 +79,7 @@ fn places_in(is_negative: bool, text: &[u8]) -> Option<Exponent>
 }
 
 /// The exponent after the digits of a number, if nothing else is there.
-fn exponent_in(text: &[u8]) -> Option<Exponent>
+pub fn exponent_in(text: &[u8]) -> Option<Exponent>
     ensures { result ≡ exponent_in text.now }
 {
     match text {

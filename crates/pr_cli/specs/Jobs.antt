@@ -28,6 +28,7 @@ use Rattle.pr_capture.specs.Found.{found_source}
 use Rattle.pr_jobs.specs.declared.fault.CliFault.{CliFault}
 use Rattle.pr_jobs.specs.declared.run.Ending.{Ending}
 use Rattle.pr_jobs.specs.declared.run.Ending.TheVariants.{Done}
+use Rattle.pr_jobs.specs.declared.run.PagesEnd.{PagesEnd}
 use Rattle.pr_jobs.specs.declared.run.RunEnd.{RunEnd}
 use Rattle.pr_jobs.specs.declared.run.Start.{Start}
 use Rattle.pr_jobs.specs.Pages.{AnswersPages, AnswersPagesAs, IsPagesFault, IsRunFault, ReadsToEnd, WritesNothing, script_limit}
@@ -89,6 +90,14 @@ IsRan located answers ends (Ok (answer.Ran end)) = ends (Ok end)
 IsRan located answers ends (Ok _) = ⊥
 IsRan located answers ends (Err fault) = ends (Err fault)
 
+-- the same of pages, with what the printers hold
+abbrev pub IsPrinted : (located : Bool) → (Result Ending CliFault → Type 0) → (Result PagesEnd CliFault → Type 0)
+    → Result Answer CliFault → Type 0
+IsPrinted located answers ends (Ok (answer.Ended ending)) = Unasked located (answers (Ok ending))
+IsPrinted located answers ends (Ok (answer.Printed end)) = ends (Ok end)
+IsPrinted located answers ends (Ok _) = ⊥
+IsPrinted located answers ends (Err fault) = ends (Err fault)
+
 -- an answer with a printer's bytes
 abbrev pub IsHeard : (Result (RunEnd × Heard) CliFault → Type 0) → Result Answer CliFault → Type 0
 IsHeard answers (Ok (answer.Heard end heard)) = answers (Ok (end, heard))
@@ -117,7 +126,7 @@ IsRemarked answers (Err fault) = answers (Err fault)
 abbrev pub AnswersPrinted :
     (located : Bool) → Shapes → Start → Format → List ℕ → Option (List ℕ) → Option (List ℕ) → Result Answer CliFault → Type 0
 AnswersPrinted located shapes start f text old new result =
-    IsRan located (AnswersPages shapes start f text old new) (AnswersPagesAs shapes start f text old new) result
+    IsPrinted located (AnswersPages shapes start f text old new) (AnswersPagesAs shapes start f text old new) result
 
 -- or the bytes that a printer hears in its run
 abbrev pub AnswersRun :

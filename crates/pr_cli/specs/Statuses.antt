@@ -16,7 +16,7 @@ use Rattle.pr_jobs.specs.declared.run.Ending.TheVariants.{Done, Stopped}
 use Rattle.pr_jobs.specs.declared.run.RunEnd.{RunEnd}
 use Rattle.pr_jobs.specs.declared.run.RunEnd.TheVariants as run
 use Rattle.pr_cli.specs.declared.jobs.Answer.{Answer}
-use Rattle.pr_cli.specs.declared.jobs.Answer.TheVariants.{Ended, Ran, Heard, Overheard, Remarked}
+use Rattle.pr_cli.specs.declared.jobs.Answer.TheVariants.{Ended, Ran, Printed, Heard, Overheard, Remarked}
 use Rattle.pr_cli.specs.declared.statuses.End.{End}
 use Rattle.pr_cli.specs.declared.statuses.End.TheVariants as end
 
@@ -34,6 +34,7 @@ run_ended (run.Stopped statement stop) = end.StoppedAt statement stop
 abbrev pub answer_end : Answer → End
 answer_end (Ended ending) = ending_end ending
 answer_end (Ran ran) = run_ended ran
+answer_end (Printed pages) = run_ended pages.run
 answer_end (Heard ran heard) = run_ended ran
 answer_end (Overheard heard odd) = end.Done
 answer_end (Remarked odd) = end.Done

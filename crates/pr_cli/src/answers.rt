@@ -10,22 +10,24 @@ ghost use Rattle.pr_cli.specs.declared.statuses.End.TheVariants as end;
 
 use crate::characters::{shapes_for, shapes_given};
 use crate::jobs::{Answer, do_job, found_job};
-use crate::notes::{has_more_capitals, note_capitals, note_stop};
+use crate::notes::{drawn_by, has_more_capitals, note_capitals, note_held, note_stop};
 use crate::outside::Outside;
 use crate::progress::{Progress, clear};
 use crate::refusals::{refuse, refuse_same};
+use crate::shown::Shown;
 use crate::starts::started_job;
 use crate::statuses::{End, FAILED, is_answered};
 use crate::told::{
-    Subject, has_more, has_notes, show_oddities, subject_of, tell_heard, tell_listing, tell_more,
-    tell_notes,
+    Listing, Subject, has_more, has_notes, listing_of, show_oddities, subject_of, tell_heard,
+    tell_listing, tell_more, tell_notes,
 };
 use pr_dots::Shapes;
-use pr_files::{Noting, save};
+use pr_files::{Noting, Unsaved, save};
 use pr_jobs::{CliFault, RunEnd, SCRIPT_LIMIT, TeeReader, Watched};
 use pr_listing::{ListingForm, TextFault, plain_form, read_text};
 use pr_options::{DecodeOutput, Job, PagesOutput, Task};
 use pr_render::Format;
+use pr_serial::Present;
 use std::alloc::Global;
 use std::cell::Cell;
 use std::fs::{File, Files, Metadata, OpenFile};
@@ -313,14 +315,30 @@ fn answer_from<R: Read + Drop>(
     let (end, saving) = answer_job(rt, reader, saving, names, work, aside);
     let status = end.status();
     if is_answered(status) {
-        match saving.keep(rt) {
+        match saving.keep() {
             Ok(()) => status,
-            Err(error) => tell_file(rt, name, &error),
+            Err(unsaved) => tell_unsaved(rt, name, unsaved),
         }
     } else {
-        saving.discard(rt);
+        if let Err(unsaved) = saving.discard() {
+            let _ = tell_unsaved(rt, name, unsaved);
+        }
         status
     }
+}
+
+/// Reports in one line on standard error why a text did not get its file's name, or was not taken away again, with the
+/// name of the temporary file that is left, and gives the exit status.
+fn tell_unsaved(rt: &(impl Outside + Eprint), name: &str, unsaved: Unsaved) -> u8
+    ensures { result ≡ 3 }
+{
+    let Unsaved { error, left } = unsaved;
+    let Some(left) = left else {
+        return tell_file(rt, name, &error);
+    };
+    let (name, left) = (Shown(name), Shown(left.as_str()));
+    let _ = rt.eprintln(format_args!("print1525: {name}: {error}; the file {left} is left"));
+    End::Job(CliFault::WriteFailed).status()
 }
 
 /// Does a job over a reader and a writer, and gives how it ends and the writer. A listing in
@@ -343,7 +361,7 @@ fn answer_job<R: Read + Drop, W: Write + Drop>(
         return answer_recording(rt, reader, writer, names, work, aside);
     }
     match form_of(&work.job) {
-        ListingForm::Text => answer_over(rt, reader, writer, names, work, aside),
+        ListingForm::Text => answer_over(rt, reader, writer, names, None, work, aside),
         ListingForm::Program => {
             answer_listing(rt, reader, writer, names, ListingForm::Program, work, aside)
         }
@@ -390,7 +408,7 @@ fn answer_recording<R: Read + Drop, W: Write + Drop>(
     match found_work(rt.alloc(), work, &mut input) {
         Ok((work, first)) => {
             let whole = first.as_slice().chain(input.into_inner());
-            answer_over(rt, whole, writer, names, work, aside)
+            answer_over(rt, whole, writer, names, None, work, aside)
         }
         Err(CliFault::ReadFailed) => {
             let error = input.into_inner().error();
@@ -479,13 +497,14 @@ fn answer_listing<R: Read + Drop, W: Write + Drop>(
     let mut input = Watched::new(Noting::new(kept));
     match read_text(rt.alloc(), &mut input, form, SCRIPT_LIMIT) {
         Ok(text) => {
-            let kept = input.into_inner().into_inner();
+            let kept = input.into_inner().into_inner().into_bytes();
+            let listing = listing_of(form, kept.as_deref());
             let aside = Aside {
                 is_file: false,
-                has_capitals: aside.is_noted && is_shouted(kept, form),
+                has_capitals: aside.is_noted && is_shouted(listing),
                 ..aside
             };
-            answer_over(rt, text.as_slice(), writer, names, work, aside)
+            answer_over(rt, text.as_slice(), writer, names, listing, work, aside)
         }
         Err(fault) => {
             let input = input.into_inner();
@@ -497,17 +516,12 @@ fn answer_listing<R: Read + Drop, W: Write + Drop>(
     }
 }
 
-/// Whether the listing that was kept is petcat's text, and has more capitals than small letters in its strings.
-fn is_shouted<R: Read + Drop>(kept: TeeReader<R>, form: ListingForm) -> bool {
-    match kept.into_bytes() {
-        Some(bytes) => is_shouted_text(bytes.as_slice(), form),
+/// Whether a listing is petcat's text, and has more capitals than small letters in its strings.
+fn is_shouted(listing: Option<Listing<'_>>) -> bool {
+    match listing {
+        Some(listing) => { listing.form == ListingForm::Petcat && has_more_capitals(listing.bytes) }
         None => false,
     }
-}
-
-/// The same of its bytes.
-fn is_shouted_text(bytes: &[u8], form: ListingForm) -> bool {
-    plain_form(form, bytes) == ListingForm::Petcat && has_more_capitals(bytes)
 }
 
 /// Writes what more there is to say of a listing without a text, or how to get that.
@@ -544,12 +558,13 @@ fn form_of(job: &Job<'_>) -> ListingForm
 
 /// Does a job over a reader and a writer, and gives how it ends and the writer. Where more is to
 /// be said, the input is kept, since a trace text's first bad line may be its last; a file is read again instead, when the
-/// job has freed what it kept. For notes alone a script or a printer's bytes are kept, and no other input.
+/// job has freed what it kept. A script may be made of a listing in another form. For notes alone a script or a printer's bytes are kept, and no other input.
 fn answer_over<R: Read + Drop, W: Write + Drop>(
     rt: &(impl Outside + Eprint + AllocGlobal),
     reader: R,
     writer: W,
     names: Names<'_>,
+    listing: Option<Listing<'_>>,
     work: Work<'_>,
     aside: Aside<'_>,
 ) -> (End, W)
@@ -563,6 +578,7 @@ fn answer_over<R: Read + Drop, W: Write + Drop>(
         ..
     } = work;
     let subject = subject_of(&job);
+    let drawn = drawn_by(&job);
     let is_kept = !aside.is_file && (aside.is_explained || (aside.is_noted && has_notes(subject)));
     let kept = TeeReader::new(rt.alloc(), reader, is_kept);
     let mut input = Watched::new(Noting::new(kept));
@@ -576,8 +592,24 @@ fn answer_over<R: Read + Drop, W: Write + Drop>(
     if aside.is_advised {
         advise_on(rt, answer, end);
     }
-    tell_read(rt, input.into_inner(), subject, names, answer, aside);
+    tell_read(
+        rt,
+        input.into_inner(),
+        listing,
+        subject,
+        names,
+        answer,
+        aside,
+    );
+    tell_held(rt, drawn, answer, aside);
     (end, output.into_inner())
+}
+
+/// Notes what the printers hold whose pages were drawn, if notes are written.
+fn tell_held(rt: &impl Eprint, drawn: Present, answer: Result<Answer, CliFault>, aside: Aside<'_>) {
+    if let (true, Ok(Answer::Printed(pages))) = (aside.is_noted, answer) {
+        note_held(rt, pages, drawn);
+    }
 }
 
 /// Says that more can be said of a job that failed, or of a run that a BASIC error stopped, if it can.
@@ -593,6 +625,7 @@ fn advise_on(rt: &impl Eprint, answer: Result<Answer, CliFault>, end: End) {
 fn tell_read<R: Read + Drop>(
     rt: &(impl Outside + Eprint + AllocGlobal),
     kept: TeeReader<R>,
+    listing: Option<Listing<'_>>,
     subject: Subject<'_>,
     names: Names<'_>,
     answer: Result<Answer, CliFault>,
@@ -608,7 +641,8 @@ fn tell_read<R: Read + Drop>(
     };
     if let Some(bytes) = bytes {
         if aside.is_explained {
-            tell_more(rt, bytes.as_slice(), subject, run_end_of(answer));
+            let end = run_end_of(answer);
+            tell_more(rt, bytes.as_slice(), listing, subject, end);
         }
         if is_noted {
             if aside.has_capitals {
@@ -623,6 +657,7 @@ fn tell_read<R: Read + Drop>(
 fn run_end_of(answer: Result<Answer, CliFault>) -> Result<RunEnd, CliFault> {
     match answer {
         Ok(Answer::Ran(end) | Answer::Heard(end, _)) => Ok(end),
+        Ok(Answer::Printed(pages)) => Ok(pages.run),
         Ok(Answer::Ended(_) | Answer::Overheard(_, _) | Answer::Remarked(_)) => Ok(RunEnd::Done),
         Err(fault) => Err(fault),
     }
@@ -674,6 +709,7 @@ fn tell_answer(
     match answer {
         Answer::Ended(ending) => End::of_ending(ending),
         Answer::Ran(end) | Answer::Heard(end, _) => End::of_run(end),
+        Answer::Printed(pages) => End::of_run(pages.run),
         Answer::Overheard(_, _) | Answer::Remarked(_) => End::Done,
     }
 }

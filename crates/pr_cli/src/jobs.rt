@@ -11,8 +11,8 @@ ghost use Rattle.pr_cli.specs.Jobs.{AnswersJob, AnswersRecording, AnswersRun, An
 use pr_capture::{Source, TraceFormat, TraceInput, found_source};
 use pr_dots::Shapes;
 use pr_jobs::{
-    CliFault, Ending, RunEnd, Start, Watched, bus_as_over, bus_over, check_as_over, check_over,
-    pages_as_over, pages_over, raw_over,
+    CliFault, Ending, PagesEnd, RunEnd, Start, Watched, bus_as_over, bus_over, check_as_over,
+    check_over, pages_as_over, pages_over, raw_over,
 };
 use pr_options::{CheckOutput, DecodeOutput, Job, PagesOutput};
 use pr_recording::{
@@ -31,6 +31,8 @@ pub enum Answer {
     Ended(Ending),
     /// It wrote what was asked for of a run that ended so.
     Ran(RunEnd),
+    /// It wrote the pages of a run that ended so.
+    Printed(PagesEnd),
     /// It wrote the bytes that a printer hears in a run, which do not say what [`Heard`] does.
     Heard(RunEnd, Heard),
     /// It wrote those that a printer hears in a recording, about which this is odd.
@@ -89,7 +91,8 @@ pub fn restarted_job<'a>(job: Job<'a>, start: u64) -> Job<'a>
 /// found, is read from it elsewhere, so every use of a format, a set or a delay is proved.
 ///
 /// The answer is that a run is stopped exactly if a BASIC error stopped the run of a script. Where `is_located`, it always
-/// says which error that was, and at which statement.
+/// says which error that was, and at which statement. Of pages in any format but a list it always says what the printers
+/// hold.
 ///
 /// # Errors
 ///
@@ -182,7 +185,7 @@ fn print_run<R: Read, W: Write>(
         }
         (PagesOutput::Pages(format), _) => {
             let end = pages_as_over(alloc, input, output, start, format, shapes)?;
-            Ok(Answer::Ran(end))
+            Ok(Answer::Printed(end))
         }
         (PagesOutput::Bytes(device), _) => {
             let (end, heard) = run_bytes_over(alloc, input, output, start, device)?;

@@ -1,7 +1,13 @@
 //! Notes: what is lawful and probably not what was meant, a line each on standard error.
 
 use pr_basic::cut_line;
+use pr_jobs::{HeldMarks, PagesEnd, shown_of};
 use pr_listing::{ListingForm, has_typed_strings, looks_like_disk, looks_saved};
+use pr_options::{Job, PagesOutput};
+use pr_render::Format;
+use pr_serial::Present;
+use std::fmt;
+use std::fmt::{Display, Formatter};
 
 /// What is said of a script with small letters or braces in its strings.
 const TYPED_STRINGS: &str =
@@ -23,6 +29,12 @@ const SAVED_BYTES: &str =
 /// What is said of a printer's bytes that look like a disk.
 const DISK_BYTES: &str = "this looks like an image of a disk, and not like a printer's bytes: \
      take a program out of it, and pages --from prg runs it";
+
+/// None of the printers.
+const NO_PRINTER: Present = Present {
+    four: false,
+    five: false,
+};
 
 /// Writes a note.
 fn note(rt: &impl Eprint, text: &str) {
@@ -53,6 +65,76 @@ pub fn note_capitals(rt: &impl Eprint) {
 /// Writes a note of a run of which nothing else is said.
 pub fn note_stop(rt: &impl Eprint) {
     note(rt, STOPPED);
+}
+
+/// The marks that a printer holds, as a note counts them.
+#[derive(Clone, Copy)]
+struct Unprinted(HeldMarks);
+
+impl Display for Unprinted {
+    fn fmt<W: fmt::Write>(&self, f: &mut Formatter<W>) -> fmt::Result {
+        let HeldMarks {
+            characters,
+            columns,
+        } = self.0;
+        match characters {
+            0 => {}
+            1 => write!(f, "1 character")?,
+            _ => write!(f, "{characters} characters")?,
+        }
+        if characters > 0 && columns > 0 {
+            write!(f, " and ")?;
+        }
+        match columns {
+            0 => {}
+            1 => write!(f, "1 column of dots")?,
+            _ => write!(f, "{columns} columns of dots")?,
+        }
+        match (characters, columns) {
+            (1, 0) | (0, 1) => write!(f, " that was not printed"),
+            _ => write!(f, " that were not printed"),
+        }
+    }
+}
+
+/// The printers whose pages a run of a script draws, in lines or in a picture. A list of marks draws none.
+pub fn drawn_by(job: &Job<'_>) -> Present {
+    match job {
+        Job::Pages(_, present, _, _, PagesOutput::Pages(format)) => drawn_in(*format, *present),
+        _ => NO_PRINTER,
+    }
+}
+
+/// The same of a format, with these printers connected.
+fn drawn_in(format: Format, present: Present) -> Present {
+    match format {
+        Format::List => NO_PRINTER,
+        Format::Lines => present,
+        Format::Svg(part) | Format::Png(part) => shown_of(part.device, present),
+        Format::Pdf(device) => shown_of(device, present),
+    }
+}
+
+/// Writes a note of each of these printers that holds marks of a line that has not ended.
+pub fn note_held(rt: &impl Eprint, pages: PagesEnd, drawn: Present) {
+    if drawn.four {
+        note_marks(rt, 4, pages.four);
+    }
+    if drawn.five {
+        note_marks(rt, 5, pages.five);
+    }
+}
+
+/// Writes a note of the marks that a printer holds, if there are any.
+fn note_marks(rt: &impl Eprint, printer: u8, held: HeldMarks) {
+    if held.characters == 0 && held.columns == 0 {
+        return;
+    }
+    let marks = Unprinted(held);
+    let _ = rt.eprintln(format_args!(
+        "print1525: note: printer {printer} holds {marks}; end the line, \
+         with PRINT#{printer} where its file is {printer}"
+    ));
 }
 
 /// Writes what is to be noted of bytes that a printer hardly gets.

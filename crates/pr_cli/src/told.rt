@@ -4,12 +4,13 @@ use crate::notes::{is_script, is_typed, note_bytes, note_script};
 use pr_basic::{ScriptFault, StatusMode, cut_line};
 use pr_capture::{Source, TraceFormat, TraceInput};
 use pr_explain::{
-    explain_line, explain_reading, explain_script, explain_stop, explain_trace, remark_on,
+    Explanation, ScriptPlace, explain_line, explain_reading, explain_script, explain_stop,
+    explain_trace, remark_on,
 };
 use pr_jobs::{CliFault, PictureFault, RunEnd};
 use pr_listing::{
-    ListingFault, ListingForm, TextFault, begins_with_heading, found_form, looks_like_text,
-    plain_form,
+    ListingFault, ListingForm, TextFault, begins_with_heading, found_form, long_token_name,
+    looks_like_text, plain_form, program_byte, token_name,
 };
 use pr_options::{CheckOutput, DecodeOutput, Job, PagesOutput, Task};
 use pr_recording::Heard;
@@ -33,11 +34,12 @@ const PLAIN_TEXT: &str = "this looks like text: --from text or petcat reads one"
 
 /// What is said of petcat's text with an unknown name.
 const PETCAT_NAMES: &str =
-    "in a string { begins a name of petcat's and } ends it, as {down}, {3 down} or {$8e}";
+    "in a string { begins a name of petcat's and } ends it, as {down}, {3 down} \
+     or {$8e}; a count is 1 to 255";
 
 /// What is said of a magazine's listing with an unknown name.
 const MAGAZINE_NAMES: &str = "in a string { begins a name of a key and } ends it, as {CLR}, \
-     {5 SPACES}, {SHIFT-A} or {$A0}";
+     {5 SPACES}, {SHIFT-A} or {$A0}; [<A>] is A with the Commodore key; a count is 1 to 255";
 
 /// What is said of a magazine's listing with a byte that its strings never have.
 const MAGAZINE_BYTES: &str = "a string of a magazine's listing has capitals, digits and signs: \
@@ -135,14 +137,15 @@ fn heard_told(heard: Heard) -> Option<&'static str> {
     }
 }
 
-/// Writes what more there is to say of an input, by the answer of its job.
+/// Writes what more there is to say of an input, by the answer of its job: a script may be made of a listing.
 pub fn tell_more(
     rt: &(impl Eprint + AllocGlobal),
     bytes: &[u8],
+    listing: Option<Listing<'_>>,
     subject: Subject<'_>,
     answer: Result<RunEnd, CliFault>,
 ) {
-    show(rt, told(rt, bytes, subject, answer));
+    show(rt, told(rt, bytes, listing, subject, answer));
     show_hint(rt, hint_of(bytes, subject, answer));
 }
 
@@ -172,6 +175,21 @@ pub struct ScriptRun {
     form: ListingForm,
     present: Present,
     mode: StatusMode,
+}
+
+/// A listing that is no script's text.
+#[derive(Clone, Copy)]
+pub struct Listing<'a> {
+    /// Its form, which is known.
+    pub form: ListingForm,
+    pub bytes: &'a [u8],
+}
+
+/// The listing in a form that was kept, if it was.
+pub fn listing_of(form: ListingForm, kept: Option<&[u8]>) -> Option<Listing<'_>> {
+    let bytes = kept?;
+    let form = plain_form(form, bytes);
+    Some(Listing { form, bytes })
 }
 
 /// The input of which more can be said.
@@ -206,12 +224,13 @@ pub fn subject_of<'a>(job: &Job<'a>) -> Subject<'a> {
 fn told(
     rt: &impl AllocGlobal,
     bytes: &[u8],
+    listing: Option<Listing<'_>>,
     subject: Subject<'_>,
     answer: Result<RunEnd, CliFault>,
 ) -> Result<String, AllocError> {
     match (subject, answer) {
         (_, Err(CliFault::Picture(fault))) => sheets_told(rt, fault),
-        (Subject::Script(job), _) => run_told(rt, bytes, job, answer),
+        (Subject::Script(job), _) => run_told(rt, bytes, listing, job, answer),
         (Subject::Trace(trace), _) => trace_told(rt, bytes, trace, answer),
         (Subject::Recording(trace), Err(fault)) => reading_told(rt, bytes, trace, fault),
         (Subject::Bytes, _) | (_, Ok(_)) => Ok(String::new(rt.alloc())),
@@ -329,6 +348,7 @@ pub fn show_hint(rt: &impl Eprint, hint: Option<&'static str>) {
 fn run_told(
     rt: &impl AllocGlobal,
     script: &[u8],
+    listing: Option<Listing<'_>>,
     job: ScriptRun,
     answer: Result<RunEnd, CliFault>,
 ) -> Result<String, AllocError> {
@@ -337,20 +357,107 @@ fn run_told(
             let told = explain_stop(rt.alloc(), script, job.mode, stop, statement, job.present)?;
             Ok(told.text)
         }
-        Err(CliFault::Script(fault)) => script_told(rt.alloc(), script, fault),
+        Err(CliFault::Script(fault)) => script_told(rt.alloc(), script, listing, fault),
         Ok(RunEnd::Done) | Err(_) => Ok(String::new(rt.alloc())),
     }
 }
 
+/// Why a script is refused, which may be made of a listing.
+fn script_told(
+    alloc: Global,
+    script: &[u8],
+    listing: Option<Listing<'_>>,
+    fault: ScriptFault,
+) -> Result<String, AllocError> {
+    let told = refusal_told(alloc, script, fault)?;
+    match (listing, told.place) {
+        (Some(listing), Some(place)) => {
+            let line = line_numbered(script, place.line);
+            listing_told(alloc, told.text, line, listing, place)
+        }
+        _ => Ok(told.text),
+    }
+}
+
 /// Why a script is refused, by the line of its first fault alone where that is enough.
-fn script_told(alloc: Global, script: &[u8], fault: ScriptFault) -> Result<String, AllocError> {
+fn refusal_told(
+    alloc: Global,
+    script: &[u8],
+    fault: ScriptFault,
+) -> Result<Explanation<Option<ScriptPlace>>, AllocError> {
     if let Some(number) = line_number(fault) {
         let told = explain_line(alloc, line_numbered(script, number), number)?;
         if told.place.is_some() {
-            return Ok(told.text);
+            return Ok(told);
         }
     }
-    Ok(explain_script(alloc, script)?.text)
+    explain_script(alloc, script)
+}
+
+/// Why a script is refused that is made of a listing, by its line with the fault: a saved program's byte that the script
+/// has as `?` has its own name in the last line, and of a typed listing it is said of which text the column is.
+fn listing_told(
+    alloc: Global,
+    text: String,
+    line: &[u8],
+    listing: Listing<'_>,
+    place: ScriptPlace,
+) -> Result<String, AllocError> {
+    let before = place.column.saturating_sub(1);
+    match listing.form {
+        ListingForm::Program if matches!(line.get(before), Some(b'?')) => {
+            byte_told(alloc, text, listing.bytes, place)
+        }
+        ListingForm::Petcat | ListingForm::Magazine => {
+            format!(in alloc; "{text}  the column is of the script made of it\n")
+        }
+        ListingForm::Program | ListingForm::Text | ListingForm::Auto => Ok(text),
+    }
+}
+
+/// Why a saved program is refused for a byte that the script has as `?`: its name instead of what is said of `?` in the
+/// last line.
+fn byte_told(
+    alloc: Global,
+    text: String,
+    program: &[u8],
+    place: ScriptPlace,
+) -> Result<String, AllocError> {
+    let before = place.column.saturating_sub(1);
+    let byte = match program_byte(program, place.line, before) {
+        Some(byte) if byte != b'?' => byte,
+        _ => return Ok(text),
+    };
+    let next = program_byte(program, place.line, place.column).unwrap_or(0);
+    let front = without_last_line(&text);
+    match str::from_utf8(byte_name(byte, next)) {
+        Ok(name) if !name.is_empty() => {
+            format!(in alloc; "{front}\n  {name} is not supported\n")
+        }
+        _ => format!(in alloc; "{front}\n  the byte {byte} is no token of the C64\n"),
+    }
+}
+
+/// What is before the last line of a text, without the end of the line before it.
+fn without_last_line(text: &str) -> &str {
+    let lines = match text.strip_suffix('\n') {
+        Some(lines) => lines,
+        None => text,
+    };
+    match lines.rsplit_once('\n') {
+        Some((front, _)) => front,
+        None => "",
+    }
+}
+
+/// The name of a byte outside strings that is no token of a script, with the byte after it: that of a token of the
+/// Commodore 128, or pi.
+fn byte_name(byte: u8, next: u8) -> &'static [u8] {
+    match byte {
+        206 | 254 => long_token_name(byte, next),
+        255 => b"pi",
+        _ => token_name(byte),
+    }
 }
 
 /// The number of the line that alone has a fault, from 1.

@@ -5,8 +5,11 @@ ghost use Rattle.pr_jobs.specs.Report.{IsOwnFault};
 ghost use Rattle.pr_explain.specs.TracePlaces.{capture_line, fault_line};
 
 use crate::names::{
-    begins_with, first_field, has_fractions, has_times_behind, has_units, is_number,
-    push_dump_names, push_same_names, push_table_names, separator_of,
+    first_field, has_fractions, has_units, is_number, push_dump_names, push_same_names,
+    push_table_names, separator_of,
+};
+use crate::tables::{
+    begins_number, has_rate, other_said, push_other_said, push_times_rule, separator_at,
 };
 use crate::texts::{Cut, line_with, without_end};
 use crate::words::begins_listing;
@@ -136,23 +139,43 @@ pub fn push_fault(
             };
             push_same_names(alloc, text, bytes, name, second)
         }
-        (CliFault::Capture(CaptureFault::NoSignal(_, wire)), Source::Csv) => {
-            push_columns(text, line, wire, signals)?;
-            push_skipped(text, bytes, line)
-        }
         (CliFault::Capture(fault), Source::Vcd) => {
             let rule = no_dump_hint(bytes, fault).unwrap_or(rule_of_dumps(fault));
             write!(text, "  {rule}\n")
         }
-        (CliFault::Capture(CaptureFault::NoTime(_)), Source::Csv) => {
-            write!(text, "  {}\n", rule_of_times(line))
+        (CliFault::Capture(fault), Source::Csv) => push_table_fault(
+            text, bytes, input, fault, number,
+        ),
+        _ => push_text_rule(text, line),
+    }
+}
+
+/// Adds what the line of a table, of this number, should have that has this fault.
+fn push_table_fault(
+    text: &mut String,
+    bytes: &[u8],
+    input: TraceInput<'_>,
+    fault: CaptureFault,
+    number: usize,
+) -> Result<(), NoMemory> {
+    let line = line_with(bytes, number);
+    let separator = separator_at(bytes, line, number);
+    match fault {
+        CaptureFault::NoSignal(_, wire) => {
+            if let Some(said) = other_said(bytes, line, number) {
+                return push_other_said(text, said);
+            }
+            push_columns(text, line, separator, wire, input.signals)?;
+            push_skipped(text, bytes, line)
         }
-        (CliFault::Capture(CaptureFault::BadLevel(_)), Source::Csv)
-            if has_fractions(separator_of(line).unwrap_or(b','), line) => {
+        CaptureFault::NoTime(_) => {
+            let is_rated = has_rate(bytes, input, number);
+            push_times_rule(text, line, separator.unwrap_or(b','), input, is_rated)
+        }
+        CaptureFault::BadLevel(_) if has_fractions(separator.unwrap_or(b','), line) => {
             write!(text, "  {VOLTS}\n")
         }
-        (CliFault::Capture(fault), Source::Csv) => write!(text, "  {}\n", rule_of_tables(fault)),
-        _ => push_text_rule(text, line),
+        _ => write!(text, "  {}\n", rule_of_tables(fault)),
     }
 }
 
@@ -179,6 +202,7 @@ fn push_missing(text: &mut String, wire: Wire, signals: Signals<'_>) -> Result<(
 fn push_columns(
     text: &mut String,
     line: &[u8],
+    separator: Option<u8>,
     wire: Wire,
     signals: Signals<'_>,
 ) -> Result<(), NoMemory> {
@@ -194,7 +218,7 @@ fn push_columns(
     if let Some(hint) = no_table_hint(line) {
         return write!(text, "  {hint}\n");
     }
-    let Some(separator) = separator_of(line) else {
+    let Some(separator) = separator else {
         return write!(
             text,
             "  expected column names separated by commas, semicolons or tabs, such as Time,ATN,CLOCK,DATA\n"
@@ -281,43 +305,6 @@ fn rule_of_tables(fault: CaptureFault) -> &'static str {
         }
         _ => rule_of_levels(fault),
     }
-}
-
-/// What a table has that is refused since it has no times: by this line, of its names or a row whose first cell is no level.
-fn rule_of_times(line: &[u8]) -> &'static str {
-    let name = first_field(separator_of(line).unwrap_or(b','), line);
-    if begins_number(name) {
-        "this first column has no levels, and its name is none of times: name this column: Time [us], \
-         Sample; or move it behind the signals if it is neither"
-    } else if has_times_behind(separator_of(line).unwrap_or(b','), line) {
-        "a later column has times: move it to the front, and name it with its unit, such as Time [us]"
-    } else if begins_with(name, b"sample") {
-        "these are numbers of samples: give the sample rate with --rate, such as --rate 4M, or in a remark \
-         such as ; Samplerate: 4 MHz"
-    } else if begins_with(name, b"delta") {
-        "a column Delta has differences, and does not say of which rows: export the times of the rows, and \
-         name this column: Time [us], Sample"
-    } else if is_time_alone(name) {
-        "the unit of these times is not known: name it, such as Time [ms], or, where they are in seconds, \
-         leave out the sample rate (--rate, or the line that gives it); a table of sigrok-cli is read with \
-         its own remarks and without --rate: write it from a .sr file"
-    } else {
-        "expected a first column of times or of sample numbers: name this column: Time [us], Sample; or \
-         move the column of times to the front; where no column is of times, give the sample rate with \
-         --rate, such as --rate 4M, or in a remark such as ; Samplerate: 4 MHz"
-    }
-}
-
-/// Whether a cell begins as a number does, and a name hardly.
-fn begins_number(cell: &[u8]) -> bool {
-    matches!(cell, [b'0'..=b'9' | b'+' | b'-' | b'.', ..])
-}
-
-/// Whether a column has a word for time as its name, without a unit.
-fn is_time_alone(name: &[u8]) -> bool {
-    name.eq_ignore_ascii_case(b"time")
-        || name.eq_ignore_ascii_case(b"timestamp")
-        || name.eq_ignore_ascii_case(b"t")
 }
 
 /// What a recording of any kind has where it has this fault.

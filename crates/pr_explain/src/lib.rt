@@ -14,7 +14,7 @@
 //! - `rows` has the rows of the table at a place, and those that can follow the last edge.
 //! - `traces`, `oddities`, `scripts` and `stops` are what is explained. `edges` follows edges to the
 //!   first that is not allowed, and `input` reads a trace in any format as `check` reads it.
-//! - The words: `trace_text` and `states` of edges; `faults` and `names` of a line that cannot be
+//! - The words: `trace_text` and `states` of edges; `faults`, `tables` and `names` of a line that cannot be
 //!   read, what it should have, and which signals a recording has, by `declared` those of a dump;
 //!   `context` and `words` of the
 //!   statement around a place of a script, and of the word that is there. The place's line and its
@@ -38,6 +38,7 @@ mod rows;
 mod scripts;
 mod states;
 mod stops;
+mod tables;
 mod texts;
 mod trace_text;
 mod traces;

@@ -4,6 +4,7 @@ ghost use Rattle.std.specs.Prelude.{◌<◌, length};
 
 use crate::declared::{paths_called, paths_in};
 use crate::texts::{Cut, unframed};
+use pr_capture::Signals;
 use pr_wire::NoMemory;
 use std::alloc::Global;
 
@@ -197,6 +198,66 @@ pub fn has_times_behind(separator: u8, line: &[u8]) -> bool {
         }
     }
     false
+}
+
+/// Whether a column is called as one of the signals, in capitals or not.
+pub fn is_signal(name: &[u8], signals: Signals<'_>) -> bool {
+    name.eq_ignore_ascii_case(signals.atn)
+        || name.eq_ignore_ascii_case(signals.clock)
+        || name.eq_ignore_ascii_case(signals.line)
+        || name.eq_ignore_ascii_case(b"CLK")
+}
+
+/// Whether a column behind the first one has a name, and is none of the signals.
+pub fn has_others(separator: u8, line: &[u8], signals: Signals<'_>) -> bool {
+    let (_, fields) = split_field(separator, line);
+    let mut rest = fields;
+    while !rest.is_empty() {
+        let (field, more) = split_field(separator, rest);
+        rest = more;
+        if is_other(unframed(field), signals) {
+            return true;
+        }
+    }
+    false
+}
+
+/// Whether a name is there, and is none of the signals'.
+fn is_other(name: &[u8], signals: Signals<'_>) -> bool {
+    !name.is_empty() && !is_signal(name, signals)
+}
+
+/// Adds that a column behind the first one has times or sample numbers, where a rate is given, and which columns are none of
+/// the signals, by the line of their names.
+pub fn push_later_columns(
+    text: &mut String,
+    separator: u8,
+    line: &[u8],
+    signals: Signals<'_>,
+) -> Result<(), NoMemory> {
+    write!(
+        text,
+        "  a later column has times or sample numbers by its name, which do not go with a rate"
+    )?;
+    let (_, mut rest) = split_field(separator, line);
+    let mut place: usize = 1;
+    let mut count: usize = 0;
+    while !rest.is_empty() {
+        let (field, more) = split_field(separator, rest);
+        rest = more;
+        place = place.wrapping_add(1);
+        let name = unframed(field);
+        if is_other(name, signals) {
+            let sign = if count == 0 { " (" } else { "; " };
+            write!(text, "{sign}column {place}, {}", Cut(name))?;
+            count = count.wrapping_add(1);
+        }
+    }
+    let end = if count == 0 { "" } else { ")" };
+    write!(
+        text,
+        "{end}: move it to the front (times need no rate), or rename it\n"
+    )
 }
 
 /// Whether a name begins with a word for time.

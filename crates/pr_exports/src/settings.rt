@@ -162,8 +162,8 @@ pub fn shown_for(format: u8, device: u8, sheet: u64) -> Option<Format>
     })
 }
 
-/// Which intervals of a reading have a line: 0 and 2 none, 1 those outside the profile's bounds, 3 those outside the guide's;
-/// with 2 and 3 the summary and the verdict are by the guide.
+/// Which intervals of a reading have a line: 0 and 2 none, 1 those outside the profile's bounds, 3 those outside the guide's,
+/// both with a table of all intervals; with 2 and 3 the verdict is by the guide.
 pub fn detail_for(number: u8) -> Option<Detail>
     ensures { result ≡ detail_of number }
 {

@@ -3,7 +3,6 @@
 use Rattle.std.specs.Prelude.{◌≡◌, ℕ, ◌<◌, ◌≤◌, List, length, Option, Some, None, Result, Ok, Err}
 use Rattle.std.specs.Io.KnownBytes.{Appends, IsAtEnd, Keeps}
 use Rattle.pr_dots.specs.declared.character_sets.Shapes.{Shapes}
-use Rattle.pr_channels.specs.declared.faults.Stop.{Stop}
 use Rattle.pr_basic.specs.declared.fault.ScriptFault.TheVariants as script
 use Rattle.pr_basic.specs.declared.statement.Statement.{Statement}
 use Rattle.pr_basic.specs.Grammar.{IsScript}
@@ -16,9 +15,9 @@ use Rattle.pr_render.specs.declared.format.Format.{Format}
 use Rattle.pr_render.specs.declared.format.Format.TheVariants as format
 use Rattle.pr_jobs.specs.declared.fault.PictureFault.{PictureFault}
 use Rattle.pr_jobs.specs.declared.run.Ending.{Ending}
-use Rattle.pr_jobs.specs.declared.run.RunEnd.{RunEnd}
+use Rattle.pr_jobs.specs.declared.run.PagesEnd.{PagesEnd}
 use Rattle.pr_jobs.specs.declared.run.Start.{Start}
-use Rattle.pr_jobs.specs.Runs.{ending_of, run_end}
+use Rattle.pr_jobs.specs.Runs.{ending_of, pages_end}
 use Rattle.pr_jobs.specs.declared.fault.CliFault.{CliFault}
 use Rattle.pr_jobs.specs.declared.fault.CliFault.TheVariants.{Script, Trace, Wave, Capture, Picture, TooLarge, NoMemory, ReadFailed, WriteFailed}
 
@@ -59,24 +58,25 @@ RefusesPages shapes start format script old new WriteFailed =
     (outcome : Outcome) × (text : List ℕ)
     × (length script ≤ script_limit) × IsTextOf shapes start format script outcome text × AppendsFront old new text
 
--- the answer, by the script and by what the writer held before and after, where the end of a run with this stop is said so
-abbrev pub SaysPages : {E : Type 0} → (said : Option (ℕ × Stop) → E)
+-- the answer, by the script and by what the writer held before and after, where this is said of an outcome
+abbrev pub SaysPages : {E : Type 0} → (said : Outcome → E)
     → Shapes → Start → Format → List ℕ → Option (List ℕ) → Option (List ℕ) → Result E CliFault → Type 0
 SaysPages said shapes start format script old new (Ok end) =
     (outcome : Outcome) × (text : List ℕ)
     × (length script ≤ script_limit) × IsTextOf shapes start format script outcome text
-    × (end ≡ said outcome.stop) × Appends old new text
+    × (end ≡ said outcome) × Appends old new text
 SaysPages said shapes start format script old new (Err fault) = RefusesPages shapes start format script old new fault
 
 -- that with whether an error stopped the run
 abbrev pub AnswersPages :
     Shapes → Start → Format → List ℕ → Option (List ℕ) → Option (List ℕ) → Result Ending CliFault → Type 0
-AnswersPages shapes start format script old new result = SaysPages ending_of shapes start format script old new result
+AnswersPages shapes start format script old new result =
+    SaysPages (λ outcome. ending_of outcome.stop) shapes start format script old new result
 
--- that with the error, and the statement that it stopped
+-- that with the error, the statement that it stopped, and the marks that the printers hold
 abbrev pub AnswersPagesAs :
-    Shapes → Start → Format → List ℕ → Option (List ℕ) → Option (List ℕ) → Result RunEnd CliFault → Type 0
-AnswersPagesAs shapes start format script old new result = SaysPages run_end shapes start format script old new result
+    Shapes → Start → Format → List ℕ → Option (List ℕ) → Option (List ℕ) → Result PagesEnd CliFault → Type 0
+AnswersPagesAs shapes start format script old new result = SaysPages pages_end shapes start format script old new result
 
 -- every refusal but WriteFailed leaves the writer's bytes as they were, whatever the reader gives
 abbrev pub WritesNothing : {Y : Type 0} → Option (List ℕ) → Option (List ℕ) → Result Y CliFault → Type 0

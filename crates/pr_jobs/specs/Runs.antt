@@ -1,11 +1,17 @@
 -- Trusted: how a run begins, and how it ends.
-use Rattle.std.specs.Prelude.{ℕ, Option, Some, None}
+use Rattle.std.specs.Prelude.{ℕ, Bool, true, false, not, List, count_by, Option, Some, None}
+use Rattle.pr_page.specs.declared.paper.Mark.{Mark}
+use Rattle.pr_page.specs.declared.paper.Mark.TheVariants.{Cell, Dots}
+use Rattle.pr_page.specs.declared.paper.Placed.{Placed}
+use Rattle.pr_system.specs.declared.outcome.Outcome.{Outcome}
 use Rattle.pr_serial.specs.declared.Present.{Present}
 use Rattle.pr_bus.specs.declared.wires.Delays.{Delays}
 use Rattle.pr_channels.specs.declared.faults.Stop.{Stop}
 use Rattle.pr_basic.specs.declared.session.StatusMode.{StatusMode}
 use Rattle.pr_jobs.specs.declared.run.Ending.{Ending}
 use Rattle.pr_jobs.specs.declared.run.Ending.TheVariants.{Done, Stopped}
+use Rattle.pr_jobs.specs.declared.run.HeldMarks.{HeldMarks}
+use Rattle.pr_jobs.specs.declared.run.PagesEnd.{PagesEnd}
 use Rattle.pr_jobs.specs.declared.run.RunEnd.{RunEnd}
 use Rattle.pr_jobs.specs.declared.run.RunEnd.TheVariants as run
 use Rattle.pr_jobs.specs.declared.run.Start.{Start}
@@ -28,3 +34,23 @@ run_end (Some (statement, stop)) = run.Stopped statement stop
 abbrev pub ending_at : RunEnd → Ending
 ending_at run.Done = Done
 ending_at (run.Stopped statement stop) = Stopped
+
+-- a mark is a character, or else a column of dots
+abbrev pub is_character : Mark → Bool
+is_character (Cell code lower reverse wide) = true
+is_character (Dots column) = false
+
+-- how many marks are of each kind
+abbrev pub held_marks : List Placed → HeldMarks
+held_marks marks = record {
+  characters = count_by (λ placed. is_character placed.mark) marks;
+  columns = count_by (λ placed. not (is_character placed.mark)) marks;
+}
+
+-- how a run ended, and the marks that its printers hold: those of lines that have not ended
+abbrev pub pages_end : Outcome → PagesEnd
+pages_end outcome = record {
+  run = run_end outcome.stop;
+  four = held_marks outcome.paper4.held;
+  five = held_marks outcome.paper5.held;
+}

@@ -17,8 +17,8 @@ use pr_serial::Present;
 use pr_system::Outcome;
 use std::alloc::Global;
 
-/// The printers whose pages are shown: the one that is named, or else all that are present.
-fn shown_of(device: Option<Device>, present: Present) -> Present
+/// Returns the printers whose pages are shown: the one that is named, or else all that are present. It takes no memory.
+pub fn shown_of(device: Option<Device>, present: Present) -> Present
     ensures { result ≡ shown_of device present }
 {
     match device {

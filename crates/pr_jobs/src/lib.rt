@@ -53,7 +53,7 @@ pub use check::{CHECK_LIMIT, check_input, check_over};
 pub use edge_maker::{EdgeMaker, made_edges_come_first};
 pub use edge_reader::{EdgeReader, LastEdges};
 pub use fault::{CliFault, PictureFault, own_fault};
-pub use format::text_in_format;
+pub use format::{shown_of, text_in_format};
 pub use input_reader::{InputReader, read_edges_come_first};
 pub use page_text::pages_text;
 pub use pages::{SCRIPT_LIMIT, pages_as_over, pages_over};
@@ -63,6 +63,6 @@ pub use pr_input::{
 pub use raw::{RAW_LIMIT, print_input, raw_over};
 pub use report::{check_as_over, report_input};
 pub use reporter::ReportText;
-pub use run::{Ending, RunEnd, Start};
+pub use run::{Ending, HeldMarks, PagesEnd, RunEnd, Start};
 pub use source_reader::{SourceReader, texts_say_samples};
 pub use text::Text;

@@ -12,7 +12,7 @@ ghost use Rattle.pr_input.specs.Watched.{has_failed, is_flushed, wrapped};
 
 use crate::fault::CliFault;
 use crate::format::text_in_format;
-use crate::run::{Ending, RunEnd, Start};
+use crate::run::{Ending, PagesEnd, Start};
 use pr_basic::{Statement, StatusMode, read_script};
 use pr_bus::Delays;
 use pr_dots::Shapes;
@@ -67,8 +67,8 @@ fn outcome_of(alloc: Global, script: Vec<u8>, start: Start) -> Result<Outcome, C
 /// in this format, in pictures with characters of these shapes. No trace is kept.
 ///
 /// The input is read whole before anything is written, and the text is made whole before the
-/// first write. The answer says which BASIC error stopped the run, if one did, and at which statement;
-/// the text is written all the same.
+/// first write. The answer says which BASIC error stopped the run, if one did, and at which statement,
+/// and how many marks each printer holds; the text is written all the same.
 ///
 /// # Errors
 ///
@@ -87,7 +87,7 @@ pub fn pages_as_over<R: Read, W: Write>(
     start: Start,
     format: Format,
     shapes: &Shapes,
-) -> Result<RunEnd, CliFault>
+) -> Result<PagesEnd, CliFault>
     // the caller's part
     requires fresh { AreFresh input.old output.old }
     // what it gives
@@ -102,7 +102,7 @@ pub fn pages_as_over<R: Read, W: Write>(
     let script = read_whole(alloc, input, SCRIPT_LIMIT)?;
     let present = start.present;
     let outcome = outcome_of(alloc, script, start)?;
-    let end = RunEnd::of(outcome.stop);
+    let end = PagesEnd::of(&outcome);
     let text = text_in_format(alloc, shapes, outcome, present, format)?;
     match text.write_to(output) {
         Ok(()) => Ok(end),
@@ -148,5 +148,5 @@ pub fn pages_over<R: Read, W: Write>(
         mode,
     };
     let end = pages_as_over(alloc, input, output, start, Format::List, &Shapes::own())?;
-    Ok(end.ending())
+    Ok(end.run.ending())
 }

@@ -5,7 +5,7 @@ use Rattle.pr_basic.specs.Grammar.{IsScript}
 use Rattle.pr_basic.specs.declared.statement.Statement.{Statement}
 use Rattle.pr_listing.specs.Containers.{program_in}
 use Rattle.pr_listing.specs.FormLaws.{NotBoth, OneFault, OneList, OneText}
-use Rattle.pr_listing.specs.Forms.{HasNoPlainText, HasNoText, HasPlainText, HasText, plain_form}
+use Rattle.pr_listing.specs.Forms.{HasNoPlainText, HasPlainText, plain_form}
 use Rattle.pr_listing.specs.Listing.{IsProgramText}
 use Rattle.pr_listing.specs.Program.{IsProgramFault}
 use Rattle.pr_listing.specs.declared.fault.ListingFault.{ListingFault}

@@ -1,5 +1,5 @@
 -- The lexemes at the front of a saved program's text.
-use Rattle.std.proofs.Common.{◌≡◌, ℕ, zero, suc, ◌+◌, ◌<◌, ◌≤◌, Bool, true, false, List, [], ◌∷◌, ◌++◌, length, map, refl, ap, subst, sym, ◌∙◌, arith, append_assoc, inl}
+use Rattle.std.proofs.Common.{◌≡◌, ℕ, zero, suc, ◌+◌, ◌<◌, ◌≤◌, Bool, true, false, List, [], ◌∷◌, ◌++◌, refl, ap, subst, sym, ◌∙◌, arith, append_assoc, inl}
 use Rattle.std.proofs.lemmas.Grind.{common_steps}
 use Rattle.std.proofs.lemmas.Bool.Decides.{nat_tests}
 use Rattle.std.specs.Prelude.{◌-◌, ◌==◌, nat_lt, codes}
@@ -7,10 +7,10 @@ use Rattle.std.specs.Char.{to_ascii_lowercase}
 use Rattle.pr_base.specs.Digits.{is_digit}
 use Rattle.pr_basic.specs.Grammar.{is_printable}
 use Rattle.pr_basic.specs.LexemeLaws.{LexemesAreFound, LinesHaveLexemes}
-use Rattle.pr_basic.specs.Lexemes.{Lexeme, Word, Remark, Comma, Semicolon, Colon, OpenParen, CloseParen, Stray, NoDigit, Spells, is_space}
+use Rattle.pr_basic.specs.Lexemes.{Lexeme, Stray, NoDigit, Spells, is_space}
 use Rattle.pr_basic.specs.Lexing.{begins, front, lexemes_after, lexemes_of, sign_or, word_front}
 use Rattle.pr_listing.specs.Keywords.{is_token, keyword_of}
-use Rattle.pr_listing.specs.Listing.{is_letter, or_question, plain_text}
+use Rattle.pr_listing.specs.Listing.{is_letter, plain_text}
 use Rattle.pr_listing.specs.Tokens.{byte_lexemes, sign_lexeme, token_lexemes}
 
 -- a lexeme that is spelled is the first

@@ -1,41 +1,45 @@
 -- Pieces of petcat's text that are taken one by one, and lines of them.
 use Rattle.std.proofs.Common.{◌≡◌, ℕ, suc, ◌+◌, ◌<◌, ◌==◌, not, get_or, Bool, true, false, List, [], ◌∷◌, ◌++◌, length, take, drop, refl, ap, sym, ◌∙◌, arith, subst, add-one, append_assoc, append-nil, length-append, ◌⊎◌, inl, inr, None, Some}
 use Rattle.std.proofs.lemmas.Grind.{common_steps}
-use Rattle.std.specs.Prelude.{if◌then◌else◌}
+use Rattle.std.specs.Prelude.{◌&&◌, if◌then◌else◌}
 use Rattle.std.specs.List.{list_all, prefix_len}
 use Rattle.pr_base.specs.Lines.{lines_of}
 use Rattle.pr_basic.specs.Grammar.{without_return}
 use Rattle.pr_listing.specs.Listing.{quoted_text, string_text}
-use Rattle.pr_listing.specs.Names.{named}
-use Rattle.pr_listing.specs.Typed.{Character, HasLineText, IsHeading, remark_of, HasText, HaveLinesText, HaveText, IsLineFault, IsTypedFault, IsTypedText, IsPieceFault, Name, Piece, at_place, before_remark, byte_of, is_in_braces, quoted_after, repeated, spelled}
+use Rattle.pr_listing.specs.Names.{bracketed}
+use Rattle.pr_listing.specs.Typed.{Character, HasLineText, IsHeading, remark_of, HasText, HaveLinesText, HaveText, IsLineFault, IsTypedFault, IsTypedText, IsPieceFault, Name, Piece, at_place, before_remark, begun, begun_in, brackets_of, byte_of, closing, has_keys, is_within, opening, quoted_after, repeated, spelled}
 use Rattle.pr_listing.specs.Pieces.{ArePiecesTaken, IsFrontTaken, IsLineTaken, IsNameTaken, IsNoName, IsPieceTaken, IsReadTo}
 use Rattle.pr_listing.specs.declared.fault.ListingFault.{ListingFault}
 use Rattle.pr_listing.specs.declared.fault.ListingFault.TheVariants as listing
+use Rattle.pr_listing.specs.declared.names.Brackets.{Brackets}
+use Rattle.pr_listing.specs.declared.names.Brackets.TheVariants.{Curly, Square}
 use Rattle.pr_listing.specs.declared.names.Spelling.{Spelling}
 use Rattle.pr_listing.specs.declared.typed.PieceFault.{PieceFault}
 use Rattle.pr_listing.specs.declared.typed.PieceFault.TheVariants as piece
 use Rattle.pr_listing.proofs.Marks.{at_mark, before_mark, first_mark, mark_within}
 
 -- one piece more at the end
-have-one_more : (w : Spelling) → (q : Bool) (ps : List Piece) (bytes said : List ℕ) (m : Bool) (rest : List ℕ) (p : Piece) (after t : List ℕ) (next : Bool) → HaveText w q ps bytes said m rest → rest ≡ spelled p after → HasText w m p t → next ≡ quoted_after m p
+have-one_more : (w : Spelling) → (q : Bool) (ps : List Piece) (bytes said : List ℕ) (m : Bool) (rest : List ℕ) (p : Piece) (after t : List ℕ) (next : Bool) → HaveText w q ps bytes said m rest → rest ≡ spelled p after → brackets_of p ≡ begun_in w m rest → HasText w m p t → next ≡ quoted_after m p
     → HaveText w q (ps ++ p ∷ []) bytes (said ++ t) next after
-have-one_more w q [] bytes said m rest p after t next h cut has goes = (
+have-one_more w q [] bytes said m rest p after t next h cut begins has goes = (
   after,
   t,
   [],
   h.2 ∙ cut,
+  begins ∙ (ap (λ v. begun_in w v rest) h.1 ∙ ap (begun_in w q) (sym h.2)),
   subst (λ (v : Bool). HasText w v p t) h.1 has,
   ap (λ v. v ++ t) h.0 ∙ sym (append-nil t),
   (refl, goes ∙ ap (λ v. quoted_after v p) h.1, refl),
 )
-have-one_more w q (o ∷ ps) bytes said m rest p after t next h cut has goes = (
+have-one_more w q (o ∷ ps) bytes said m rest p after t next h cut begins has goes = (
   h.0,
   h.1,
   h.2 ++ t,
   h.3,
   h.4,
-  ap (λ v. v ++ t) h.5 ∙ append_assoc h.1 h.2 t,
-  have-one_more w (quoted_after q o) ps h.0 h.2 m rest p after t next h.6 cut has goes,
+  h.5,
+  ap (λ v. v ++ t) h.6 ∙ append_assoc h.1 h.2 t,
+  have-one_more w (quoted_after q o) ps h.0 h.2 m rest p after t next h.7 cut begins has goes,
 )
 
 -- one piece more is taken
@@ -43,7 +47,7 @@ pub taken-one_more : (w : Spelling) → (front rest after : List ℕ) (m next : 
 taken-one_more w front rest after m next old mid new h k = record {
   pieces = h.pieces ++ k.piece ∷ [];
   said = h.said ++ k.said;
-  have = have-one_more w false h.pieces front h.said m rest k.piece after k.said next h.have k.cut k.has k.goes_on;
+  have = have-one_more w false h.pieces front h.said m rest k.piece after k.said next h.have k.cut k.begins k.has k.goes_on;
   is_text = k.is_text ∙ (ap (λ v. v ++ k.said) h.is_text ∙ append_assoc old h.said k.said);
 }
 
@@ -56,31 +60,51 @@ none_taken w front old = record {
   is_text = sym (append-nil old);
 }
 
--- the test fails at `}` alone
-brace_is : (b : ℕ) → is_in_braces b ≡ false → b ≡ 125
-brace_is b h = grind (arith, common_steps)
+-- the test fails at the end of the brackets alone
+closing_is : (k : Brackets) (b : ℕ) → is_within k b ≡ false → b ≡ closing k
+closing_is Curly b h = grind (arith, common_steps)
+closing_is Square b h = grind (arith, common_steps)
 
--- a name up to its brace
-pub name_cut : (bs : List ℕ) (n : ℕ) → n ≡ prefix_len is_in_braces bs → n < length bs → bs ≡ take n bs ++ 125 ∷ drop (n + 1) bs
-name_cut bs n e l =
-    let lt : prefix_len is_in_braces bs < length bs = omega (arith, e) in
-    let next : n + 1 ≡ suc (prefix_len is_in_braces bs) = omega (arith, e) in
-    rw (next, e) (at_mark is_in_braces 125 brace_is bs lt)
+-- it does fail there
+pub closing_fails : (k : Brackets) → is_within k (closing k) ≡ false
+closing_fails Curly = refl
+closing_fails Square = refl
 
--- no brace closes
-pub none_closes : (w : Spelling) → (bs : List ℕ) → prefix_len is_in_braces bs ≡ length bs → IsNoName w bs
-none_closes w bs e name rest cut closed = absurd (omega (arith, e, ap length cut, ap (prefix_len is_in_braces) cut, mark_within is_in_braces 125 refl name rest))
+-- a name up to the end of its brackets
+pub name_cut : (k : Brackets) (bs : List ℕ) (n : ℕ) → n ≡ prefix_len (is_within k) bs → n < length bs → bs ≡ take n bs ++ closing k ∷ drop (n + 1) bs
+name_cut k bs n e l =
+    let lt : prefix_len (is_within k) bs < length bs = omega (arith, e) in
+    let next : n + 1 ≡ suc (prefix_len (is_within k) bs) = omega (arith, e) in
+    rw (next, e) (at_mark (is_within k) (closing k) (closing_is k) bs lt)
+
+-- no bracket closes
+pub none_closes : (w : Spelling) (k : Brackets) → (bs : List ℕ) → prefix_len (is_within k) bs ≡ length bs → IsNoName w k bs
+none_closes w k bs e name rest cut closed =
+    absurd (omega (arith, e, ap length cut, ap (prefix_len (is_within k)) cut, mark_within (is_within k) (closing k) (closing_fails k) name rest))
 
 -- the one name that is closed is none
-pub none_named : (w : Spelling) → (bs : List ℕ) (n : ℕ) → n ≡ prefix_len is_in_braces bs → n < length bs → named w (take n bs) ≡ None → IsNoName w bs
-none_named w bs n e l none name rest cut closed =
+pub none_named : (w : Spelling) (k : Brackets) → (bs : List ℕ) (n : ℕ) → n ≡ prefix_len (is_within k) bs → n < length bs → bracketed w k (take n bs) ≡ None → IsNoName w k bs
+none_named w k bs n e l none name rest cut closed =
     let same : (name ≡ take n bs) × (rest ≡ drop (n + 1) bs) =
-    first_mark is_in_braces 125 refl name (take n bs) rest (drop (n + 1) bs) closed (rw e (before_mark is_in_braces bs)) (sym cut ∙ name_cut bs n e l) in
-    ap (named w) same.0 ∙ none
+    first_mark (is_within k) (closing k) (closing_fails k) name (take n bs) rest (drop (n + 1) bs) closed (rw e (before_mark (is_within k) bs)) (sym cut ∙ name_cut k bs n e l) in
+    ap (bracketed w k) same.0 ∙ none
 
--- a name is closed at its first brace
-pub name_closed : (bs : List ℕ) (n : ℕ) → n ≡ prefix_len is_in_braces bs → list_all is_in_braces (take n bs) ≡ true
-name_closed bs n e = rw e (before_mark is_in_braces bs)
+-- a name is closed at the first end of brackets
+pub name_closed : (k : Brackets) (bs : List ℕ) (n : ℕ) → n ≡ prefix_len (is_within k) bs → list_all (is_within k) (take n bs) ≡ true
+name_closed k bs n e = rw e (before_mark (is_within k) bs)
+
+-- brackets that begin have their first byte in front
+pub opening_first : (w : Spelling) (k : Brackets) (bs : List ℕ) → Some k ≡ begun w bs → get_or bs 0 0 ≡ opening k
+opening_first w k bs e = step (get_or bs 0 0 == 123) refl e
+  where
+    other : (k : Brackets) (b c : ℕ) (t u : Bool) → (b == 91) ≡ t → Some k ≡ (if u && (t && (c == 60)) then Some Square else None) → b ≡ opening k
+    other k b c true true f e = grind (arith, common_steps)
+    other k b c false true f e = grind (arith, common_steps)
+    other k b c t false f e = grind (arith, common_steps)
+
+    step : (t : Bool) → (get_or bs 0 0 == 123) ≡ t → Some k ≡ (if t then Some Curly else (if has_keys w && ((get_or bs 0 0 == 91) && (get_or bs 1 0 == 60)) then Some Square else None)) → get_or bs 0 0 ≡ opening k
+    step true f e = grind (arith, common_steps)
+    step false f e = other k (get_or bs 0 0) (get_or bs 1 0) (get_or bs 0 0 == 91) (has_keys w) refl e
 
 -- the first byte, and the others
 first_byte : (bs : List ℕ) → 0 < length bs → bs ≡ get_or bs 0 0 ∷ drop 1 bs
@@ -93,6 +117,7 @@ plain_piece w q bs after old new next out some rest text goes = record {
   piece = Character (get_or bs 0 0);
   said = get_or bs 0 0 ∷ [];
   cut = first_byte bs some ∙ ap (λ v. get_or bs 0 0 ∷ v) (sym rest);
+  begins = ap (λ v. begun_in w v bs) (sym out);
   has = subst (λ (v : Bool). HasText w v (Character (get_or bs 0 0)) (get_or bs 0 0 ∷ [])) (sym out) refl;
   goes_on = goes ∙ rw out (toggled (get_or bs 0 0 == 34));
   is_text = text;
@@ -103,12 +128,13 @@ plain_piece w q bs after old new next out some rest text goes = record {
     toggled false = refl
 
 -- a character of a string
-pub character_piece : (w : Spelling) → (q : Bool) (bs after old new : List ℕ) (next : Bool) → q ≡ true → 0 < length bs → after ≡ drop 1 bs → ((b : ℕ) × (byte_of w (get_or bs 0 0) ≡ Some b) × (new ≡ old ++ quoted_text b)) → next ≡ not (get_or bs 0 0 == 34)
+pub character_piece : (w : Spelling) → (q : Bool) (bs after old new : List ℕ) (next : Bool) → q ≡ true → 0 < length bs → None ≡ begun w bs → after ≡ drop 1 bs → ((b : ℕ) × (byte_of w (get_or bs 0 0) ≡ Some b) × (new ≡ old ++ quoted_text b)) → next ≡ not (get_or bs 0 0 == 34)
     → IsPieceTaken w q bs after next old new
-character_piece w q bs after old new next within some rest text goes = record {
+character_piece w q bs after old new next within some plain rest text goes = record {
   piece = Character (get_or bs 0 0);
   said = quoted_text text.0;
   cut = first_byte bs some ∙ ap (λ v. get_or bs 0 0 ∷ v) (sym rest);
+  begins = plain ∙ ap (λ v. begun_in w v bs) (sym within);
   has = subst (λ (v : Bool). HasText w v (Character (get_or bs 0 0)) (quoted_text text.0)) (sym within) (text.0, text.1, refl);
   goes_on = goes ∙ rw within (toggled (get_or bs 0 0 == 34));
   is_text = text.2;
@@ -119,23 +145,24 @@ character_piece w q bs after old new next within some rest text goes = record {
     toggled false = refl
 
 -- a name in a string
-pub name_piece : (w : Spelling) → (q : Bool) (bs rest old new : List ℕ) → q ≡ true → 0 < length bs → get_or bs 0 0 ≡ 123 → IsNameTaken w (drop 1 bs) rest old new → IsPieceTaken w q bs rest true old new
-name_piece w q bs rest old new within some brace taken = record {
-  piece = Name taken.name;
+pub name_piece : (w : Spelling) (k : Brackets) → (q : Bool) (bs rest old new : List ℕ) → q ≡ true → 0 < length bs → Some k ≡ begun w bs → IsNameTaken w k (drop 1 bs) rest old new → IsPieceTaken w q bs rest true old new
+name_piece w k q bs rest old new within some begins taken = record {
+  piece = Name k taken.name;
   said = repeated taken.count (string_text taken.byte);
-  cut = first_byte bs some ∙ (ap (λ v. v ∷ drop 1 bs) brace ∙ ap (λ v. 123 ∷ v) taken.cut);
-  has = subst (λ (v : Bool). HasText w v (Name taken.name) (repeated taken.count (string_text taken.byte))) (sym within) (taken.count, taken.byte, taken.known, taken.closed, refl);
+  cut = first_byte bs some ∙ (ap (λ v. v ∷ drop 1 bs) (opening_first w k bs begins) ∙ ap (λ v. opening k ∷ v) taken.cut);
+  begins = begins ∙ ap (λ v. begun_in w v bs) (sym within);
+  has = subst (λ (v : Bool). HasText w v (Name k taken.name) (repeated taken.count (string_text taken.byte))) (sym within) (taken.count, taken.byte, taken.known, taken.closed, refl);
   goes_on = sym within;
   is_text = taken.is_text;
 }
 
--- no name after a brace
-pub name_fault : (w : Spelling) → (bs : List ℕ) → 0 < length bs → get_or bs 0 0 ≡ 123 → IsNoName w (drop 1 bs) → IsPieceFault w piece.UnknownName bs
-name_fault w bs some brace none = (drop 1 bs, first_byte bs some ∙ ap (λ v. v ∷ drop 1 bs) brace, none)
+-- no name after the first bracket
+pub name_fault : (w : Spelling) (k : Brackets) → (bs : List ℕ) → 0 < length bs → Some k ≡ begun w bs → IsNoName w k (drop 1 bs) → IsPieceFault w piece.UnknownName bs
+name_fault w k bs some begins none = (k, begins, λ name rest cut closed. none name rest (ap (drop 1) cut) closed)
 
--- a byte that petcat does not write
-pub byte_fault : (w : Spelling) → (bs : List ℕ) → 0 < length bs → (get_or bs 0 0 ≡ 123 → ⊥) → byte_of w (get_or bs 0 0) ≡ None → IsPieceFault w piece.BadByte bs
-byte_fault w bs some other none = (get_or bs 0 0, drop 1 bs, first_byte bs some, other, none)
+-- a byte that no string has
+pub byte_fault : (w : Spelling) → (bs : List ℕ) → 0 < length bs → None ≡ begun w bs → byte_of w (get_or bs 0 0) ≡ None → IsPieceFault w piece.BadByte bs
+byte_fault w bs some plain none = (get_or bs 0 0, drop 1 bs, first_byte bs some, plain, none)
 
 -- one line more at the end
 have_lines-one_more : (w : Spelling) → (ls : List (List ℕ)) (l text said more : List ℕ) → HaveLinesText w ls text → HasLineText w (without_return l) said → more ≡ text ++ (said ++ 10 ∷ []) → HaveLinesText w (ls ++ l ∷ []) more

@@ -36,6 +36,10 @@ next_is file rest after number l m h b (ms, left, behind, k, c, e) =
     let same : rest ≡ left = same_rest h.lines ms h.held.2 rest left h.held.4 (subst (λ (v : List ℕ). BeginsWithLines ms v left) (sym bytes) k.4) (omega (arith, h.numbered, e)) in
     (one_line l m left after behind (subst (λ (v : List ℕ). BeginsWith l v after) same b) c).0
 
+-- the next line has the number that comes next
+pub next_at : (file rest after : List ℕ) (number : ℕ) (l : Line) → IsPassedTo file rest number → BeginsWith l rest after → IsLineAt file number l
+next_at file rest after number l h b = (h.lines, rest, after, h.held, b, h.numbered)
+
 -- at a stop no line has this number or a later one
 pub no_such_line : (file rest : List ℕ) (number count : ℕ) (m : Line) → IsPassedTo file rest count → IsStop rest → count ≤ number → IsLineAt file number m → ⊥
 no_such_line file rest number count m h s within (ms, left, behind, k, c, e) =

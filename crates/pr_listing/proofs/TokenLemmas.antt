@@ -8,7 +8,7 @@ use Rattle.std.proofs.lemmas.List.Folds.{list_all-append}
 use Rattle.std.proofs.lemmas.Str.Parse.{IsNumeralModel, numerals_by_fold}
 use Rattle.std.specs.Prelude.{◌==◌, codes, decimal, nat_lt}
 use Rattle.std.specs.List.{list_all, prefix_len}
-use Rattle.pr_base.specs.Digits.{is_digit, number_after, number_of}
+use Rattle.pr_base.specs.Digits.{is_digit, number_after}
 use Rattle.pr_basic.specs.Grammar.{Code, Item, Quote, Semi, items_bytes, items_lexemes}
 use Rattle.pr_basic.specs.LexemeLaws.{LexemesAreFound, LinesHaveLexemes}
 use Rattle.pr_basic.specs.Lexemes.{Lexeme, Word, Remark, Digits, Quoted, OpenParen, CloseParen, NoDigit, is_no_quote}
@@ -18,7 +18,7 @@ use Rattle.pr_listing.specs.Keywords.{keyword_of}
 use Rattle.pr_listing.specs.Listing.{bytes_text, is_held, mode_after, plain_text, quoted_text, string_text}
 use Rattle.pr_listing.specs.Tokens.{byte_lexemes, front_lexemes, lexemes_behind, onto_string, string_items}
 use Rattle.pr_listing.specs.declared.line.Mode.TheVariants.{Plain, Quoted as InString, Remark as InRemark}
-use Rattle.pr_listing.proofs.LexemeLemmas.{byte_read, first, no_digit, space_first}
+use Rattle.pr_listing.proofs.LexemeLemmas.{byte_read, first, no_digit}
 use Rattle.pr_listing.proofs.Marks.{at_mark, before_mark, no_mark}
 
 -- a byte of a file

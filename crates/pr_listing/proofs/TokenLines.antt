@@ -1,5 +1,5 @@
 -- A saved program's text is a script of the statements that its tokens are.
-use Rattle.std.proofs.Common.{◌≡◌, ℕ, zero, suc, ◌+◌, ◌-◌, ◌*◌, ◌^◌, ◌<◌, ◌≤◌, Bool, true, false, List, [], ◌∷◌, ◌++◌, length, take, drop, take-append-drop, refl, ap, subst, sym, ◌∙◌, arith, append_assoc, inl, inr}
+use Rattle.std.proofs.Common.{◌≡◌, ℕ, zero, suc, ◌-◌, ◌^◌, ◌<◌, Bool, true, false, List, [], ◌∷◌, ◌++◌, length, take, drop, take-append-drop, refl, ap, subst, sym, ◌∙◌, arith, append_assoc, inl, inr, Option, None, Some}
 use Rattle.std.proofs.lemmas.Fmt.{decimal_nonempty, digits_decimal, digits_value-decimal}
 use Rattle.std.proofs.lemmas.Grind.{common_steps}
 use Rattle.std.proofs.lemmas.Bool.Decides.{nat_tests}
@@ -14,12 +14,12 @@ use Rattle.pr_basic.specs.LexemeLaws.{LexemesAreFound, LinesHaveLexemes}
 use Rattle.pr_basic.specs.Lexemes.{Lexeme, Digits}
 use Rattle.pr_basic.specs.Lexing.{lexemes_of}
 use Rattle.pr_basic.specs.declared.statement.Statement.{Statement}
-use Rattle.pr_listing.specs.Containers.{first_offset, is_p00, is_t64, program_in}
+use Rattle.pr_listing.specs.Containers.{entry_count, is_p00, is_t64, offset_at, program_at, program_in, used_from}
 use Rattle.pr_listing.specs.Keywords.{is_token, keyword_of, keywords}
 use Rattle.pr_listing.specs.Listing.{byte_text, bytes_text, is_held, is_letter, line_text, lines_text, mode_after, or_question, plain_text, string_text}
 use Rattle.pr_listing.specs.Program.{BeginsWith, BeginsWithLines, IsProgram, Line}
 use Rattle.pr_listing.specs.TokenLaws.{StringsKeepBytes, TokensAreStatements}
-use Rattle.pr_listing.specs.Tokens.{AreProgramLines, AreProgramStatements, IsProgramLine, lexemes_behind}
+use Rattle.pr_listing.specs.Tokens.{AreProgramLines, IsProgramLine, lexemes_behind}
 use Rattle.pr_listing.specs.declared.line.Mode.{Mode}
 use Rattle.pr_listing.specs.declared.line.Mode.TheVariants.{Plain, Quoted, Remark}
 use Rattle.pr_listing.proofs.LexemeLemmas.{first, space_first}
@@ -232,14 +232,19 @@ program_fine ls file (more, (low, high, bytes, cut, lines), some) small =
 small_drop : (n : ℕ) (xs : List ℕ) → list_all is_small xs ≡ true → list_all is_small (drop n xs) ≡ true
 small_drop n xs small = (of_parts is_small (take n xs) (drop n xs) (ap (list_all is_small) (take-append-drop n xs) ∙ small)).1
 
+-- and those up to a place
+small_take : (n : ℕ) (xs : List ℕ) → list_all is_small xs ≡ true → list_all is_small (take n xs) ≡ true
+small_take n xs small = (of_parts is_small (take n xs) (drop n xs) (ap (list_all is_small) (take-append-drop n xs) ∙ small)).0
+
 -- and those of the program in a file
 small_program : (file : List ℕ) → list_all is_small file ≡ true → list_all is_small (program_in file) ≡ true
-small_program file small = inside (is_p00 file) (is_t64 file)
+small_program file small = inside (is_p00 file) (is_t64 file) (used_from file 64 (entry_count file))
   where
-    inside : (p t : Bool) → list_all is_small (if p then drop 26 file else (if t then drop (first_offset file - 2) file else file)) ≡ true
-    inside true t = small_drop 26 file small
-    inside false true = small_drop (first_offset file - 2) file small
-    inside false false = small
+    inside : (p t : Bool) (entry : Option ℕ) → list_all is_small (if p then drop 26 file else (if t then program_at file entry else file)) ≡ true
+    inside true t entry = small_drop 26 file small
+    inside false true None = refl
+    inside false true (Some entry) = small_take _ (drop (offset_at file entry - 2) file) (small_drop (offset_at file entry - 2) file small)
+    inside false false entry = small
 
 -- a saved program's text is a script of the statements that its tokens are
 pub tokens_are_statements : LinesHaveLexemes → LexemesAreFound → TokensAreStatements

@@ -1,15 +1,18 @@
 -- petcat's text has one text of a script, or one fault, and never both.
 use Rattle.std.proofs.Common.{◌≡◌, ℕ, suc, Bool, true, false, List, [], ◌∷◌, ◌++◌, length, refl, ap, sym, ◌∙◌, arith, subst, ◌⊎◌, inl, inr, None, Some}
+use Rattle.std.specs.List.{list_all}
 use Rattle.pr_basic.specs.Grammar.{without_return}
 use Rattle.pr_listing.specs.Listing.{quoted_text, string_text}
-use Rattle.pr_listing.specs.Names.{named}
-use Rattle.pr_listing.specs.Typed.{AreLinesFault, Character, HasLineText, HasText, HaveLinesText, HaveText, IsLineFault, IsTypedFault, IsPieceFault, Name, Piece, at_place, byte_of, front_of, is_in_braces, quoted_after, remark_of, repeated, spelled}
+use Rattle.pr_listing.specs.Names.{bracketed}
+use Rattle.pr_listing.specs.Typed.{AreLinesFault, Character, HasLineText, HasText, HaveLinesText, HaveText, IsLineFault, IsTypedFault, IsPieceFault, Name, Piece, at_place, begun, begun_in, brackets_of, byte_of, closing, front_of, is_within, opening, quoted_after, remark_of, repeated, spelled}
 use Rattle.pr_listing.specs.declared.fault.ListingFault.{ListingFault}
+use Rattle.pr_listing.specs.declared.names.Brackets.{Brackets}
 use Rattle.pr_listing.specs.declared.names.Spelling.{Spelling}
 use Rattle.pr_listing.specs.declared.names.Spelling.TheVariants as spelling
 use Rattle.pr_listing.specs.declared.typed.PieceFault.{PieceFault}
 use Rattle.pr_listing.specs.declared.typed.PieceFault.TheVariants as piece
 use Rattle.pr_listing.proofs.Marks.{first_mark}
+use Rattle.pr_listing.proofs.PieceLemmas.{closing_fails}
 
 -- no piece follows: the bytes end, or no piece of a string is there
 abbrev pub IsEnd : Spelling → Bool → List ℕ → Type 0
@@ -18,16 +21,25 @@ IsEnd w q bytes = (bytes ≡ []) ⊎ ((q ≡ true) × ((f : PieceFault) × IsPie
 -- a piece at the front of the bytes, with its text and the bytes after it
 pub record IsPieceAt (w : Spelling) (q : Bool) (p : Piece) (bytes text after : List ℕ) : Type 0 where
   pub cut : bytes ≡ spelled p after
+  pub begins : brackets_of p ≡ begun_in w q bytes
   pub has : HasText w q p text
-
--- a brace is no character of a string
-no_brace : (w : Spelling) → (b : ℕ) → byte_of w 123 ≡ Some b → ⊥
-no_brace spelling.Petcat b h = cc
-no_brace spelling.Magazine b h = cc
 
 -- a character is one byte
 one_byte : (w : Spelling) → (c b d : ℕ) → byte_of w c ≡ Some b → byte_of w c ≡ Some d → b ≡ d
 one_byte w c b d h k = let e : Some b ≡ Some d = sym h ∙ k in cc
+
+-- in the same brackets is one name
+same_name : (w : Spelling) (l : Brackets) (n o bytes t u after behind : List ℕ) → IsPieceAt w true (Name l n) bytes t after → IsPieceAt w true (Name l o) bytes u behind → (Name l n ≡ Name l o) × (t ≡ u) × (after ≡ behind)
+same_name w l n o bytes t u after behind h k =
+    let same : opening l ∷ (n ++ closing l ∷ after) ≡ opening l ∷ (o ++ closing l ∷ behind) = sym h.cut ∙ k.cut in
+    let more : n ++ closing l ∷ after ≡ o ++ closing l ∷ behind = cc in
+    let both : (n ≡ o) × (after ≡ behind) = first_mark (is_within l) (closing l) (closing_fails l) n o after behind h.has.3 k.has.3 more in
+    let name : n ≡ o = both.0 in
+    let said : Some (h.has.0, h.has.1) ≡ Some (k.has.0, k.has.1) = sym h.has.2 ∙ (ap (bracketed w l) name ∙ k.has.2) in
+    let pair : (h.has.0, h.has.1) ≡ (k.has.0, k.has.1) = cc in
+    let count : h.has.0 ≡ k.has.0 = ap (λ (v : ℕ × ℕ). v.0) pair in
+    let byte : h.has.1 ≡ k.has.1 = ap (λ (v : ℕ × ℕ). v.1) pair in
+    (ap (Name l) name, h.has.4 ∙ (ap (λ v. repeated v (string_text h.has.1)) count ∙ (ap (λ v. repeated k.has.0 (string_text v)) byte ∙ sym k.has.4)), both.1)
 
 -- at the front of bytes is one piece
 one_piece : (w : Spelling) → (q : Bool) (p o : Piece) (bytes t u after behind : List ℕ) → IsPieceAt w q p bytes t after → IsPieceAt w q o bytes u behind → (p ≡ o) × (t ≡ u) × (after ≡ behind)
@@ -36,46 +48,40 @@ one_piece w false (Character c) (Character d) bytes t u after behind h k =
     let first : c ≡ d = cc in
     let more : after ≡ behind = cc in
     (ap Character first, h.has ∙ (ap (λ v. v ∷ []) first ∙ sym k.has), more)
-one_piece w false (Character c) (Name o) bytes t u after behind h k = absurd k.has
-one_piece w false (Name n) o bytes t u after behind h k = absurd h.has
+one_piece w false (Character c) (Name l o) bytes t u after behind h k = absurd k.has
+one_piece w false (Name l n) o bytes t u after behind h k = absurd h.has
 one_piece w true (Character c) (Character d) bytes t u after behind h k =
     let same : c ∷ after ≡ d ∷ behind = sym h.cut ∙ k.cut in
     let first : c ≡ d = cc in
     let more : after ≡ behind = cc in
     let byte : h.has.0 ≡ k.has.0 = one_byte w c h.has.0 k.has.0 h.has.1 (ap (byte_of w) first ∙ k.has.1) in
     (ap Character first, h.has.2 ∙ (ap quoted_text byte ∙ sym k.has.2), more)
-one_piece w true (Character c) (Name o) bytes t u after behind h k =
-    let same : c ∷ after ≡ 123 ∷ (o ++ 125 ∷ behind) = sym h.cut ∙ k.cut in
-    let first : c ≡ 123 = cc in
-    absurd (no_brace w h.has.0 (ap (byte_of w) (sym first) ∙ h.has.1))
-one_piece w true (Name n) (Character d) bytes t u after behind h k =
-    let same : 123 ∷ (n ++ 125 ∷ after) ≡ d ∷ behind = sym h.cut ∙ k.cut in
-    let first : d ≡ 123 = cc in
-    absurd (no_brace w k.has.0 (ap (byte_of w) (sym first) ∙ k.has.1))
-one_piece w true (Name n) (Name o) bytes t u after behind h k =
-    let same : 123 ∷ (n ++ 125 ∷ after) ≡ 123 ∷ (o ++ 125 ∷ behind) = sym h.cut ∙ k.cut in
-    let more : n ++ 125 ∷ after ≡ o ++ 125 ∷ behind = cc in
-    let both : (n ≡ o) × (after ≡ behind) = first_mark is_in_braces 125 refl n o after behind h.has.3 k.has.3 more in
-    let name : n ≡ o = both.0 in
-    let said : Some (h.has.0, h.has.1) ≡ Some (k.has.0, k.has.1) = sym h.has.2 ∙ (ap (named w) name ∙ k.has.2) in
-    let pair : (h.has.0, h.has.1) ≡ (k.has.0, k.has.1) = cc in
-    let count : h.has.0 ≡ k.has.0 = ap (λ (v : ℕ × ℕ). v.0) pair in
-    let byte : h.has.1 ≡ k.has.1 = ap (λ (v : ℕ × ℕ). v.1) pair in
-    (ap Name name, h.has.4 ∙ (ap (λ v. repeated v (string_text h.has.1)) count ∙ (ap (λ v. repeated k.has.0 (string_text v)) byte ∙ sym k.has.4)), both.1)
+one_piece w true (Character c) (Name l o) bytes t u after behind h k =
+    let same : None ≡ Some l = h.begins ∙ sym k.begins in
+    cc
+one_piece w true (Name l n) (Character d) bytes t u after behind h k =
+    let same : Some l ≡ None = h.begins ∙ sym k.begins in
+    cc
+one_piece w true (Name l n) (Name r o) bytes t u after behind h k =
+    let both : Some l ≡ Some r = h.begins ∙ sym k.begins in
+    let kind : r ≡ l = cc in
+    let same : (Name l n ≡ Name l o) × (t ≡ u) × (after ≡ behind) =
+    same_name w l n o bytes t u after behind h (subst (λ (v : Brackets). IsPieceAt w true (Name v o) bytes u behind) kind k) in
+    (same.0 ∙ ap (λ v. Name v o) (sym kind), same.1, same.2)
 
 -- no piece is at an end
 no_piece : (w : Spelling) → (q : Bool) (p : Piece) (bytes t after : List ℕ) → IsPieceAt w q p bytes t after → IsEnd w q bytes → ⊥
 no_piece w q (Character c) bytes t after h (inl e) = let same : c ∷ after ≡ [] = sym h.cut ∙ e in cc
-no_piece w q (Name n) bytes t after h (inl e) = let same : 123 ∷ (n ++ 125 ∷ after) ≡ [] = sym h.cut ∙ e in cc
+no_piece w q (Name l n) bytes t after h (inl e) = let same : opening l ∷ (n ++ closing l ∷ after) ≡ [] = sym h.cut ∙ e in cc
 no_piece w false p bytes t after h (inr (e, k)) = cc
 no_piece w true (Character c) bytes t after h (inr (e, (piece.UnknownName, k))) =
-    let same : c ∷ after ≡ 123 ∷ k.0 = sym h.cut ∙ k.1 in
-    let first : c ≡ 123 = cc in
-    no_brace w h.has.0 (ap (byte_of w) (sym first) ∙ h.has.1)
-no_piece w true (Name n) bytes t after h (inr (e, (piece.UnknownName, k))) =
-    let same : 123 ∷ (n ++ 125 ∷ after) ≡ 123 ∷ k.0 = sym h.cut ∙ k.1 in
-    let more : k.0 ≡ n ++ 125 ∷ after = cc in
-    let none : named w n ≡ None = k.2 n after more h.has.3 in
+    let same : None ≡ Some k.0 = h.begins ∙ sym k.1 in
+    cc
+no_piece w true (Name l n) bytes t after h (inr (e, (piece.UnknownName, k))) =
+    let both : Some l ≡ Some k.0 = h.begins ∙ sym k.1 in
+    let kind : k.0 ≡ l = cc in
+    let none : bracketed w l n ≡ None =
+    subst (λ (v : Brackets). (name rest : List ℕ) → bytes ≡ spelled (Name v name) rest → list_all (is_within v) name ≡ true → bracketed w v name ≡ None) kind k.2 n after h.cut h.has.3 in
     let some : None ≡ Some (h.has.0, h.has.1) = sym none ∙ h.has.2 in
     cc
 no_piece w true (Character c) bytes t after h (inr (e, (piece.BadByte, k))) =
@@ -83,32 +89,31 @@ no_piece w true (Character c) bytes t after h (inr (e, (piece.BadByte, k))) =
     let first : c ≡ k.0 = cc in
     let none : None ≡ Some h.has.0 = sym k.4 ∙ (ap (byte_of w) (sym first) ∙ h.has.1) in
     cc
-no_piece w true (Name n) bytes t after h (inr (e, (piece.BadByte, k))) =
-    let same : 123 ∷ (n ++ 125 ∷ after) ≡ k.0 ∷ k.1 = sym h.cut ∙ k.2 in
-    let first : k.0 ≡ 123 = cc in
-    k.3 first
+no_piece w true (Name l n) bytes t after h (inr (e, (piece.BadByte, k))) =
+    let same : Some l ≡ None = h.begins ∙ sym k.3 in
+    cc
 no_piece w true p bytes t after h (inr (e, (piece.NoMemory, k))) = absurd k
 
 -- pieces up to an end are the same, and so are their text and the end
 one_end : (w : Spelling) → (q : Bool) (ps os : List Piece) (bytes t u : List ℕ) (m n : Bool) (rest left : List ℕ) → HaveText w q ps bytes t m rest → HaveText w q os bytes u n left → IsEnd w m rest → IsEnd w n left → (t ≡ u) × (m ≡ n) × (rest ≡ left)
 one_end w q [] [] bytes t u m n rest left h k e f = (h.0 ∙ sym k.0, h.1 ∙ sym k.1, sym h.2 ∙ k.2)
 one_end w q [] (o ∷ os) bytes t u m n rest left h k e f =
-    let at : IsPieceAt w q o bytes k.1 k.0 = record { cut = k.3; has = k.4 } in
+    let at : IsPieceAt w q o bytes k.1 k.0 = record { cut = k.3; begins = k.4; has = k.5 } in
     let ends : IsEnd w q bytes = subst (λ (v : Bool). IsEnd w v bytes) h.1 (subst (IsEnd w m) (sym h.2) e) in
     absurd (no_piece w q o bytes k.1 k.0 at ends)
 one_end w q (p ∷ ps) [] bytes t u m n rest left h k e f =
-    let at : IsPieceAt w q p bytes h.1 h.0 = record { cut = h.3; has = h.4 } in
+    let at : IsPieceAt w q p bytes h.1 h.0 = record { cut = h.3; begins = h.4; has = h.5 } in
     let ends : IsEnd w q bytes = subst (λ (v : Bool). IsEnd w v bytes) k.1 (subst (IsEnd w n) (sym k.2) f) in
     absurd (no_piece w q p bytes h.1 h.0 at ends)
 one_end w q (p ∷ ps) (o ∷ os) bytes t u m n rest left h k e f =
-    let at : IsPieceAt w q p bytes h.1 h.0 = record { cut = h.3; has = h.4 } in
-    let too : IsPieceAt w q o bytes k.1 k.0 = record { cut = k.3; has = k.4 } in
+    let at : IsPieceAt w q p bytes h.1 h.0 = record { cut = h.3; begins = h.4; has = h.5 } in
+    let too : IsPieceAt w q o bytes k.1 k.0 = record { cut = k.3; begins = k.4; has = k.5 } in
     let first : (p ≡ o) × (h.1 ≡ k.1) × (h.0 ≡ k.0) = one_piece w q p o bytes h.1 k.1 h.0 k.0 at too in
     let same : HaveText w (quoted_after q p) os h.0 k.2 n left =
-    subst (λ (v : Piece). HaveText w (quoted_after q v) os h.0 k.2 n left) (sym first.0) (subst (λ (v : List ℕ). HaveText w (quoted_after q o) os v k.2 n left) (sym first.2) k.6) in
-    let more : (h.2 ≡ k.2) × (m ≡ n) × (rest ≡ left) = one_end w (quoted_after q p) ps os h.0 h.2 k.2 m n rest left h.6 same e f in
+    subst (λ (v : Piece). HaveText w (quoted_after q v) os h.0 k.2 n left) (sym first.0) (subst (λ (v : List ℕ). HaveText w (quoted_after q o) os v k.2 n left) (sym first.2) k.7) in
+    let more : (h.2 ≡ k.2) × (m ≡ n) × (rest ≡ left) = one_end w (quoted_after q p) ps os h.0 h.2 k.2 m n rest left h.7 same e f in
     let texts : h.1 ++ h.2 ≡ k.1 ++ k.2 = ap (λ v. v ++ h.2) first.1 ∙ ap (λ v. k.1 ++ v) more.0 in
-    (h.5 ∙ (texts ∙ sym k.5), more.1, more.2)
+    (h.6 ∙ (texts ∙ sym k.6), more.1, more.2)
 
 -- a line has one text
 one_line : (w : Spelling) → (line t u : List ℕ) → HasLineText w line t → HasLineText w line u → t ≡ u
@@ -131,20 +136,25 @@ one_text w (l ∷ ls) t u h k =
 piece_one_fault : (w : Spelling) → (f g : PieceFault) (bytes : List ℕ) → IsPieceFault w f bytes → IsPieceFault w g bytes → f ≡ g
 piece_one_fault w piece.UnknownName piece.UnknownName bytes h k = refl
 piece_one_fault w piece.UnknownName piece.BadByte bytes h k =
-    let same : 123 ∷ h.0 ≡ k.0 ∷ k.1 = sym h.1 ∙ k.2 in
-    let first : k.0 ≡ 123 = cc in
-    absurd (k.3 first)
+    let same : Some h.0 ≡ None = h.1 ∙ sym k.3 in
+    cc
 piece_one_fault w piece.BadByte piece.UnknownName bytes h k =
-    let same : 123 ∷ k.0 ≡ h.0 ∷ h.1 = sym k.1 ∙ h.2 in
-    let first : h.0 ≡ 123 = cc in
-    absurd (h.3 first)
+    let same : None ≡ Some k.0 = h.3 ∙ sym k.1 in
+    cc
 piece_one_fault w piece.BadByte piece.BadByte bytes h k = refl
 piece_one_fault w piece.NoMemory g bytes h k = absurd h
 piece_one_fault w f piece.NoMemory bytes h k = absurd k
 
+-- no brackets begin at the end of the bytes
+none_begun : (w : Spelling) → begun w [] ≡ None
+none_begun spelling.Petcat = refl
+none_begun spelling.Magazine = refl
+
 -- no fault is at the end of the bytes
 none_at_end : (w : Spelling) → (f : PieceFault) (bytes : List ℕ) → IsPieceFault w f bytes → bytes ≡ [] → ⊥
-none_at_end w piece.UnknownName bytes h e = let same : 123 ∷ h.0 ≡ [] = sym h.1 ∙ e in cc
+none_at_end w piece.UnknownName bytes h e =
+    let same : Some h.0 ≡ None = h.1 ∙ ap (begun w) e ∙ none_begun w in
+    cc
 none_at_end w piece.BadByte bytes h e = let same : h.0 ∷ h.1 ≡ [] = sym h.2 ∙ e in cc
 none_at_end w piece.NoMemory bytes h e = absurd h
 

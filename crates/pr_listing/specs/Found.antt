@@ -1,16 +1,12 @@
 -- Trusted: the form of a listing by its first bytes, where nobody names it.
-use Rattle.std.specs.Prelude.{ℕ, ◌+◌, ◌*◌, ◌&&◌, ◌||◌, ◌==◌, not, Bool, false, List, Option, length, drop, find, slice_index_or, nat_lt, if◌then◌else◌}
+use Rattle.std.specs.Prelude.{ℕ, ◌+◌, ◌&&◌, ◌||◌, ◌==◌, not, Bool, false, List, Option, length, drop, find, nat_lt, if◌then◌else◌}
 use Rattle.std.specs.List.{prefix_len}
 use Rattle.std.specs.Option.{option_map_or}
-use Rattle.pr_listing.specs.Containers.{is_p00, is_t64}
+use Rattle.pr_listing.specs.Containers.{address_at, is_p00, is_t64}
 use Rattle.pr_listing.specs.Hints.{begins_saved}
 use Rattle.pr_listing.specs.Program.{is_not_zero}
 use Rattle.pr_listing.specs.declared.form.ListingForm.{ListingForm}
 use Rattle.pr_listing.specs.declared.form.ListingForm.TheVariants.{Petcat, Program, Text}
-
--- the address that two bytes at a place are, the low one first
-abbrev pub address_at : ℕ → List ℕ → ℕ
-address_at place bytes = slice_index_or bytes place 0 + 256 * slice_index_or bytes (place + 1) 0
 
 -- bytes begin with a load address and a line of a saved program, with its link, its number, its own
 -- bytes and a 0, and the link is the address after that 0

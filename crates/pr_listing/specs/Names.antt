@@ -1,10 +1,12 @@
--- Trusted: the names of bytes in braces, as petcat writes them and as magazines print them.
-use Rattle.std.specs.Prelude.{ℕ, ◌+◌, ◌-◌, ◌*◌, ◌&&◌, ◌||◌, ◌==◌, Bool, List, [], ◌∷◌, Option, None, Some, length, map, option_map, slice_index_or, take, drop, nat_le, nat_lt, if◌then◌else◌}
+-- Trusted: the names of bytes in brackets, as petcat writes them and as magazines print them.
+use Rattle.std.specs.Prelude.{ℕ, ◌+◌, ◌-◌, ◌*◌, ◌&&◌, ◌||◌, ◌==◌, Bool, List, [], ◌∷◌, ◌++◌, Option, None, Some, codes, length, map, option_map, slice_index_or, take, drop, nat_le, nat_lt, if◌then◌else◌}
 use Rattle.std.specs.Char.{to_ascii_lowercase}
 use Rattle.std.specs.List.{position_from, prefix_len}
 use Rattle.std.specs.Str.{bytes_eq}
 use Rattle.pr_base.specs.Digits.{is_digit, number_of}
 use Rattle.pr_base.specs.Lines.{lines_of}
+use Rattle.pr_listing.specs.declared.names.Brackets.{Brackets}
+use Rattle.pr_listing.specs.declared.names.Brackets.TheVariants.{Curly, Square}
 use Rattle.pr_listing.specs.declared.names.Spelling.{Spelling}
 use Rattle.pr_listing.specs.declared.names.Spelling.TheVariants.{Magazine, Petcat}
 use Rattle.pr_listing.specs.declared.names.TheConstants.{MAGAZINE_BYTES, MAGAZINE_NAMES, NAMES}
@@ -85,16 +87,44 @@ abbrev pub times : ℕ → Option ℕ → Option (ℕ × ℕ)
 times count None = None
 times count (Some b) = Some (count, b)
 
--- what follows a count of 1 to 255: a space, and a name
-abbrev pub counted : Spelling → ℕ → List ℕ → Option (ℕ × ℕ)
-counted spelling count (space ∷ name) =
-    if (space == 32) && (nat_le 1 count && nat_le count 255)
-    then times count (byte_counted spelling name) else None
-counted spelling count [] = None
+-- a count of 1 to 255 in front of a name, and the name, with a space between them
+unfoldable pub cut_count : List ℕ → Option (ℕ × List ℕ)
+cut_count bytes =
+    let digits = prefix_len is_digit bytes in
+    let count = number_of (take digits bytes) in
+    let rest = drop digits bytes in
+    if (slice_index_or rest 0 0 == 32) && (nat_le 1 count && nat_le count 255)
+    then Some (count, drop 1 rest) else None
 
--- how many times a name stands for a byte, and the byte: once, or by a count in front of the name
+-- that many times the byte of that name
+abbrev pub counted : (List ℕ → Option ℕ) → Option (ℕ × List ℕ) → Option (ℕ × ℕ)
+counted byte None = None
+counted byte (Some (count, name)) = times count (byte name)
+
+-- how many times a name in braces stands for a byte, and the byte: once, or by a count in front of the name
 unfoldable pub named : Spelling → List ℕ → Option (ℕ × ℕ)
 named spelling name =
-    let digits = prefix_len is_digit name in
-    if digits == 0 then times 1 (byte_named spelling name)
-    else counted spelling (number_of (take digits name)) (drop digits name)
+    if prefix_len is_digit name == 0 then times 1 (byte_named spelling name)
+    else counted (byte_counted spelling) (cut_count name)
+
+-- the byte of a key with the Commodore key, as `{CBM-A}` or `{COMD 5}` in braces
+unfoldable pub key_byte : List ℕ → Option ℕ
+key_byte (key ∷ []) =
+    or_else (magazine_byte (codes "cbm-" ++ key ∷ [])) (magazine_byte (codes "comd " ++ key ∷ []))
+key_byte key = None
+
+-- how many times a key stands for that byte, and the byte: once, or by a count in front of the key
+unfoldable pub keyed : List ℕ → Option (ℕ × ℕ)
+keyed key = if length key == 1 then times 1 (key_byte key) else counted key_byte (cut_count key)
+
+-- a key of a magazine has `<` and `>` around it
+abbrev pub has_angles : List ℕ → Bool
+has_angles name =
+    nat_lt 1 (length name)
+    && ((slice_index_or name 0 0 == 60) && (slice_index_or name (length name - 1) 0 == 62))
+
+-- how many times what is in brackets stands for a byte, and the byte: in braces a name, in square ones a key
+unfoldable pub bracketed : Spelling → Brackets → List ℕ → Option (ℕ × ℕ)
+bracketed spelling Curly name = named spelling name
+bracketed spelling Square name =
+    if has_angles name then keyed (take (length name - 2) (drop 1 name)) else None

@@ -3,30 +3,33 @@ use Rattle.std.specs.Prelude.{◌≡◌, IsTrue, ℕ, suc, ◌+◌, Bool, true, 
 use Rattle.std.specs.List.{list_all}
 use Rattle.pr_base.specs.Lines.{lines_of}
 use Rattle.pr_listing.specs.Listing.{string_text}
-use Rattle.pr_listing.specs.Names.{named}
-use Rattle.pr_listing.specs.Typed.{HasLineText, HasText, HaveLinesText, HaveText, IsPieceFault, Piece, is_in_braces, quoted_after, repeated, spelled}
+use Rattle.pr_listing.specs.Names.{bracketed}
+use Rattle.pr_listing.specs.Typed.{HasLineText, HasText, HaveLinesText, HaveText, IsPieceFault, Piece, begun_in, brackets_of, closing, is_within, quoted_after, repeated, spelled}
+use Rattle.pr_listing.specs.declared.names.Brackets.{Brackets}
 use Rattle.pr_listing.specs.declared.names.Spelling.{Spelling}
 use Rattle.pr_listing.specs.declared.typed.PieceFault.{PieceFault}
 
--- a name and its brace are taken from the bytes, and its text is added
-pub record IsNameTaken (spelling : Spelling) (bytes rest old new : List ℕ) : Type 0 where
+-- a name and the end of its brackets are taken from the bytes, and its text is added
+pub record IsNameTaken (spelling : Spelling) (brackets : Brackets) (bytes rest old new : List ℕ) : Type 0 where
   pub name : List ℕ
   pub count : ℕ
   pub byte : ℕ
-  pub cut : bytes ≡ name ++ 125 ∷ rest
-  pub closed : IsTrue (list_all is_in_braces name)
-  pub known : named spelling name ≡ Some (count, byte)
+  pub cut : bytes ≡ name ++ closing brackets ∷ rest
+  pub closed : IsTrue (list_all (is_within brackets) name)
+  pub known : bracketed spelling brackets name ≡ Some (count, byte)
   pub is_text : new ≡ old ++ repeated count (string_text byte)
 
--- no name and its brace are at the front of the bytes
-abbrev pub IsNoName : Spelling → List ℕ → Type 0
-IsNoName spelling bytes = (name rest : List ℕ) → bytes ≡ name ++ 125 ∷ rest → IsTrue (list_all is_in_braces name) → named spelling name ≡ None
+-- no known name and the end of its brackets are at the front of the bytes
+abbrev pub IsNoName : Spelling → Brackets → List ℕ → Type 0
+IsNoName spelling brackets bytes = (name rest : List ℕ) → bytes ≡ name ++ closing brackets ∷ rest
+    → IsTrue (list_all (is_within brackets) name) → bracketed spelling brackets name ≡ None
 
 -- a piece is taken from the bytes, and its text is added
 pub record IsPieceTaken (spelling : Spelling) (quoted : Bool) (bytes rest : List ℕ) (in_string : Bool) (old new : List ℕ) : Type 0 where
   pub piece : Piece
   pub said : List ℕ
   pub cut : bytes ≡ spelled piece rest
+  pub begins : brackets_of piece ≡ begun_in spelling quoted bytes
   pub has : HasText spelling quoted piece said
   pub goes_on : in_string ≡ quoted_after quoted piece
   pub is_text : new ≡ old ++ said

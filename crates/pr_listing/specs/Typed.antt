@@ -1,32 +1,64 @@
 -- Trusted: a listing as petcat writes it or a magazine prints it, and the script text that it stands for.
-use Rattle.std.specs.Prelude.{◌≡◌, ◌≢◌, IsTrue, ℕ, zero, suc, ◌+◌, ◌-◌, ◌⊎◌, ◌&&◌, ◌==◌, not, Bool, true, false, List, [], ◌∷◌, ◌++◌, Option, None, Some, length, map, take, drop, codes, nat_le, if◌then◌else◌}
+use Rattle.std.specs.Prelude.{◌≡◌, IsTrue, ℕ, zero, suc, ◌+◌, ◌-◌, ◌⊎◌, ◌&&◌, ◌==◌, not, Bool, true, false, List, [], ◌∷◌, ◌++◌, Option, None, Some, length, map, take, drop, codes, nat_le, slice_index_or, if◌then◌else◌}
 use Rattle.std.specs.Char.{to_ascii_lowercase}
 use Rattle.std.specs.List.{list_all}
 use Rattle.std.specs.Str.{bytes_eq}
 use Rattle.pr_base.specs.Lines.{lines_of}
 use Rattle.pr_basic.specs.Grammar.{without_return}
 use Rattle.pr_listing.specs.Listing.{quoted_text, string_text}
-use Rattle.pr_listing.specs.Names.{named}
+use Rattle.pr_listing.specs.Names.{bracketed}
 use Rattle.pr_listing.specs.declared.fault.ListingFault.{ListingFault}
 use Rattle.pr_listing.specs.declared.fault.ListingFault.TheVariants.{BadByte, NoMemory, UnknownName}
+use Rattle.pr_listing.specs.declared.names.Brackets.{Brackets}
+use Rattle.pr_listing.specs.declared.names.Brackets.TheVariants.{Curly, Square}
 use Rattle.pr_listing.specs.declared.names.Spelling.{Spelling}
 use Rattle.pr_listing.specs.declared.names.Spelling.TheVariants.{Magazine, Petcat}
 use Rattle.pr_listing.specs.declared.typed.PieceFault.{PieceFault}
 use Rattle.pr_listing.specs.declared.typed.PieceFault.TheVariants as piece
 
--- a piece of a line: a character, or a name in braces
+-- the byte that begins brackets, and the one that ends them
+abbrev pub opening : Brackets → ℕ
+opening Curly = 123
+opening Square = 91
+
+abbrev pub closing : Brackets → ℕ
+closing Curly = 125
+closing Square = 93
+
+-- a piece of a line: a character, or a name in brackets
 pub data Piece : Type 0 where
   Character : ℕ → Piece
-  Name : List ℕ → Piece
+  Name : Brackets → List ℕ → Piece
 
 -- a piece's bytes in the listing, and the bytes after it
 abbrev pub spelled : Piece → List ℕ → List ℕ
 spelled (Character c) after = c ∷ after
-spelled (Name name) after = 123 ∷ name ++ 125 ∷ after
+spelled (Name brackets name) after = opening brackets ∷ name ++ closing brackets ∷ after
 
--- any byte but `}`
-abbrev pub is_in_braces : ℕ → Bool
-is_in_braces b = not (b == 125)
+-- the brackets of a piece
+abbrev pub brackets_of : Piece → Option Brackets
+brackets_of (Character c) = None
+brackets_of (Name brackets name) = Some brackets
+
+-- any byte but the one that ends brackets
+abbrev pub is_within : Brackets → ℕ → Bool
+is_within brackets b = not (b == closing brackets)
+
+-- a magazine has keys in `[<` and `>]`
+abbrev pub has_keys : Spelling → Bool
+has_keys Petcat = false
+has_keys Magazine = true
+
+-- the brackets that begin here in a string: `{`, or `[` before `<`
+abbrev pub begun : Spelling → List ℕ → Option Brackets
+begun spelling bytes =
+    if slice_index_or bytes 0 0 == 123 then Some Curly
+    else (if has_keys spelling && ((slice_index_or bytes 0 0 == 91) && (slice_index_or bytes 1 0 == 60))
+    then Some Square else None)
+
+-- the same in a string or not: outside strings no brackets begin
+abbrev pub begun_in : Spelling → Bool → List ℕ → Option Brackets
+begun_in spelling quoted bytes = if quoted then begun spelling bytes else None
 
 -- the computer's byte of a character of a string: in petcat's text letters change their case; a magazine
 -- has capitals alone, which are the computer's own
@@ -46,22 +78,25 @@ repeated (suc n) text = repeated n text ++ text
 -- string a byte, or as many bytes as the name says
 abbrev pub HasText : Spelling → Bool → Piece → List ℕ → Type 0
 HasText spelling false (Character c) text = text ≡ c ∷ []
-HasText spelling false (Name name) text = ⊥
+HasText spelling false (Name brackets name) text = ⊥
 HasText spelling true (Character c) text = (b : ℕ) × (byte_of spelling c ≡ Some b) × (text ≡ quoted_text b)
-HasText spelling true (Name name) text = (count : ℕ) × (b : ℕ) × (named spelling name ≡ Some (count, b))
-    × IsTrue (list_all is_in_braces name) × (text ≡ repeated count (string_text b))
+HasText spelling true (Name brackets name) text = (count : ℕ) × (b : ℕ)
+    × (bracketed spelling brackets name ≡ Some (count, b))
+    × IsTrue (list_all (is_within brackets) name) × (text ≡ repeated count (string_text b))
 
 -- whether the next piece is in a string
 abbrev pub quoted_after : Bool → Piece → Bool
 quoted_after quoted (Character c) = if c == 34 then not quoted else quoted
-quoted_after quoted (Name name) = quoted
+quoted_after quoted (Name brackets name) = quoted
 
--- pieces, one after another, have this script text; `rest` are the bytes after them, in a string or not
+-- pieces, one after another, have this script text, and each is in brackets where they begin; `rest` are the bytes
+-- after them, in a string or not
 abbrev pub HaveText : Spelling → Bool → List Piece → List ℕ → List ℕ → Bool → List ℕ → Type 0
 HaveText spelling quoted [] bytes text in_string rest = (text ≡ []) × (in_string ≡ quoted) × (bytes ≡ rest)
 HaveText spelling quoted (p ∷ ps) bytes text in_string rest =
     (after : List ℕ) × (first : List ℕ) × (more : List ℕ)
-    × (bytes ≡ spelled p after) × HasText spelling quoted p first × (text ≡ first ++ more)
+    × (bytes ≡ spelled p after) × (brackets_of p ≡ begun_in spelling quoted bytes)
+    × HasText spelling quoted p first × (text ≡ first ++ more)
     × HaveText spelling (quoted_after quoted p) ps after more in_string rest
 
 -- a remark begins here
@@ -103,14 +138,15 @@ HaveLinesText spelling (l ∷ ls) text = (first : List ℕ) × (more : List ℕ)
 abbrev pub IsTypedText : Spelling → List ℕ → List ℕ → Type 0
 IsTypedText spelling file text = HaveLinesText spelling (lines_of file) text
 
--- no piece of a string is at the front of the bytes: the name in braces is not known, or the brace is
+-- no piece of a string is at the front of the bytes: what is in the brackets is not known, or the brackets are
 -- not closed; or no string has this byte
 abbrev pub IsPieceFault : Spelling → PieceFault → List ℕ → Type 0
-IsPieceFault spelling piece.UnknownName bytes = (after : List ℕ) × (bytes ≡ 123 ∷ after)
-    × ((name rest : List ℕ) → after ≡ name ++ 125 ∷ rest → IsTrue (list_all is_in_braces name)
-    → named spelling name ≡ None)
-IsPieceFault spelling piece.BadByte bytes = (c : ℕ) × (after : List ℕ) × (bytes ≡ c ∷ after) × (c ≢ 123)
-    × (byte_of spelling c ≡ None)
+IsPieceFault spelling piece.UnknownName bytes = (brackets : Brackets)
+    × (Some brackets ≡ begun spelling bytes)
+    × ((name rest : List ℕ) → bytes ≡ spelled (Name brackets name) rest
+    → IsTrue (list_all (is_within brackets) name) → bracketed spelling brackets name ≡ None)
+IsPieceFault spelling piece.BadByte bytes = (c : ℕ) × (after : List ℕ) × (bytes ≡ c ∷ after)
+    × (None ≡ begun spelling bytes) × (byte_of spelling c ≡ None)
 IsPieceFault spelling piece.NoMemory bytes = ⊥
 
 -- the first fault of a line: pieces, and after them, in a string, no piece; `column` is the number

@@ -19,7 +19,7 @@ pub enum ListingFault {
     #[error("line {0}: cut off")]
     CutOff(usize),
     /// In a string of petcat's text or of a magazine's listing, at this line and this column: a brace
-    /// with no name in it that they have, or without its other brace.
+    /// with no name in it that they have, or without its other brace; so for a magazine's `[<`.
     #[error("line {0}, column {1}: unknown name")]
     UnknownName(usize, usize),
     /// In a string of petcat's text or of a magazine's listing, at this line and this column: a byte

@@ -1,23 +1,15 @@
 //! The form of a listing, by its first bytes.
 
-ghost use Rattle.std.specs.Prelude.{◌≡◌, ◌+◌, ◌<◌, length};
-ghost use Rattle.pr_listing.specs.Found.{address_at, begins_linked, begins_with_heading, first_printed, found_form, is_blank};
+ghost use Rattle.std.specs.Prelude.{◌≡◌};
+ghost use Rattle.pr_listing.specs.Found.{begins_linked, begins_with_heading, first_printed, found_form, is_blank};
 
-use crate::containers::{is_p00, is_t64};
+use crate::containers::{address_at, is_p00, is_t64};
 use crate::form::ListingForm;
 use crate::hints::looks_saved;
 use crate::program::count_to_zero;
 
 /// How many bytes are before those of the first line: a load address, a link and a number.
 const BEFORE_LINE: usize = 6;
-
-/// The address that two bytes at a place are, the low one first.
-fn address_at(bytes: &[u8], place: usize) -> usize
-    requires { place + 1 < length bytes.now }
-    ensures { result ≡ address_at place bytes.now }
-{
-    usize::from(bytes[place]) + 256 * usize::from(bytes[place + 1])
-}
 
 /// Whether bytes begin with a load address and a line of a saved program, and its link is the address
 /// after that line.

@@ -1,8 +1,8 @@
-//! The names of bytes in braces, as petcat writes them and as magazines print them.
+//! The names of bytes in brackets, as petcat writes them and as magazines print them.
 
-ghost use Rattle.std.specs.Prelude.{◌≡◌, ◌≢◌, ◌≤◌, ◌<◌, ◌∷◌, ℕ, List, length, IsTrue, MatchOption};
+ghost use Rattle.std.specs.Prelude.{◌≡◌, ◌≢◌, ◌≤◌, ◌<◌, None, Some, drop, slice_index_or, IsTrue, MatchOption};
 ghost use Rattle.pr_base.specs.Digits.{number_of};
-ghost use Rattle.pr_listing.specs.Names.{byte_at, byte_counted, byte_named, control_byte, hex_byte, hex_value, is_hex, is_name, magazine_byte, named, own_byte, own_byte_at, petcat_byte, place_of, singular};
+ghost use Rattle.pr_listing.specs.Names.{byte_at, byte_counted, byte_named, bracketed, control_byte, cut_count, has_angles, hex_byte, hex_value, is_hex, is_name, key_byte, keyed, magazine_byte, named, own_byte, own_byte_at, petcat_byte, place_of, singular};
 
 use pr_base::{digit_count, is_digit};
 use pr_basic::cut_line;
@@ -52,6 +52,15 @@ pub enum Spelling {
     Petcat,
     /// A magazine's: capitals are the keys without shift, and there are no small letters.
     Magazine,
+}
+
+/// The brackets around a name in a string.
+#[derive(Clone, Copy, Debug, PartialEq, Eq)]
+pub enum Brackets {
+    /// `{` and `}`, around a name.
+    Curly,
+    /// `[` and `]`, around a magazine's `<A>`: a key with the Commodore key.
+    Square,
 }
 
 /// The byte of the name at a place of [`NAMES`].
@@ -229,7 +238,8 @@ fn count_of(digits: &[u8]) -> Option<u32>
 
 /// The name after a count: a space is before it.
 fn after_space(bytes: &[u8]) -> Option<&[u8]>
-    ensures { MatchOption result ((name : List ℕ) → bytes.now ≢ 32 ∷ name) (λ name. bytes.now ≡ 32 ∷ name.now) }
+    ensures { MatchOption result (slice_index_or bytes.now 0 0 ≢ 32)
+        (λ name. (slice_index_or bytes.now 0 0 ≡ 32) × (name.now ≡ drop 1 bytes.now)) }
 {
     if bytes.is_empty() || bytes[0] != b' ' {
         return None;
@@ -237,22 +247,82 @@ fn after_space(bytes: &[u8]) -> Option<&[u8]>
     Some(&bytes[1..])
 }
 
-/// How many times a name says a byte, and the byte: `down` and `$8e` once, `3 down` three times. A
-/// count is 1 to 255.
-#[tactic(auto, unfolding(crate::specs::Names::named))]
-pub fn named(spelling: Spelling, name: &[u8]) -> Option<(u32, u8)>
-    ensures { result ≡ named spelling name.now }
+/// A count of 1 to 255 in front of a name, and the name, with a space between them.
+#[tactic(auto, unfolding(crate::specs::Names::cut_count))]
+fn cut_count(bytes: &[u8]) -> Option<(u32, &[u8])>
+    ensures { MatchOption result (cut_count bytes.now ≡ None) (λ r. cut_count bytes.now ≡ Some (r.0, r.1.now)) }
 {
-    let n = digit_count(name);
-    if n == 0 {
-        let b = byte_named(spelling, name)?;
-        return Some((1, b));
-    }
-    let count = count_of(&name[..n])?;
+    let n = digit_count(bytes);
+    let count = count_of(&bytes[..n])?;
     if count == 0 {
         return None;
     }
-    let once = after_space(&name[n..])?;
+    let name = after_space(&bytes[n..])?;
+    Some((count, name))
+}
+
+/// How many times a name says a byte, and the byte: `down` and `$8e` once, `3 down` three times. A
+/// count is 1 to 255.
+#[tactic(auto, unfolding(crate::specs::Names::named))]
+fn named(spelling: Spelling, name: &[u8]) -> Option<(u32, u8)>
+    ensures { result ≡ named spelling name.now }
+{
+    if digit_count(name) == 0 {
+        let b = byte_named(spelling, name)?;
+        return Some((1, b));
+    }
+    let (count, once) = cut_count(name)?;
     let b = byte_counted(spelling, once)?;
     Some((count, b))
+}
+
+/// The byte of a key with the Commodore key: a letter or a sign by petcat's name, a digit by RUN's.
+#[tactic(auto, unfolding(crate::specs::Names::key_byte))]
+fn key_byte(key: &[u8]) -> Option<u8>
+    ensures { result ≡ key_byte key.now }
+{
+    if key.len() != 1 {
+        return None;
+    }
+    if let Some(b) = magazine_byte(&[b'c', b'b', b'm', b'-', key[0]]) {
+        return Some(b);
+    }
+    magazine_byte(&[b'c', b'o', b'm', b'd', b' ', key[0]])
+}
+
+/// How many times a key with the Commodore key says a byte, and the byte: `A` and `5` once, `3 A` three times.
+#[tactic(auto, unfolding(crate::specs::Names::keyed))]
+fn keyed(key: &[u8]) -> Option<(u32, u8)>
+    ensures { result ≡ keyed key.now }
+{
+    if key.len() == 1 {
+        let b = key_byte(key)?;
+        return Some((1, b));
+    }
+    let (count, once) = cut_count(key)?;
+    let b = key_byte(once)?;
+    Some((count, b))
+}
+
+/// Whether a key has `<` and `>` around it.
+fn has_angles(name: &[u8]) -> bool
+    ensures { result ≡ has_angles name.now }
+{
+    name.len() > 1 && name[0] == b'<' && name[name.len() - 1] == b'>'
+}
+
+/// How many times what is in brackets says a byte, and the byte: in braces a name, in square ones a key.
+#[tactic(auto, unfolding(crate::specs::Names::bracketed))]
+pub fn bracketed(spelling: Spelling, brackets: Brackets, name: &[u8]) -> Option<(u32, u8)>
+    ensures { result ≡ bracketed spelling brackets name.now }
+{
+    match brackets {
+        Brackets::Curly => named(spelling, name),
+        Brackets::Square => {
+            if !has_angles(name) {
+                return None;
+            }
+            keyed(&name[1..name.len() - 1])
+        }
+    }
 }

@@ -1,6 +1,6 @@
 //! The byte of a saved program that its script's text has at a place.
 
-ghost use Rattle.std.specs.Prelude.{◌≡◌, ◌<◌, ◌^◌, decimal, length};
+ghost use Rattle.std.specs.Prelude.{◌≡◌, ◌<◌, ◌^◌, None, decimal, length};
 ghost use Rattle.pr_listing.specs.Containers.{program_in};
 ghost use Rattle.pr_listing.specs.Listing.{byte_text, plain_text, quoted_text};
 ghost use Rattle.pr_listing.specs.Places.{IsLineAt, byte_in_line, byte_under};
@@ -88,7 +88,8 @@ fn byte_in_line(number: u32, bytes: &[u8], place: usize) -> Option<u8>
 /// after it. None at the line's number and the space after it, at the line's end, and where no such line
 /// is. It reads the file up to that line.
 pub fn program_byte(file: &[u8], number: usize, place: usize) -> Option<u8>
-    ensures { (line : Line) → IsLineAt (program_in file.now) number line → result ≡ byte_in_line line place }
+    ensures there { (line : Line) → IsLineAt (program_in file.now) number line → result ≡ byte_in_line line place }
+    ensures nowhere { ((line : Line) → ¬ IsLineAt (program_in file.now) number line) → result ≡ None }
 {
     if number == 0 {
         return None;

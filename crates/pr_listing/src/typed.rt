@@ -3,19 +3,19 @@
 ghost use Rattle.std.specs.Prelude.{◌≡◌, ◌++◌, ◌≤◌, ◌<◌, ◌∷◌, ◌⊎◌, ◌↔◌, ℕ, [], None, Some, false, length, true, IfErr, IfOk, IsTrue, MatchResult, OnOk};
 ghost use Rattle.std.specs.List.{prefix_len};
 ghost use Rattle.pr_listing.specs.Listing.{quoted_text, string_text};
-ghost use Rattle.pr_listing.specs.Typed.{IsHeading, IsLineFault, IsPieceFault, IsTypedFault, IsTypedText, at_place, before_remark, begins_remark, byte_of, is_in_braces, repeated};
+ghost use Rattle.pr_listing.specs.Typed.{IsHeading, IsLineFault, IsPieceFault, IsTypedFault, IsTypedText, at_place, before_remark, begins_remark, begun, byte_of, closing, has_keys, is_within, repeated};
 ghost use Rattle.pr_listing.specs.Pieces.{IsFrontFault, IsFrontTaken, IsLineTaken, IsNameTaken, IsNoName, IsPieceTaken};
 
 use crate::fault::ListingFault;
 use crate::line::{add_in_string, add_quoted};
-use crate::names::{Spelling, named};
+use crate::names::{Brackets, Spelling, bracketed};
 use pr_basic::{cut_line, without_return};
 use std::alloc::{AllocError, Global};
 
 /// Why no piece of a string is at a place.
 #[derive(Clone, Copy, Debug, PartialEq, Eq)]
 pub enum PieceFault {
-    /// No known name is in the braces, or the brace is not closed.
+    /// No known name is in the brackets, or they are not closed.
     UnknownName,
     /// A byte that no string of this spelling has.
     BadByte,
@@ -62,13 +62,49 @@ fn byte_of(spelling: Spelling, c: u8) -> Option<u8>
     }
 }
 
-/// How many bytes are before the first `}`.
-fn count_to_brace(bytes: &[u8]) -> usize
-    ensures count { result ≡ prefix_len is_in_braces bytes.now }
+/// The byte that ends brackets.
+fn closing(brackets: Brackets) -> u8
+    ensures { result ≡ closing brackets }
+{
+    match brackets {
+        Brackets::Curly => b'}',
+        Brackets::Square => b']',
+    }
+}
+
+/// Whether strings of this spelling have keys in `[<` and `>]`.
+fn has_keys(spelling: Spelling) -> bool
+    ensures { result ≡ has_keys spelling }
+{
+    match spelling {
+        Spelling::Petcat => false,
+        Spelling::Magazine => true,
+    }
+}
+
+/// The brackets that begin at the front of some bytes of a string.
+fn begun(spelling: Spelling, bytes: &[u8]) -> Option<Brackets>
+    ensures { result ≡ begun spelling bytes.now }
+{
+    if bytes.is_empty() {
+        return None;
+    }
+    if bytes[0] == b'{' {
+        return Some(Brackets::Curly);
+    }
+    if has_keys(spelling) && bytes.len() > 1 && bytes[0] == b'[' && bytes[1] == b'<' {
+        return Some(Brackets::Square);
+    }
+    None
+}
+
+/// How many bytes are before the first one that ends brackets.
+fn count_within(brackets: Brackets, bytes: &[u8]) -> usize
+    ensures count { result ≡ prefix_len (is_within brackets) bytes.now }
     ensures within { result ≤ length bytes.now }
 {
     for (i, b) in bytes.iter().enumerate() {
-        if *b == b'}' {
+        if *b == closing(brackets) {
             return i;
         }
     }
@@ -85,21 +121,22 @@ fn add_times(text: &mut Vec<u8>, count: u32, b: u8) -> Result<(), AllocError>
     Ok(())
 }
 
-/// Adds what a name says, of which the first brace is before these bytes. Returns the bytes after it.
+/// Adds what a name says, of which the first bracket is before these bytes. Returns the bytes after it.
 fn add_name<'a>(
     text: &mut Vec<u8>,
     spelling: Spelling,
+    brackets: Brackets,
     bytes: &'a [u8],
 ) -> Result<&'a [u8], PieceFault>
     ensures { MatchResult result
-        (λ rest. IsNameTaken spelling bytes.entry.now rest.now text.old.items text.new.items × (length rest.now < length bytes.entry.now))
-        (λ fault. (fault ≡ PieceFault.NoMemory) ⊎ ((fault ≡ PieceFault.UnknownName) × IsNoName spelling bytes.entry.now)) }
+        (λ rest. IsNameTaken spelling brackets bytes.entry.now rest.now text.old.items text.new.items × (length rest.now < length bytes.entry.now))
+        (λ fault. (fault ≡ PieceFault.NoMemory) ⊎ ((fault ≡ PieceFault.UnknownName) × IsNoName spelling brackets bytes.entry.now)) }
 {
-    let n = count_to_brace(bytes);
+    let n = count_within(brackets, bytes);
     if n == bytes.len() {
         return Err(PieceFault::UnknownName);
     }
-    match named(spelling, &bytes[..n]) {
+    match bracketed(spelling, brackets, &bytes[..n]) {
         None => Err(PieceFault::UnknownName),
         Some((count, b)) => match add_times(text, count, b) {
             Ok(()) => Ok(&bytes[n + 1..]),
@@ -153,12 +190,16 @@ fn add_piece<'a>(
         add_one(text, c)?;
         return Ok((after, c == b'"'));
     }
-    if c == b'{' {
-        let rest = add_name(text, spelling, after)?;
-        return Ok((rest, true));
+    match begun(spelling, bytes) {
+        Some(brackets) => {
+            let rest = add_name(text, spelling, brackets, after)?;
+            Ok((rest, true))
+        }
+        None => {
+            add_character(text, spelling, c)?;
+            Ok((after, c != b'"'))
+        }
     }
-    add_character(text, spelling, c)?;
-    Ok((after, c != b'"'))
 }
 
 /// Adds the pieces of a line. A fault comes with how many bytes are before it.
@@ -247,12 +288,14 @@ fn add_line(text: &mut Vec<u8>, spelling: Spelling, line: &[u8]) -> Result<(), (
 /// case are what the computer has for the other: `a` is byte 65, and `A` is byte 193, which is shifted.
 /// A magazine's string has capitals alone, and `A` is byte 65. A name in braces, in either case, is the
 /// byte that petcat or the magazine writes so, as `{down}`, `{SHIFT-A}` or `{$8e}`; with a count of 1
-/// to 255 and a space before it, as `{3 down}`, it is as many. A line of petcat's text that begins with
-/// `;` is its heading, and no line of the program.
+/// to 255 and a space before it, as `{3 down}`, it is as many. A magazine's `[<A>]` is `{CBM-A}`, `[<5>]`
+/// is `{COMD 5}`, and `[<3 A>]` is three. A line of petcat's text that begins with `;` is its heading, and
+/// no line of the program.
 ///
 /// # Errors
 ///
-/// - [`ListingFault::UnknownName`]: a brace of a string, with no such name in it, or not closed.
+/// - [`ListingFault::UnknownName`]: a brace of a string or a magazine's `[<`, with no such name in it, or not
+///   closed.
 /// - [`ListingFault::BadByte`]: a byte of a string that this spelling does not have, as a small letter
 ///   of a magazine's.
 /// - [`ListingFault::NoMemory`]: memory was refused.

@@ -134,11 +134,13 @@ a semicolon or a tab in its first line. Otherwise it is a trace text, or with
 --names, --invert, --from-time or --rate a table.
 
 Output: a line for each byte, as in a story of `print1525 check`;
-unacknowledged and incomplete bytes (glitches); a summary of all intervals;
-and whether the recording is lawful. --intervals adds a line for each interval
-outside the bounds. With --bounds guide these are the Programmer's Reference
-Guide's, for real hardware, and the last line says whether they are kept. Both
-go with the list alone; json has a line for each byte with all its intervals.
+unacknowledged and incomplete bytes (glitches); how many there are; and a
+verdict: damage, whether the recording has this project's timing, and, if not,
+whether it is within the bounds of the Programmer's Reference Guide.
+--intervals adds the intervals outside the bounds, and a table of all
+intervals. With --bounds guide they and the verdict are by the Guide alone, for
+real hardware. Both go with the list alone; json has a line for each byte with
+all its intervals.
 Or the pages that printers 4 and 5 print of the bytes; or with --as bytes the
 bytes that printer 4 hears, or the one of --device, for `print1525 raw`.
 A recording that cannot be read is refused at its first fault, after the lines

@@ -476,11 +476,12 @@ const CHARACTERS_HELP: &str = "A file with the shapes of characters that svg,\n\
      png and pdf draw\n\
      [default: this project's own]";
 
-const INTERVALS_HELP: &str = "Lists each byte's intervals outside the bounds";
+const INTERVALS_HELP: &str = "Lists each byte's intervals outside the bounds,\n\
+     and a table of all intervals";
 
-const BOUNDS_HELP: &str = "Bounds of intervals: profile (this project's)\n\
-     or guide (those of the Programmer's Reference\n\
-     Guide)";
+const BOUNDS_HELP: &str = "Bounds of intervals and of the verdict: profile\n\
+     (this project's) or guide (those of the\n\
+     Programmer's Reference Guide)";
 
 const BOUNDS_VALUES: &str = "profile or guide";
 

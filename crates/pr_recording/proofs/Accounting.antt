@@ -12,7 +12,7 @@ use Rattle.pr_report.specs.declared.oddities.Oddities.{Oddities}
 use Rattle.pr_report.specs.JsonText.{json_line, json_lines, json_verdict}
 use Rattle.pr_report.specs.ReadingText.{all_lines, reading_lines}
 use Rattle.pr_report.specs.Oddities.{oddities_of, oddities_text}
-use Rattle.pr_report.specs.Outside.{conclusion}
+use Rattle.pr_report.specs.Verdict.{conclusion}
 use Rattle.pr_report.specs.Summary.{summary}
 use Rattle.pr_report.specs.Taking as survey
 use Rattle.pr_recording.specs.Decoded.{last_lines, readings_text}
@@ -86,8 +86,11 @@ accounts_end w a given written text more h is =
 
 -- what follows them at the end
 pub last_in_lines : (w : Wording) (d : Detail) (input : TraceInput) (fault : Option WaveFault) (edges : List Edge) (given : List Reading) (odd : Oddities) → w ≡ Lines d → odd ≡ oddities_of edges given
-    → summary (bounds_in w) given ++ (conclusion (bounds_in w) fault given ++ oddities_text input odd) ≡ last_lines w input fault edges given
-last_in_lines (Lines x) d input fault edges given odd is o = ap (λ z. summary x.bounds given ++ (conclusion x.bounds fault given ++ oddities_text input z)) o
+    → summary d.intervals (bounds_in w) given ++ (conclusion (bounds_in w) fault given ++ oddities_text input odd) ≡ last_lines w input fault edges given
+last_in_lines (Lines x) d input fault edges given odd is o =
+    let same : x ≡ d = cc in
+    ap (λ (z : Detail). summary z.intervals x.bounds given ++ (conclusion x.bounds fault given ++ oddities_text input odd)) (sym same)
+    ∙ ap (λ z. summary x.intervals x.bounds given ++ (conclusion x.bounds fault given ++ oddities_text input z)) o
 last_in_lines Json d input fault edges given odd is o = absurd (cc)
 
 pub last_in_json : (w : Wording) (input : TraceInput) (fault : Option WaveFault) (edges : List Edge) (given : List Reading) → w ≡ Json → json_verdict fault ≡ last_lines w input fault edges given

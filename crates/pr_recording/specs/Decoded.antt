@@ -13,7 +13,7 @@ use Rattle.pr_report.specs.Contexts.{at_start}
 use Rattle.pr_report.specs.JsonText.{json_lines, json_verdict}
 use Rattle.pr_report.specs.ReadingText.{all_lines}
 use Rattle.pr_report.specs.Summary.{summary}
-use Rattle.pr_report.specs.Outside.{conclusion}
+use Rattle.pr_report.specs.Verdict.{conclusion}
 use Rattle.pr_report.specs.Oddities.{oddities_of, oddities_text}
 use Rattle.pr_report.specs.declared.oddities.Oddities.{Oddities}
 use Rattle.pr_capture.specs.declared.format.TraceInput.{TraceInput}
@@ -62,7 +62,7 @@ readings_text Json rs = json_lines rs
 -- what is odd about it
 abbrev pub last_lines : Wording → TraceInput → Option WaveFault → List Edge → List Reading → List ℕ
 last_lines (Lines d) input fault edges rs =
-    summary d.bounds rs ++ (conclusion d.bounds fault rs ++ oddities_text input (oddities_of edges rs))
+    summary d.intervals d.bounds rs ++ (conclusion d.bounds fault rs ++ oddities_text input (oddities_of edges rs))
 last_lines Json input fault edges rs = json_verdict fault
 
 -- for a whole recording both, with the fault that `check` finds; for any other the text of what its edges settle up to

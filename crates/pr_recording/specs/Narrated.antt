@@ -40,7 +40,7 @@ abbrev pub reading_text : Wording → Context → Reading → List ℕ
 reading_text (Lines d) c r = reading_lines d c r
 reading_text Json c r = json_line r
 
--- the bounds of a summary: in JSON there is none
+-- the bounds of a verdict: in JSON there is none by bounds
 abbrev pub bounds_in : Wording → Bounds
 bounds_in (Lines d) = d.bounds
 bounds_in Json = Profile

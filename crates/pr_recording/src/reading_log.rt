@@ -7,7 +7,7 @@ ghost use Rattle.pr_report.specs.declared.detail.Bounds.{Bounds};
 ghost use Rattle.pr_report.specs.Summary.{summary};
 ghost use Rattle.pr_report.specs.Oddities.{oddities_of, oddities_text};
 ghost use Rattle.pr_report.specs.Taking.{HasSurveyed};
-ghost use Rattle.pr_report.specs.Outside.{conclusion};
+ghost use Rattle.pr_report.specs.Verdict.{conclusion};
 ghost use Rattle.pr_report.specs.JsonText.{json_verdict};
 ghost use Rattle.pr_recording.specs.declared.wording.Wording.{Wording};
 ghost use Rattle.pr_recording.specs.Decoded.{last_lines, readings_text};
@@ -35,7 +35,7 @@ pub struct ReadingLog {
     lines: Vec<u8>,
 }
 
-/// The bounds of the summary; JSON has none.
+/// The bounds of the intervals and of the verdict; JSON has none.
 fn bounds_in(wording: Wording) -> Bounds
     ensures { result ≡ bounds_in wording }
 {
@@ -60,18 +60,19 @@ fn push_worded(
     }
 }
 
-/// Adds the summary of all readings, the verdict on them, and what is odd.
+/// Adds the summary of all readings, with the table of intervals if it is asked for, the verdict on them, and what is odd.
 fn push_summing_up(
     text: &mut Vec<u8>,
     survey: &Survey,
+    has_intervals: bool,
     trace: TraceInput<'_>,
     fault: Option<WaveFault>,
     odd: Oddities,
 ) -> Result<(), AllocError>
     ensures { OnOk result ((bounds : Bounds) (given : List Reading) → HasSurveyed bounds given survey.now → text.new.items
-        ≡ text.old.items ++ (summary bounds given ++ (conclusion bounds fault given ++ oddities_text trace.entry odd))) }
+        ≡ text.old.items ++ (summary has_intervals bounds given ++ (conclusion bounds fault given ++ oddities_text trace.entry odd))) }
 {
-    survey.push_summary(text)?;
+    survey.push_summary(text, has_intervals)?;
     survey.push_conclusion(text, fault)?;
     push_oddities(text, trace, odd)?;
     Ok(())
@@ -128,8 +129,15 @@ impl ReadingLog {
     {
         let mut lines = self.lines;
         match self.wording {
-            Wording::Lines(_) => {
-                push_summing_up(&mut lines, &self.survey, trace, fault, odd)?;
+            Wording::Lines(detail) => {
+                push_summing_up(
+                    &mut lines,
+                    &self.survey,
+                    detail.intervals,
+                    trace,
+                    fault,
+                    odd,
+                )?;
                 Ok(lines)
             }
             Wording::Json => {

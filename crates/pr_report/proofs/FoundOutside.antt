@@ -6,9 +6,8 @@ use Rattle.pr_report.specs.declared.detail.Bounds.{Bounds}
 use Rattle.pr_report.specs.declared.interval.Interval.{Interval}
 use Rattle.pr_report.specs.declared.outside.Outside.{Outside}
 use Rattle.pr_report.specs.Intervals.{intervals, length_of}
-use Rattle.pr_report.specs.declared.detail.Bounds.TheVariants.{Guide}
 use Rattle.pr_report.specs.Outside.{all_outside, first_of, outside_at, outside_in}
-use Rattle.pr_report.specs.Steps.{earlier, kept_with}
+use Rattle.pr_report.specs.Steps.{earlier}
 
 -- the first of two lists
 pub first-append : (xs ys : List Outside) → first_of (xs ++ ys) ≡ earlier (first_of xs) (first_of ys)
@@ -41,18 +40,10 @@ outside-push b (s ∷ rs) r =
     ap (λ os. outside_in b intervals s ++ os) (outside-push b rs r)
     ∙ sym (append_assoc (outside_in b intervals s) (all_outside b rs) (outside_in b intervals r))
 
-pub found-more : (b : Bounds) (rs : List Reading) (r : Reading) (held : Bounds) (before after : Option Outside) → held ≡ b
-    → before ≡ first_of (all_outside b rs) → after ≡ earlier before (first_of (outside_in held intervals r))
+pub found-more : (b : Bounds) (rs : List Reading) (r : Reading) (before after : Option Outside)
+    → before ≡ first_of (all_outside b rs) → after ≡ earlier before (first_of (outside_in b intervals r))
     → after ≡ first_of (all_outside b (rs ++ r ∷ []))
-found-more b rs r held before after same was is =
+found-more b rs r before after was is =
     is
-    ∙ (ap (λ h. earlier before (first_of (outside_in h intervals r))) same
     ∙ (ap (λ o. earlier o (first_of (outside_in b intervals r))) was
-    ∙ (sym (first-append (all_outside b rs) (outside_in b intervals r)) ∙ ap first_of (sym (outside-push b rs r)))))
-
--- where it is kept
-pub kept-more : (b : Bounds) (rs : List Reading) (r : Reading) (held : Bounds) (before after : Option Outside) → held ≡ b
-    → (b ≡ Guide → before ≡ first_of (all_outside Guide rs)) → after ≡ kept_with held before r
-    → b ≡ Guide → after ≡ first_of (all_outside Guide (rs ++ r ∷ []))
-kept-more b rs r held before after same was is guide =
-    found-more Guide rs r Guide before after refl (was guide) (is ∙ ap (λ h. kept_with h before r) (same ∙ guide))
+    ∙ (sym (first-append (all_outside b rs) (outside_in b intervals r)) ∙ ap first_of (sym (outside-push b rs r))))

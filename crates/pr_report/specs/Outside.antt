@@ -1,18 +1,16 @@
--- Trusted: the intervals of readings that are outside their bounds, and the last line of a report that compares them with
--- the guide's bounds.
-use Rattle.std.specs.Prelude.{ℕ, List, [], ◌∷◌, ◌++◌, Option, Some, None, codes, if◌then◌else◌}
-use Rattle.pr_wire.specs.declared.WaveFault.{WaveFault}
+-- Trusted: the intervals of readings that are outside their bounds, and the words that compare readings with the guide's
+-- bounds.
+use Rattle.std.specs.Prelude.{ℕ, ◌==◌, List, [], ◌∷◌, ◌++◌, Option, Some, None, codes, if◌then◌else◌}
 use Rattle.pr_decode.specs.declared.reading.Transfer.{Transfer}
 use Rattle.pr_decode.specs.declared.reading.Reading.{Reading}
 use Rattle.pr_decode.specs.declared.reading.Reading.TheVariants.{Frame, IncompleteByte}
 use Rattle.pr_report.specs.declared.detail.Bounds.{Bounds}
-use Rattle.pr_report.specs.declared.detail.Bounds.TheVariants.{Guide, Profile}
+use Rattle.pr_report.specs.declared.detail.Bounds.TheVariants.{Guide}
 use Rattle.pr_report.specs.declared.interval.Interval.{Interval}
 use Rattle.pr_report.specs.declared.outside.Outside.{Outside}
 use Rattle.pr_report.specs.Intervals.{intervals, is_outside, length_of, measure}
 use Rattle.pr_report.specs.Numbers.{hex_digits, numbered}
 use Rattle.pr_report.specs.ReadingText.{byte_word, incomplete_place}
-use Rattle.pr_report.specs.Verdict.{verdict_text}
 
 -- the intervals of a reading that are outside these bounds
 abbrev pub outside_at : Bounds → Reading → Interval → Option ℕ → List Outside
@@ -44,13 +42,12 @@ abbrev pub reading_place : Reading → List ℕ
 reading_place (Frame t end) = byte_at t
 reading_place (IncompleteByte t end) = incomplete_place t
 
--- the line that says whether all intervals are within the guide's bounds, and else which is the first outside
-abbrev pub guide_verdict : (first : Option Outside) → List ℕ
-guide_verdict None = codes "within the guide's bounds\n"
-guide_verdict (Some o) =
+-- how readings compare with the guide's bounds, by how many they are and the first interval outside; a reading has always
+-- an interval
+abbrev pub outside_words : Outside → List ℕ
+outside_words o =
     codes "outside the guide's bounds: " ++ reading_place o.reading ++ codes ", " ++ measure Guide o.interval o.length
 
--- the verdict on readings by these bounds: by the profile whether their edges are lawful
-abbrev pub conclusion : Bounds → Option WaveFault → List Reading → List ℕ
-conclusion Profile fault rs = verdict_text fault
-conclusion Guide fault rs = guide_verdict (first_of (all_outside Guide rs))
+abbrev pub guide_words : (count : ℕ) → (first : Option Outside) → List ℕ
+guide_words count None = if count == 0 then codes "no byte to measure\n" else codes "within the guide's bounds\n"
+guide_words count (Some o) = outside_words o

@@ -1,13 +1,9 @@
 -- Machine steps: what a tally keeps of lengths, and what one length more comes to. No reader needs to believe them.
 use Rattle.std.specs.Prelude.{◌≡◌, ℕ, ◌+◌, ◌-◌, ◌^◌, ◌<◌, ◌==◌, cond, min, max, nat_le, Bool, List, [], ◌∷◌, length, get_or, Option, Some, None, codes, if◌then◌else◌}
 use Rattle.pr_wire.specs.declared.Levels.{Levels}
-use Rattle.pr_decode.specs.declared.reading.Reading.{Reading}
-use Rattle.pr_report.specs.declared.detail.Bounds.{Bounds}
-use Rattle.pr_report.specs.declared.detail.Bounds.TheVariants.{Guide, Profile}
 use Rattle.pr_report.specs.declared.outside.Outside.{Outside}
 use Rattle.pr_report.specs.declared.tally.Tally.{Tally}
-use Rattle.pr_report.specs.Intervals.{intervals, is_beyond}
-use Rattle.pr_report.specs.Outside.{first_of, outside_in}
+use Rattle.pr_report.specs.Intervals.{is_beyond}
 use Rattle.pr_report.specs.Summary.{figures_text}
 
 -- a count, with one more where a test holds
@@ -47,11 +43,6 @@ pub record Adds (n : ℕ) (old new : Tally) : Type 0 where
 abbrev pub earlier : (before now : Option Outside) → Option Outside
 earlier None now = now
 earlier (Some o) now = Some o
-
--- the same where the first interval outside is kept: the verdict by the profile needs none
-abbrev pub kept_with : Bounds → (before : Option Outside) → Reading → Option Outside
-kept_with Profile before r = before
-kept_with Guide before r = earlier before (first_of (outside_in Guide intervals r))
 
 -- what a tally says
 abbrev pub known_text : Tally → List ℕ

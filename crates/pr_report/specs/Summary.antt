@@ -1,5 +1,5 @@
--- Trusted: the summary of readings: how many there are, and for each interval how many, the least,
--- the middle, the greatest, and how many are outside its bounds.
+-- Trusted: the summary of readings: for each interval, if intervals are asked for, how many there are, the least, the
+-- middle, the greatest, and how many are outside its bounds; and how many readings there are of each kind.
 use Rattle.std.specs.Prelude.{ℕ, ◌*◌, nat_le, nat_lt, not, ◌&&◌, Bool, true, false, List, [], ◌∷◌, ◌++◌, length, Option, Some, None, codes, if◌then◌else◌}
 use Rattle.std.specs.List.{count_by, filter}
 use Rattle.std.specs.Option.{option_to_list}
@@ -91,20 +91,22 @@ abbrev pub interval_lines : Bounds → List Interval → List Reading → List �
 interval_lines b [] rs = []
 interval_lines b (i ∷ is) rs = interval_line b i rs ++ interval_lines b is rs
 
--- the line of a count, and those of all counts
-abbrev pub count_line : List ℕ → ℕ → List ℕ
-count_line word count = numbered word count ++ codes "\n"
+-- the lines of the intervals, if they are asked for
+abbrev pub interval_lines_if : Bool → Bounds → List Reading → List ℕ
+interval_lines_if true b rs = interval_lines b intervals rs
+interval_lines_if false b rs = []
 
-abbrev pub counts_text : (frames commands data_bytes unacknowledged incomplete cut : ℕ) → List ℕ
-counts_text frames commands data_bytes unacknowledged incomplete cut =
-    count_line (codes "frames: ") frames ++ count_line (codes "commands: ") commands
-    ++ count_line (codes "data bytes: ") data_bytes
-    ++ count_line (codes "not acknowledged: ") unacknowledged ++ count_line (codes "glitches: ") incomplete
-    ++ count_line (codes "cut by the recording's end: ") cut
+-- the lines of the counts: whole bytes, those that are not acknowledged, and incomplete ones
+abbrev pub counts_text : (frames commands data_bytes unacknowledged incomplete : ℕ) → List ℕ
+counts_text frames commands data_bytes unacknowledged incomplete =
+    numbered (codes "frames: ") frames ++ numbered (codes ", commands: ") commands
+    ++ numbered (codes ", data bytes: ") data_bytes
+    ++ numbered (codes "\nnot acknowledged: ") unacknowledged ++ numbered (codes "\nglitches: ") incomplete
+    ++ codes "\n"
 
 -- the summary of readings
-unfoldable pub summary : Bounds → List Reading → List ℕ
-summary b rs =
-    counts_text (count_by is_frame rs) (count_by is_command rs) (count_by is_data_byte rs)
-    (count_by is_unacknowledged rs) (count_by is_incomplete rs) (count_by is_cut rs)
-    ++ interval_lines b intervals rs
+unfoldable pub summary : (has_intervals : Bool) → Bounds → List Reading → List ℕ
+summary has_intervals b rs =
+    interval_lines_if has_intervals b rs
+    ++ counts_text (count_by is_frame rs) (count_by is_command rs) (count_by is_data_byte rs)
+    (count_by is_unacknowledged rs) (count_by is_incomplete rs)

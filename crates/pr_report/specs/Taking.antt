@@ -1,6 +1,6 @@
 -- Linking words: which readings a survey has taken. The clauses of `Survey` say all that a caller needs of them. No reader needs to
 -- believe them.
-use Rattle.std.specs.Prelude.{◌≡◌, ℕ, ◌==◌, ◌<◌, ◌^◌, List, [], ◌∷◌, length, get_or}
+use Rattle.std.specs.Prelude.{◌≡◌, ℕ, ◌==◌, ◌<◌, ◌^◌, List, [], ◌∷◌, find, length, get_or}
 use Rattle.std.specs.List.{count_by, list_any}
 use Rattle.pr_decode.specs.declared.reading.Reading.{Reading}
 use Rattle.pr_decode.specs.Readings.{greatest}
@@ -16,7 +16,8 @@ use Rattle.pr_report.specs.declared.tally.Tally.{Tally}
 use Rattle.pr_report.specs.Intervals.{highest_of, is_outside, lowest_of}
 use Rattle.pr_report.specs.Outside.{all_outside, first_of}
 use Rattle.pr_report.specs.Oddities.{first_levels, is_attention, last_levels}
-use Rattle.pr_report.specs.Summary.{is_command, is_cut, is_data_byte, is_frame, is_incomplete, is_unacknowledged, least_of, lengths, exact_below}
+use Rattle.pr_report.specs.Verdict.{is_damaged}
+use Rattle.pr_report.specs.Summary.{is_command, is_data_byte, is_frame, is_incomplete, is_unacknowledged, least_of, lengths, exact_below}
 
 -- the greatest of some lengths, 0 of none
 abbrev pub greatest_of : List ℕ → ℕ
@@ -50,18 +51,18 @@ pub record HasCounted (rs : List Reading) (c : Counts) : Type 0 where
   pub data_bytes : c.data_bytes ≡ count_by is_data_byte rs
   pub unacknowledged : c.unacknowledged ≡ count_by is_unacknowledged rs
   pub incomplete : c.incomplete ≡ count_by is_incomplete rs
-  pub cut : c.cut ≡ count_by is_cut rs
 
 -- how many readings a survey has taken
 abbrev pub number_taken : Survey → ℕ
 number_taken s = s.taken
 
--- these readings were taken, and compared with these bounds; the verdict by the profile needs no interval outside
+-- these readings were taken, and compared with these bounds
 pub record HasSurveyed (b : Bounds) (rs : List Reading) (s : Survey) : Type 0 where
   pub taken : s.taken ≡ length rs
   pub few : length rs < 2 ^ 64
   pub bounds : s.bounds ≡ b
-  pub outside : b ≡ Guide → s.outside ≡ first_of (all_outside Guide rs)
+  pub damaged : s.damaged ≡ find is_damaged rs
+  pub outside : s.outside ≡ first_of (all_outside Guide rs)
   pub counts : HasCounted rs s.counts
   pub ready : Tallies b Ready rs s.ready
   pub first_pull : Tallies b FirstPull rs s.first_pull

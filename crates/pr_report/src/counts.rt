@@ -3,11 +3,11 @@
 ghost use Rattle.std.specs.Prelude.{◌≡◌, ◌+◌, ◌^◌, ◌<◌, ◌++◌, ◌∷◌, [], List, length, OnOk};
 ghost use Rattle.pr_decode.specs.declared.reading.Reading.{Reading};
 ghost use Rattle.pr_report.specs.Steps.{counted};
-ghost use Rattle.pr_report.specs.Summary.{count_line, counts_text, is_command, is_cut, is_data_byte, is_frame, is_incomplete, is_unacknowledged};
+ghost use Rattle.pr_report.specs.Summary.{counts_text, is_command, is_data_byte, is_frame, is_incomplete, is_unacknowledged};
 ghost use Rattle.pr_report.specs.Taking.{HasCounted};
 
 use crate::numbers::push_numbered;
-use pr_decode::{FrameEnd, IncompleteEnd, Reading};
+use pr_decode::{FrameEnd, Reading};
 use pr_wire::NoMemory;
 
 /// A count, with one more where a test holds. It stays at its greatest.
@@ -69,24 +69,6 @@ fn is_incomplete(reading: &Reading) -> bool
     }
 }
 
-/// Whether a reading is a byte, whole or not, that the end of the recording cuts.
-fn is_cut(reading: &Reading) -> bool
-    ensures { result ≡ is_cut reading.now }
-{
-    match reading {
-        Reading::Frame(_, FrameEnd::Cut) | Reading::IncompleteByte(_, IncompleteEnd::Cut) => true,
-        _ => false,
-    }
-}
-
-/// Adds the line of a count.
-fn push_count(text: &mut Vec<u8>, word: &[u8], count: u64) -> Result<(), NoMemory>
-    ensures { OnOk result (text.new.items ≡ text.old.items ++ count_line word.now count) }
-{
-    push_numbered(text, word, count)?;
-    text.extend_from_slice(b"\n")
-}
-
 /// How many readings of each kind there are.
 #[derive(Clone, Copy)]
 pub(crate) struct Counts {
@@ -95,7 +77,6 @@ pub(crate) struct Counts {
     data_bytes: u64,
     unacknowledged: u64,
     incomplete: u64,
-    cut: u64,
 }
 
 impl Counts {
@@ -109,7 +90,6 @@ impl Counts {
             data_bytes: 0,
             unacknowledged: 0,
             incomplete: 0,
-            cut: 0,
         }
     }
 
@@ -123,28 +103,26 @@ impl Counts {
         let data_bytes = counted(self.data_bytes, is_data_byte(reading));
         let unacknowledged = counted(self.unacknowledged, is_unacknowledged(reading));
         let incomplete = counted(self.incomplete, is_incomplete(reading));
-        let cut = counted(self.cut, is_cut(reading));
         Counts {
             frames,
             commands,
             data_bytes,
             unacknowledged,
             incomplete,
-            cut,
         }
     }
 
-    /// Adds the lines of the counts.
+    /// Adds the three lines of the counts.
     pub fn push_lines(self, text: &mut Vec<u8>) -> Result<(), NoMemory>
         ensures { OnOk result (text.new.items ≡ text.old.items
-            ++ counts_text self.frames self.commands self.data_bytes self.unacknowledged self.incomplete self.cut) }
+            ++ counts_text self.frames self.commands self.data_bytes self.unacknowledged self.incomplete) }
     {
-        push_count(text, b"frames: ", self.frames)?;
-        push_count(text, b"commands: ", self.commands)?;
-        push_count(text, b"data bytes: ", self.data_bytes)?;
-        push_count(text, b"not acknowledged: ", self.unacknowledged)?;
-        push_count(text, b"glitches: ", self.incomplete)?;
-        push_count(text, b"cut by the recording's end: ", self.cut)?;
+        push_numbered(text, b"frames: ", self.frames)?;
+        push_numbered(text, b", commands: ", self.commands)?;
+        push_numbered(text, b", data bytes: ", self.data_bytes)?;
+        push_numbered(text, b"\nnot acknowledged: ", self.unacknowledged)?;
+        push_numbered(text, b"\nglitches: ", self.incomplete)?;
+        text.extend_from_slice(b"\n")?;
         Ok(())
     }
 }

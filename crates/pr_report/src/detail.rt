@@ -12,8 +12,9 @@ pub enum Bounds {
 /// How the readings of a recording are written.
 #[derive(Clone, Copy, Debug, PartialEq, Eq)]
 pub struct Detail {
-    /// Below the line of a reading comes a line for each of its intervals that lies outside its bounds.
+    /// Below the line of a reading comes a line for each of its intervals that lies outside its bounds, and before the
+    /// last four lines the table of all intervals.
     pub intervals: bool,
-    /// The bounds of these lines, of the summary and of the verdict.
+    /// The bounds of these lines and of the verdict.
     pub bounds: Bounds,
 }

@@ -62,4 +62,3 @@ pub use story::push_story;
 pub use story_line::{is_data, push_story_line};
 pub use survey::Survey;
 pub use timed_frame::TimedFrame;
-pub use verdict::push_verdict;

@@ -1,9 +1,10 @@
-//! The intervals of readings that lie outside their bounds, and the verdict by the guide's bounds.
+//! The intervals of readings that lie outside their bounds, and the words that compare readings with the guide's
+//! bounds.
 
 ghost use Rattle.std.specs.Prelude.{◌≡◌, ◌++◌, OnOk, if◌then◌else◌, Some, None};
 ghost use Rattle.pr_report.specs.Intervals.{intervals, length_of};
-ghost use Rattle.pr_report.specs.Outside.{byte_at, first_of, guide_verdict, outside_at, outside_in, reading_place};
-ghost use Rattle.pr_report.specs.Steps.{earlier, kept_with};
+ghost use Rattle.pr_report.specs.Outside.{byte_at, first_of, guide_words, outside_at, outside_in, outside_words, reading_place};
+ghost use Rattle.pr_report.specs.Steps.{earlier};
 
 use crate::detail::Bounds;
 use crate::interval::{INTERVALS, Interval};
@@ -51,27 +52,12 @@ fn first_outside(bounds: Bounds, intervals: &[Interval], reading: &Reading) -> O
 }
 
 /// The first interval that lies outside the guide's bounds, with one reading more.
-fn with_found(before: Option<Outside>, reading: &Reading) -> Option<Outside>
+pub(crate) fn with_reading(before: Option<Outside>, reading: &Reading) -> Option<Outside>
     ensures { result ≡ earlier before (first_of (outside_in Bounds.Guide intervals reading.now)) }
 {
     match before {
         Some(outside) => Some(outside),
         None => first_outside(Bounds::Guide, &INTERVALS, reading),
-    }
-}
-
-/// The first interval that lies outside the guide's bounds, with one reading more. The verdict by the profile needs
-/// none, and none is sought for it.
-pub(crate) fn with_reading(
-    before: Option<Outside>,
-    bounds: Bounds,
-    reading: &Reading,
-) -> Option<Outside>
-    ensures { result ≡ kept_with bounds before reading.now }
-{
-    match bounds {
-        Bounds::Profile => before,
-        Bounds::Guide => with_found(before, reading),
     }
 }
 
@@ -87,7 +73,7 @@ fn push_byte_at(text: &mut Vec<u8>, transfer: Transfer) -> Result<(), NoMemory>
 }
 
 /// Adds which byte a reading is.
-fn push_reading_place(text: &mut Vec<u8>, reading: Reading) -> Result<(), NoMemory>
+pub(crate) fn push_reading_place(text: &mut Vec<u8>, reading: Reading) -> Result<(), NoMemory>
     ensures { OnOk result (text.new.items ≡ text.old.items ++ reading_place reading) }
 {
     match reading {
@@ -96,9 +82,9 @@ fn push_reading_place(text: &mut Vec<u8>, reading: Reading) -> Result<(), NoMemo
     }
 }
 
-/// Adds the line of the first interval that lies outside the guide's bounds.
+/// Adds which interval lies outside the guide's bounds.
 fn push_first(text: &mut Vec<u8>, first: Outside) -> Result<(), NoMemory>
-    ensures { OnOk result (text.new.items ≡ text.old.items ++ guide_verdict (Some first)) }
+    ensures { OnOk result (text.new.items ≡ text.old.items ++ outside_words first) }
 {
     text.extend_from_slice(b"outside the guide's bounds: ")?;
     push_reading_place(text, first.reading)?;
@@ -108,13 +94,22 @@ fn push_first(text: &mut Vec<u8>, first: Outside) -> Result<(), NoMemory>
         .push_measure(text, Bounds::Guide, first.length)
 }
 
-/// Adds the line that says whether all intervals lie within the guide's bounds, and if not, which is the first
-/// outside.
-pub(crate) fn push_guide_verdict(text: &mut Vec<u8>, first: Option<Outside>) -> Result<(), NoMemory>
-    ensures { OnOk result (text.new.items ≡ text.old.items ++ guide_verdict first) }
+/// Adds how this many readings compare with the guide's bounds, by the first of their intervals that lies outside.
+pub(crate) fn push_guide_words(
+    text: &mut Vec<u8>,
+    count: u64,
+    first: Option<Outside>,
+) -> Result<(), NoMemory>
+    ensures { OnOk result (text.new.items ≡ text.old.items ++ guide_words count first) }
 {
     match first {
-        None => text.extend_from_slice(b"within the guide's bounds\n"),
         Some(first) => push_first(text, first),
+        None => {
+            if count == 0 {
+                text.extend_from_slice(b"no byte to measure\n")
+            } else {
+                text.extend_from_slice(b"within the guide's bounds\n")
+            }
+        }
     }
 }

@@ -1,20 +1,20 @@
 //! A survey of readings: how many there are, of each interval how many, the least, the middle, the greatest, and
-//! how many lie outside its bounds, and the first interval outside.
+//! how many lie outside its bounds; the first damaged reading, and the first interval outside the guide's bounds.
 
 ghost use Rattle.std.specs.Prelude.{◌≡◌, ◌+◌, ◌^◌, ◌<◌, ◌++◌, ◌∷◌, [], List, IfOk, OnOk};
 ghost use Rattle.pr_decode.specs.declared.reading.Reading.{Reading};
 ghost use Rattle.pr_report.specs.declared.detail.Bounds.{Bounds};
 ghost use Rattle.pr_report.specs.Intervals.{intervals};
-ghost use Rattle.pr_report.specs.Outside.{conclusion};
-ghost use Rattle.pr_report.specs.Summary.{interval_lines, summary};
+ghost use Rattle.pr_report.specs.Verdict.{conclusion};
+ghost use Rattle.pr_report.specs.Summary.{interval_lines, interval_lines_if, summary};
 ghost use Rattle.pr_report.specs.Taking.{HasSurveyed, number_taken};
 
 use crate::counts::Counts;
 use crate::detail::Bounds;
 use crate::interval::Interval;
-use crate::outside::{Outside, push_guide_verdict, with_reading};
+use crate::outside::{Outside, with_reading};
 use crate::tally::Tally;
-use crate::verdict::push_verdict;
+use crate::verdict::{push_verdict, with_damage};
 use pr_decode::Reading;
 use pr_wire::{NoMemory, WaveFault};
 use std::alloc::Global;
@@ -30,7 +30,9 @@ pub struct Survey {
     taken: u64,
     /// The bounds that intervals are compared with.
     bounds: Bounds,
-    /// The first interval outside them, where they are the guide's.
+    /// The first damaged reading.
+    damaged: Option<Reading>,
+    /// The first interval outside the guide's bounds.
     outside: Option<Outside>,
     counts: Counts,
     ready: Tally,
@@ -46,8 +48,8 @@ pub struct Survey {
 }
 
 impl Survey {
-    /// Makes a survey that has taken no reading, and holds intervals against these bounds. It takes all the memory that a survey ever needs,
-    /// 1.3 megabytes.
+    /// Makes a survey that has taken no reading, and holds intervals against these bounds. It takes all the memory
+    /// that a survey ever needs, 1.3 megabytes.
     ///
     /// # Errors
     ///
@@ -59,6 +61,7 @@ impl Survey {
         Ok(Survey {
             taken: 0,
             bounds,
+            damaged: None,
             outside: None,
             counts: Counts::new(),
             ready: Tally::new(alloc, bounds, Interval::Ready)?,
@@ -82,7 +85,8 @@ impl Survey {
         ensures count { number_taken self.new ≡ number_taken self.old + 1 }
     {
         self.taken += 1;
-        self.outside = with_reading(self.outside, self.bounds, reading);
+        self.damaged = with_damage(self.damaged, reading);
+        self.outside = with_reading(self.outside, reading);
         self.counts = self.counts.with(reading);
         self.ready.take(reading);
         self.first_pull.take(reading);
@@ -114,27 +118,40 @@ impl Survey {
         Ok(())
     }
 
-    /// Adds the summary of the readings taken to a text: a line for each count, and one for each
-    /// interval with how many readings have it, its least, middle and greatest length in
-    /// microseconds, and how many lie outside its bounds. The middle is the least length
-    /// that at least half of them do not exceed; from 16384 microseconds on it is written as
-    /// `over 16383`.
+    /// Adds the lines of the intervals, if they are asked for.
+    fn push_intervals_if(&self, text: &mut Vec<u8>, has_intervals: bool) -> Result<(), NoMemory>
+        ensures { OnOk result ((bounds : Bounds) (readings : List Reading) → HasSurveyed bounds readings self.now →
+            text.new.items ≡ text.old.items ++ interval_lines_if has_intervals bounds readings) }
+    {
+        if has_intervals {
+            self.push_intervals(text)
+        } else {
+            Ok(())
+        }
+    }
+
+    /// Adds the summary of the readings taken to a text: where intervals are asked for, a line for each
+    /// with how many readings have it, its least, middle and greatest length in microseconds, and how many
+    /// lie outside its bounds; and then the three lines of the counts. The middle is the least length that at
+    /// least half of them do not exceed; from 16384 microseconds on it is written as `over 16383`.
     ///
     /// # Errors
     ///
     /// [`NoMemory`] where a growth of the text was refused. Nothing is promised of the text then.
-    pub fn push_summary(&self, text: &mut Vec<u8>) -> Result<(), NoMemory>
+    pub fn push_summary(&self, text: &mut Vec<u8>, has_intervals: bool) -> Result<(), NoMemory>
         ensures { OnOk result ((bounds : Bounds) (readings : List Reading) → HasSurveyed bounds readings self.now →
-            text.new.items ≡ text.old.items ++ summary bounds readings) }
+            text.new.items ≡ text.old.items ++ summary has_intervals bounds readings) }
     {
+        self.push_intervals_if(text, has_intervals)?;
         self.counts.push_lines(text)?;
-        self.push_intervals(text)?;
         Ok(())
     }
 
-    /// Adds the verdict on the readings taken to a text. By the profile it is whether their edges are lawful, as
-    /// [`push_verdict`] has it, for the fault of the edges; by the guide whether all intervals lie within its
-    /// bounds, or else the first outside, in the order of the readings and of their intervals.
+    /// Adds the line of the verdict on the readings taken to a text, for the first fault of their edges. It names the
+    /// first damaged reading: an incomplete byte, or one that the recording's end cuts. By the profile it says whether
+    /// the edges have this project's timing; where they have a fault, and by the guide in any case, whether all
+    /// intervals lie within the guide's bounds, or else the first outside, in the order of the readings and of their
+    /// intervals.
     ///
     /// # Errors
     ///
@@ -147,9 +164,14 @@ impl Survey {
         ensures { OnOk result ((bounds : Bounds) (readings : List Reading) → HasSurveyed bounds readings self.now →
             text.new.items ≡ text.old.items ++ conclusion bounds fault readings) }
     {
-        match self.bounds {
-            Bounds::Profile => push_verdict(text, fault),
-            Bounds::Guide => push_guide_verdict(text, self.outside),
-        }
+        push_verdict(
+            text,
+            self.bounds,
+            fault,
+            self.damaged,
+            self.taken,
+            self.outside,
+        )?;
+        Ok(())
     }
 }

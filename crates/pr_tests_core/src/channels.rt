@@ -4,7 +4,6 @@ use pr_channels::{Channels, Fault, File, FileTable, Stop};
 use pr_refusals::most_refusals;
 use pr_serial::{Direct, Input, NoMemory, Present, Serial};
 use std::process::Abort;
-use std::test::Fail;
 
 /// A call.
 #[derive(Clone, Copy)]
@@ -74,22 +73,38 @@ fn shows(channels: &Channels<Direct>, items: u64, output: u8, status: u8, heard:
         && channels.serial().heard(5).is_empty()
 }
 
+/// Makes a call, and returns whether what it answers and what is seen after it is what its row says.
+fn is_played(
+    rt: &impl Abort,
+    channels: &mut Channels<Direct>,
+    row: &Row,
+    inputs: &[Input],
+) -> bool {
+    let &(call, wanted, items, output, status, heard) = row;
+    let given = answer(rt, channels, call);
+    assert!(rt; heard <= inputs.len());
+    given == wanted && shows(channels, items, output, status, &inputs[..heard])
+}
+
 /// Makes calls over a bus on which nothing was sent, and compares what is seen after each.
 fn plays(
     rt: &(impl Abort + AllocGlobal),
+    name: &str,
     present: Present,
     rows: &[Row],
     inputs: &[Input],
 ) -> Channels<Direct> {
     let mut channels = Channels::new(rt.alloc(), Direct::new(rt.alloc(), present));
-    for (number, &(call, wanted, items, output, status, heard)) in rows.iter().enumerate() {
-        let given = answer(rt, &mut channels, call);
-        assert!(rt; heard <= inputs.len());
-        let is_well = given == wanted && shows(&channels, items, output, status, &inputs[..heard]);
-        assert!(rt; is_well, "call {number}");
+    for row in rows {
+        let is_well = is_played(rt, &mut channels, row, inputs);
+        assert!(rt; is_well, "{name}");
     }
     channels
 }
+
+const MISSING: Fault = Fault::Stop(Stop::DeviceNotPresent);
+
+const NOT_OPEN: Fault = Fault::Stop(Stop::FileNotOpen);
 
 const BOTH: Present = Present {
     four: true,
@@ -101,75 +116,88 @@ const ONLY_FOUR: Present = Present {
     five: false,
 };
 
-#[test]
-fn channel_calls_send_and_hold(rt: HostRuntime) {
-    const ROWS: [Row; 5] = [
-        (Call::Open(4, 4, None), Ok(()), 0, 3, 0, 0),
-        (Call::Chkout(4), Ok(()), 1, 4, 0, 1),
-        (Call::Chrout(72), Ok(()), 1, 4, 0, 1),
-        (Call::Chrout(73), Ok(()), 2, 4, 0, 2),
-        (Call::Clrchn, Ok(()), 4, 3, 0, 3),
-    ];
-    plays(
-        &rt,
-        BOTH,
-        &ROWS,
-        &[Input::Select(false), Input::Byte(72), Input::Byte(73)],
-    );
+/// Calls on a new bus with these printers, and the inputs that printer 4 then heard.
+struct Worked {
+    name: &'static str,
+    present: Present,
+    rows: &'static [Row],
+    inputs: &'static [Input],
 }
 
-#[test]
-fn close_while_output_stays(rt: HostRuntime) {
-    const ROWS: [Row; 6] = [
-        (Call::Open(4, 4, Some(7)), Ok(()), 0, 3, 0, 0),
-        (Call::Chkout(4), Ok(()), 1, 4, 0, 2),
-        (Call::Chrout(65), Ok(()), 1, 4, 0, 2),
-        (Call::CloseFile(4), Ok(()), 4, 4, 0, 4),
-        (Call::Chrout(88), Ok(()), 4, 4, 0, 4),
-        (Call::Clrchn, Ok(()), 6, 3, 128, 4),
-    ];
-    plays(
-        &rt,
-        BOTH,
-        &ROWS,
-        &[
+static WORKED: [Worked; 3] = [
+    Worked {
+        name: "channel_calls_send_and_hold",
+        present: BOTH,
+        rows: &[
+            (Call::Open(4, 4, None), Ok(()), 0, 3, 0, 0),
+            (Call::Chkout(4), Ok(()), 1, 4, 0, 1),
+            (Call::Chrout(72), Ok(()), 1, 4, 0, 1),
+            (Call::Chrout(73), Ok(()), 2, 4, 0, 2),
+            (Call::Clrchn, Ok(()), 4, 3, 0, 3),
+        ],
+        inputs: &[Input::Select(false), Input::Byte(72), Input::Byte(73)],
+    },
+    Worked {
+        name: "close_while_output_stays",
+        present: BOTH,
+        rows: &[
+            (Call::Open(4, 4, Some(7)), Ok(()), 0, 3, 0, 0),
+            (Call::Chkout(4), Ok(()), 1, 4, 0, 2),
+            (Call::Chrout(65), Ok(()), 1, 4, 0, 2),
+            (Call::CloseFile(4), Ok(()), 4, 4, 0, 4),
+            (Call::Chrout(88), Ok(()), 4, 4, 0, 4),
+            (Call::Clrchn, Ok(()), 6, 3, 128, 4),
+        ],
+        inputs: &[
             Input::Select(false),
             Input::Select(true),
             Input::Byte(65),
             Input::Select(false),
         ],
-    );
+    },
+    Worked {
+        name: "unanswered_byte_stops_the_next_chkout",
+        present: ONLY_FOUR,
+        rows: &[
+            (Call::Open(4, 4, None), Ok(()), 0, 3, 0, 0),
+            (Call::Open(5, 5, None), Ok(()), 0, 3, 0, 0),
+            (Call::Chkout(5), Ok(()), 1, 5, 0, 0),
+            (Call::Chrout(65), Ok(()), 1, 5, 0, 0),
+            (Call::Chrout(13), Ok(()), 2, 5, 128, 0),
+            (Call::ClearStatus, Ok(()), 2, 5, 0, 0),
+            (Call::Chkout(4), Err(MISSING), 4, 5, 128, 1),
+            (Call::Clrchn, Ok(()), 5, 3, 128, 1),
+        ],
+        inputs: &[Input::Select(false)],
+    },
+];
+
+/// Calls of files that are not open, and of the screen.
+static ON_THE_SCREEN: [Row; 6] = [
+    (Call::Chkout(4), Err(NOT_OPEN), 0, 3, 0, 0),
+    (Call::CloseFile(4), Ok(()), 0, 3, 0, 0),
+    (Call::Clrchn, Ok(()), 0, 3, 0, 0),
+    (Call::Chrout(88), Ok(()), 0, 3, 0, 0),
+    (Call::Chrout(13), Ok(()), 0, 3, 0, 0),
+    (Call::Forget, Ok(()), 0, 3, 0, 0),
+];
+
+/// Those tables, for callers whose proofs do not read them.
+fn worked_rows() -> (&'static [Worked], &'static [Row]) {
+    (&WORKED, &ON_THE_SCREEN)
 }
 
 #[test]
-fn unanswered_byte_stops_the_next_chkout(rt: HostRuntime) {
-    const STOP: Fault = Fault::Stop(Stop::DeviceNotPresent);
-    const ROWS: [Row; 8] = [
-        (Call::Open(4, 4, None), Ok(()), 0, 3, 0, 0),
-        (Call::Open(5, 5, None), Ok(()), 0, 3, 0, 0),
-        (Call::Chkout(5), Ok(()), 1, 5, 0, 0),
-        (Call::Chrout(65), Ok(()), 1, 5, 0, 0),
-        (Call::Chrout(13), Ok(()), 2, 5, 128, 0),
-        (Call::ClearStatus, Ok(()), 2, 5, 0, 0),
-        (Call::Chkout(4), Err(STOP), 4, 5, 128, 1),
-        (Call::Clrchn, Ok(()), 5, 3, 128, 1),
-    ];
-    plays(&rt, ONLY_FOUR, &ROWS, &[Input::Select(false)]);
+fn worked_calls(rt: HostRuntime) {
+    for calls in worked_rows().0 {
+        plays(&rt, calls.name, calls.present, calls.rows, calls.inputs);
+    }
 }
 
 /// What a file that is not open does, what stays on the screen, and the parts in the end.
 #[test]
 fn screen_and_files_that_are_not_open(rt: HostRuntime) {
-    const STOP: Fault = Fault::Stop(Stop::FileNotOpen);
-    const ROWS: [Row; 6] = [
-        (Call::Chkout(4), Err(STOP), 0, 3, 0, 0),
-        (Call::CloseFile(4), Ok(()), 0, 3, 0, 0),
-        (Call::Clrchn, Ok(()), 0, 3, 0, 0),
-        (Call::Chrout(88), Ok(()), 0, 3, 0, 0),
-        (Call::Chrout(13), Ok(()), 0, 3, 0, 0),
-        (Call::Forget, Ok(()), 0, 3, 0, 0),
-    ];
-    let channels = plays(&rt, BOTH, &ROWS, &[]);
+    let channels = plays(&rt, "the screen", BOTH, worked_rows().1, &[]);
     let wanted = [88, 13].as_slice();
     let is_marked = channels.serial().mark() == Some(0);
     let is_shown = channels.files().as_slice().is_empty() && channels.screen() == wanted;
@@ -199,44 +227,60 @@ fn stops_of_the_file_table(rt: HostRuntime) {
     assert!(rt; is_zero_refused && are_ten && is_full && is_open && is_closed && is_found);
 }
 
-#[test]
-fn stops_have_numbers_and_texts(rt: HostRuntime) -> Result<(), Fail> {
-    const ROWS: [(Fault, u8, &str); 6] = [
-        (Fault::Stop(Stop::TooManyFiles), 1, "too many files"),
-        (Fault::Stop(Stop::FileOpen), 2, "file open"),
-        (Fault::Stop(Stop::FileNotOpen), 3, "file not open"),
-        (Fault::Stop(Stop::DeviceNotPresent), 5, "device not present"),
-        (Fault::Stop(Stop::NotInputFile), 6, "not input file"),
-        (Fault::NoMemory, 0, "out of memory"),
-    ];
-    for (fault, number, text) in ROWS {
-        let given = match fault {
-            Fault::Stop(stop) => stop.number(),
-            Fault::NoMemory => 0,
-        };
-        let said = format!(in rt.alloc(); "{fault}")?;
-        assert!(rt; given == number && said.as_str() == text, "{text}");
-    }
-    Ok(())
+/// Faults, their numbers and their texts.
+static FAULTS: [(Fault, u8, &str); 6] = [
+    (Fault::Stop(Stop::TooManyFiles), 1, "too many files"),
+    (Fault::Stop(Stop::FileOpen), 2, "file open"),
+    (Fault::Stop(Stop::FileNotOpen), 3, "file not open"),
+    (Fault::Stop(Stop::DeviceNotPresent), 5, "device not present"),
+    (Fault::Stop(Stop::NotInputFile), 6, "not input file"),
+    (Fault::NoMemory, 0, "out of memory"),
+];
+
+/// Those, for a caller whose proof does not read them.
+fn faults() -> &'static [(Fault, u8, &'static str)] {
+    &FAULTS
 }
 
-/// Writes bytes on the screen, and returns whether one was refused: it leaves the list as it was, and
-/// the next is taken again.
+/// Whether a fault has this number, or no number where it is 0, and this text.
+fn is_told(rt: &(impl Abort + AllocGlobal), fault: Fault, number: u8, text: &str) -> bool {
+    let given = match fault {
+        Fault::Stop(stop) => stop.number(),
+        Fault::NoMemory => 0,
+    };
+    let said = format!(in rt.alloc(); "{fault}").expect(rt, "memory");
+    given == number && said.as_str() == text
+}
+
+#[test]
+fn stops_have_numbers_and_texts(rt: HostRuntime) {
+    for &(fault, number, text) in faults() {
+        assert!(rt; is_told(&rt, fault, number, text), "{text}");
+    }
+}
+
+/// The bytes of the screen.
+static BYTES: [u8; 10] = [0, 1, 2, 3, 4, 5, 6, 7, 8, 9];
+
+/// Those, for a caller whose proof does not read them.
+fn bytes() -> &'static [u8] {
+    &BYTES
+}
+
+/// Writes bytes on the screen, each the number of those before it that were not refused, and returns whether one was
+/// refused: it leaves the list as it was, and the next is taken again.
 fn is_byte_refused(rt: &(impl Abort + AllocGlobal)) -> bool {
     let mut channels = Channels::new(rt.alloc(), Direct::new(rt.alloc(), BOTH));
-    let mut refused = None;
-    for byte in 0..10 {
-        if answer(rt, &mut channels, Call::Chrout(byte)).is_err() {
-            refused = Some(byte);
+    let mut shown: u8 = 0;
+    for _try in 0..10 {
+        if answer(rt, &mut channels, Call::Chrout(shown)).is_ok() {
+            shown = shown.saturating_add(1);
         }
-        let mut wanted = (0..=byte).filter(|&it| Some(it) != refused);
-        let is_shown = channels
-            .screen()
-            .iter()
-            .all(|&it| wanted.next() == Some(it));
-        assert!(rt; is_shown && wanted.next().is_none());
+        let is_shown = channels.screen().len() == usize::from(shown)
+            && bytes().starts_with(channels.screen());
+        assert!(rt; is_shown);
     }
-    refused.is_some()
+    shown < 10
 }
 
 /// Makes a call with file 4, which is open with a secondary address. It is refused, and this is
@@ -244,15 +288,21 @@ fn is_byte_refused(rt: &(impl Abort + AllocGlobal)) -> bool {
 fn is_refused(rt: &impl Abort, channels: &mut Channels<Direct>, call: Call) -> bool {
     let had_failed = channels.serial().failed();
     let reaches = channels.output() > 3 || matches!(call, Call::Chkout(_) | Call::CloseFile(_));
-    let given = answer(rt, channels, call);
-    let refused = given == Err(Fault::NoMemory);
-    let is_well = refused == (reaches && (had_failed || channels.serial().failed()));
-    assert!(rt; is_well && (refused || given.is_ok()));
-    refused
+    match answer(rt, channels, call) {
+        Ok(()) => {
+            assert!(rt; !(reaches && (had_failed || channels.serial().failed())));
+            false
+        }
+        Err(fault) => {
+            assert!(rt; fault == Fault::NoMemory && reaches);
+            assert!(rt; had_failed || channels.serial().failed());
+            true
+        }
+    }
 }
 
 /// LISTEN, bytes and UNLISTEN, and then CLOSE while a byte is held back.
-const SCRIPT: [Call; 8] = [
+static SCRIPT: [Call; 8] = [
     Call::Chkout(4),
     Call::Chrout(65),
     Call::Chrout(65),
@@ -263,6 +313,11 @@ const SCRIPT: [Call; 8] = [
     Call::CloseFile(4),
 ];
 
+/// Those, for a caller whose proof does not read them.
+fn script() -> &'static [Call] {
+    &SCRIPT
+}
+
 /// So many LISTENs and then the script, on a new bus. It returns whether a call was refused; if none
 /// was, printer 4 heard all of it.
 fn is_script_refused(rt: &(impl Abort + AllocGlobal), listens: u64) -> bool {
@@ -272,7 +327,7 @@ fn is_script_refused(rt: &(impl Abort + AllocGlobal), listens: u64) -> bool {
     for _ in 0..listens {
         refused |= is_refused(rt, &mut channels, Call::Chkout(4));
     }
-    for call in SCRIPT {
+    for &call in script() {
         refused |= is_refused(rt, &mut channels, call);
     }
     let heard = channels.serial().heard(4).len() as u64;

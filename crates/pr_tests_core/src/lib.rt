@@ -1,16 +1,21 @@
-//! Tests from statements to paper: printers, the bus without wires, channels, scripts and whole runs. Each module tests the
-//! crate of its name.
+//! Tests from wires to paper and from statements to wires: the printer, texts of traces, receivers, buses, channels, scripts
+//! and whole runs. Each module tests the crate of its name. What the program and the library for C show of these crates is
+//! data: cases, rows of tests/library, tests/example.c and tests/exports.c.
 #![tactic(auto)]
 
 #[cfg(test)]
 mod basic;
 #[cfg(test)]
+mod bus;
+#[cfg(test)]
 mod channels;
 #[cfg(test)]
 mod page;
 #[cfg(test)]
-mod same;
+mod receiver;
 #[cfg(test)]
 mod serial;
 #[cfg(test)]
 mod system;
+#[cfg(test)]
+mod wire;

@@ -75,21 +75,33 @@ fn shows(bus: &Direct, row: Row) -> bool {
     bus.items() == items && bus.mark() == mark && bus.heard(4) == four && bus.heard(5) == five
 }
 
+/// Makes a call, and returns whether it is done; it is then answered as its row says. The bus fails with one that is refused.
+fn is_done(rt: &impl Abort, bus: &mut Direct, row: &Row) -> bool {
+    match answer(rt, bus, row.0) {
+        Ok(is_answered) => {
+            assert!(rt; is_answered == row.1 && !bus.failed());
+            true
+        }
+        Err(_refused) => {
+            assert!(rt; bus.failed());
+            false
+        }
+    }
+}
+
 /// Makes calls on a new bus, and returns how many were done. After the first that is refused each call
 /// is refused, and the bus shows what it showed before.
 fn calls_done(rt: &(impl Abort + AllocGlobal), present: Present, rows: &[Row]) -> usize {
     let mut bus = Direct::new(rt.alloc(), present);
     let mut seen = NEW;
-    let mut done = 0;
+    let mut done: usize = 0;
     for (number, row) in rows.iter().enumerate() {
-        let given = answer(rt, &mut bus, row.0);
-        if done == number && given == Ok(row.1) {
-            done = number + 1;
+        if is_done(rt, &mut bus, row) {
+            assert!(rt; done == number, "call {number}");
+            done = done.saturating_add(1);
             seen = *row;
         }
-        let is_refused = done <= number;
-        let is_told = given.is_err() == is_refused && bus.failed() == is_refused;
-        assert!(rt; is_told && shows(&bus, seen), "call {number}");
+        assert!(rt; shows(&bus, seen), "call {number}");
     }
     done
 }
@@ -139,94 +151,127 @@ const PRESENT_FOUR: [Row; 4] = [
     ),
 ];
 
-#[test]
-fn answers_by_presence(rt: HostRuntime) {
-    let nobody = calls_done(&rt, NONE, &NOBODY);
-    let absent = calls_done(&rt, ONLY_FOUR, &ABSENT_FIVE);
-    let present = calls_done(&rt, ONLY_FOUR, &PRESENT_FOUR);
-    assert!(rt; nobody == 4 && absent == 4 && present == 4);
+/// Both printers listen, one with secondary address 7.
+const BOTH_HEAR: [Row; 7] = [
+    (Call::ListenFourLower, true, 1, None, &[UPPER, LOWER], &[]),
+    (Call::ListenFive, true, 2, None, &[UPPER, LOWER], &[UPPER]),
+    (
+        Call::Send(88, true),
+        true,
+        3,
+        None,
+        &[UPPER, LOWER, Byte(88)],
+        &[UPPER, Byte(88)],
+    ),
+    (
+        Call::Unlisten,
+        true,
+        4,
+        None,
+        &[UPPER, LOWER, Byte(88)],
+        &[UPPER, Byte(88)],
+    ),
+    (
+        Call::Send(89, true),
+        false,
+        5,
+        None,
+        &[UPPER, LOWER, Byte(88)],
+        &[UPPER, Byte(88)],
+    ),
+    (Call::Forget, true, 5, Some(5), &[], &[]),
+    (Call::ListenFive, true, 6, Some(5), &[], &[UPPER]),
+];
+
+/// Both listen, and hear so many bytes that each list grows.
+static GROWING: [Row; 6] = [
+    (Call::ListenFourLower, true, 1, None, &[UPPER, LOWER], &[]),
+    (Call::ListenFive, true, 2, None, &[UPPER, LOWER], &[UPPER]),
+    (
+        Call::Send(2, false),
+        true,
+        3,
+        None,
+        &[UPPER, LOWER, Byte(2)],
+        &[UPPER, Byte(2)],
+    ),
+    (
+        Call::Send(3, false),
+        true,
+        4,
+        None,
+        &[UPPER, LOWER, Byte(2), Byte(3)],
+        &[UPPER, Byte(2), Byte(3)],
+    ),
+    (
+        Call::Send(4, false),
+        true,
+        5,
+        None,
+        &[UPPER, LOWER, Byte(2), Byte(3), Byte(4)],
+        &[UPPER, Byte(2), Byte(3), Byte(4)],
+    ),
+    (
+        Call::Send(5, false),
+        true,
+        6,
+        None,
+        &[UPPER, LOWER, Byte(2), Byte(3), Byte(4), Byte(5)],
+        &[UPPER, Byte(2), Byte(3), Byte(4), Byte(5)],
+    ),
+];
+
+/// Calls on a new bus with these printers.
+struct Worked {
+    name: &'static str,
+    present: Present,
+    rows: &'static [Row],
 }
 
-/// Both printers listen, one with secondary address 7.
+static WORKED: [Worked; 4] = [
+    Worked {
+        name: "nobody",
+        present: NONE,
+        rows: &NOBODY,
+    },
+    Worked {
+        name: "5 is called, and 4 is there",
+        present: ONLY_FOUR,
+        rows: &ABSENT_FIVE,
+    },
+    Worked {
+        name: "4 is called, and alone",
+        present: ONLY_FOUR,
+        rows: &PRESENT_FOUR,
+    },
+    Worked {
+        name: "both_hear_until_unlisten",
+        present: BOTH,
+        rows: &BOTH_HEAR,
+    },
+];
+
+/// Those, the calls of printer 4 alone, and those under which each list grows, for callers whose proofs do not read them.
+fn worked_rows() -> (&'static [Worked], &'static [Row], &'static [Row]) {
+    (&WORKED, &PRESENT_FOUR, &GROWING)
+}
+
 #[test]
-fn both_hear_until_unlisten(rt: HostRuntime) {
-    const ROWS: [Row; 7] = [
-        (Call::ListenFourLower, true, 1, None, &[UPPER, LOWER], &[]),
-        (Call::ListenFive, true, 2, None, &[UPPER, LOWER], &[UPPER]),
-        (
-            Call::Send(88, true),
-            true,
-            3,
-            None,
-            &[UPPER, LOWER, Byte(88)],
-            &[UPPER, Byte(88)],
-        ),
-        (
-            Call::Unlisten,
-            true,
-            4,
-            None,
-            &[UPPER, LOWER, Byte(88)],
-            &[UPPER, Byte(88)],
-        ),
-        (
-            Call::Send(89, true),
-            false,
-            5,
-            None,
-            &[UPPER, LOWER, Byte(88)],
-            &[UPPER, Byte(88)],
-        ),
-        (Call::Forget, true, 5, Some(5), &[], &[]),
-        (Call::ListenFive, true, 6, Some(5), &[], &[UPPER]),
-    ];
-    let done = calls_done(&rt, BOTH, &ROWS);
-    assert!(rt; done == 7);
+fn answers_by_presence(rt: HostRuntime) {
+    for calls in worked_rows().0 {
+        let done = calls_done(&rt, calls.present, calls.rows);
+        assert!(rt; done == calls.rows.len(), "{}", calls.name);
+    }
 }
 
 /// `tests/growths` runs this with each growth in turn refused. Since only one is, at least one of two
 /// runs of the rows is done whole. With no growth refused both are.
 #[test]
 fn each_growth_refused(rt: HostRuntime) {
-    const ROWS: [Row; 6] = [
-        (Call::ListenFourLower, true, 1, None, &[UPPER, LOWER], &[]),
-        (Call::ListenFive, true, 2, None, &[UPPER, LOWER], &[UPPER]),
-        (
-            Call::Send(2, false),
-            true,
-            3,
-            None,
-            &[UPPER, LOWER, Byte(2)],
-            &[UPPER, Byte(2)],
-        ),
-        (
-            Call::Send(3, false),
-            true,
-            4,
-            None,
-            &[UPPER, LOWER, Byte(2), Byte(3)],
-            &[UPPER, Byte(2), Byte(3)],
-        ),
-        (
-            Call::Send(4, false),
-            true,
-            5,
-            None,
-            &[UPPER, LOWER, Byte(2), Byte(3), Byte(4)],
-            &[UPPER, Byte(2), Byte(3), Byte(4)],
-        ),
-        (
-            Call::Send(5, false),
-            true,
-            6,
-            None,
-            &[UPPER, LOWER, Byte(2), Byte(3), Byte(4), Byte(5)],
-            &[UPPER, Byte(2), Byte(3), Byte(4), Byte(5)],
-        ),
-    ];
-    let done = calls_done(&rt, BOTH, &ROWS);
-    let again = calls_done(&rt, BOTH, &ROWS);
-    let refusals = usize::from(done < 6) + usize::from(again < 6);
+    let rows = worked_rows().2;
+    let done = calls_done(&rt, BOTH, rows);
+    let again = calls_done(&rt, BOTH, rows);
+    let refusals = usize::from(done < rows.len()) + usize::from(again < rows.len());
     assert!(rt; refusals <= most_refusals(&rt));
 }
 
@@ -234,7 +279,7 @@ fn each_growth_refused(rt: HostRuntime) {
 /// are those of what printer 4 hears. `tests/growths` runs this with each one refused.
 #[test]
 fn room_for_inputs(rt: HostRuntime) {
-    let is_done = calls_done(&rt, ONLY_FOUR, &PRESENT_FOUR) == 4;
+    let is_done = calls_done(&rt, ONLY_FOUR, worked_rows().1) == 4;
     let mut text = [0; 8];
     let is_digit = matches!(rt.var("FAULT_ALLOC", &mut text), Ok(1));
     let is_growth = is_digit && text[0] >= b'1' && text[0] <= b'3';

@@ -3,5 +3,4 @@
 mod device_left_out;
 mod growths;
 mod runs;
-mod steps;
 mod two_letters;

@@ -90,10 +90,6 @@ const OF_A_SIMULATOR: &str =
 const OF_AN_ANALYSER: &str =
     "$timescale 1 us $end\r\n$var wire 1 ! ATN $end $var wire 1 \" CLK $end\r\n$var wire 1 # DATA $end $enddefinitions $end\r\n#5 1! 1\" 1#\r\n#105 0! 0\"\r\n$comment off $end #205 b0 # B1 \"";
 
-/// One code for two wires.
-const OF_ONE_CODE: &str =
-    "$timescale 10 ms $end $var wire 1 a ATN $end $var wire 1 b CLOCK $end $var wire 1 b DATA $end $enddefinitions $end 1a 0b #1 1b #2";
-
 /// What sigrok-cli 0.7.2 wrote of five samples at 100 kHz, with the line that it puts in front.
 const OF_SIGROK_CLI: &str =
     "META samplerate: 100000\n$date Mon Nov 23 16:13:32 2026 $end\n$version libsigrok 0.5.2 $end\n$comment\n  Acquisition with 3/3 channels at 100 kHz\n$end\n$timescale 10 us $end\n$scope module libsigrok $end\n$var wire 1 ! ATN $end\n$var wire 1 \" CLOCK $end\n$var wire 1 # DATA $end\n$upscope $end\n$enddefinitions $end\n#0 1! 1\" 1#\n#1 0! 0\"\n#2 0#\n#3 1\"\n#4 1! 1#\n#5\n";
@@ -151,10 +147,9 @@ const BLANK: &str =
     "$timescale 1 us $end $var wire 1 a ATN $end $var wire 1 c CLOCK $end $var wire 1 d DATA $end $enddefinitions $end #0 xa $dumpoff $end";
 
 /// Whose signals, a dump, and its edges.
-const DUMPS: [(Signals<'static>, &str, &str); 14] = [
+const DUMPS: [(Signals<'static>, &str, &str); 13] = [
     (NAMES, OF_A_SIMULATOR, "0 111\n1 001\n2 000\n3 010\n"),
     (NAMES, OF_AN_ANALYSER, "5 111\n105 001\n205 010\n"),
-    (NAMES, OF_ONE_CODE, "0 100\n10000 111\n"),
     (
         NAMES,
         OF_SIGROK_CLI,

@@ -14,6 +14,8 @@ mod dumps;
 #[cfg(test)]
 mod growths;
 #[cfg(test)]
+mod oddities;
+#[cfg(test)]
 mod picture;
 #[cfg(test)]
 mod readings;
@@ -29,7 +31,5 @@ mod surveys;
 mod tables;
 #[cfg(test)]
 mod text;
-#[cfg(test)]
-mod verdicts;
 #[cfg(test)]
 mod written_dumps;

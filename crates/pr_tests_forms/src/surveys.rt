@@ -1,8 +1,8 @@
-//! Surveys, worked by hand.
+//! Surveys, worked by hand: their summaries and their verdicts.
 
 use pr_decode::{FrameEnd, Halves, IncompleteEnd, Opening, Pulse, Reading, Transfer};
 use pr_report::{Bounds, Survey};
-use pr_wire::{Kind, NoMemory, bounds};
+use pr_wire::{Kind, NoMemory, WaveFault, bounds};
 use std::alloc::Global;
 use std::process::Abort;
 
@@ -190,14 +190,37 @@ const READY_AT_16384: Reading = Reading::Frame(
     FrameEnd::Cut,
 );
 
-/// The summary of readings.
-pub fn summary(alloc: Global, readings: &[Reading]) -> Result<Vec<u8>, NoMemory> {
-    let mut survey = Survey::new(alloc, Bounds::Profile)?;
+/// A survey of readings.
+fn surveyed(alloc: Global, bounds: Bounds, readings: &[Reading]) -> Result<Survey, NoMemory> {
+    let mut survey = Survey::new(alloc, bounds)?;
     for reading in readings {
         survey.take(reading);
     }
+    Ok(survey)
+}
+
+/// The summary of readings, by the profile.
+pub fn summary(
+    alloc: Global,
+    readings: &[Reading],
+    has_intervals: bool,
+) -> Result<Vec<u8>, NoMemory> {
+    let survey = surveyed(alloc, Bounds::Profile, readings)?;
     let mut text = Vec::new(alloc);
-    survey.push_summary(&mut text)?;
+    survey.push_summary(&mut text, has_intervals)?;
+    Ok(text)
+}
+
+/// The verdict on readings.
+fn verdict(
+    alloc: Global,
+    bounds: Bounds,
+    readings: &[Reading],
+    fault: Option<WaveFault>,
+) -> Result<Vec<u8>, NoMemory> {
+    let survey = surveyed(alloc, bounds, readings)?;
+    let mut text = Vec::new(alloc);
+    survey.push_conclusion(&mut text, fault)?;
     Ok(text)
 }
 
@@ -212,48 +235,129 @@ const FIVE: [Reading; 5] = [
 
 /// Their whole summary. Of the five lengths of `ready`, 0, 50, 60, 10001 and 24310, three are at most 60.
 const OF_FIVE: &str =
-    "frames: 4\ncommands: 1\ndata bytes: 3\nnot acknowledged: 1\nglitches: 1\ncut by the recording's end: 1\nready: 5, least 0, middle 60, greatest 24310, outside 1 to 10000: 3\nfirst pull: 4, least 40, middle 40, greatest 40, outside 1 to 199: 0\nanswer: 1, least 199, middle 199, greatest 199, outside 200 to 250: 1\nanswer length: 1, least 80, middle 80, greatest 80, outside 80 to 250: 0\npull after answer: 1, least 30, middle 30, greatest 30, outside 1 to 60: 0\nshortest low half: 4, least 19, middle 20, greatest 70, outside 20 to 200: 1\nlongest low half: 4, least 70, middle 71, greatest 201, outside 20 to 200: 1\nshortest high half: 4, least 10, middle 20, greatest 70, outside 20 to 200: 1\nlongest high half: 4, least 20, middle 21, greatest 200, outside 20 to 200: 0\nacknowledgement: 3, least 1, middle 20, greatest 81, outside 1 to 80: 1\n";
+    "ready: 5, least 0, middle 60, greatest 24310, outside 1 to 10000: 3\nfirst pull: 4, least 40, middle 40, greatest 40, outside 1 to 199: 0\nanswer: 1, least 199, middle 199, greatest 199, outside 200 to 250: 1\nanswer length: 1, least 80, middle 80, greatest 80, outside 80 to 250: 0\npull after answer: 1, least 30, middle 30, greatest 30, outside 1 to 60: 0\nshortest low half: 4, least 19, middle 20, greatest 70, outside 20 to 200: 1\nlongest low half: 4, least 70, middle 71, greatest 201, outside 20 to 200: 1\nshortest high half: 4, least 10, middle 20, greatest 70, outside 20 to 200: 1\nlongest high half: 4, least 20, middle 21, greatest 200, outside 20 to 200: 0\nacknowledgement: 3, least 1, middle 20, greatest 81, outside 1 to 80: 1\nframes: 4, commands: 1, data bytes: 3\nnot acknowledged: 1\nglitches: 1\n";
 
-/// Readings, whether only the beginning of the summary is wanted, and that or all of it. A whole byte waits for its acknowledgement in vain, one until the
+/// Readings, whether their intervals are asked for, and the summary, or with intervals its beginning. A whole byte waits for its acknowledgement in vain, one until the
 /// recording's end, and a glitch is cut by that, 60 microseconds from its look to ready. The middle is reported as it
 /// is up to 16383 microseconds. Of two lengths it is the lesser.
 const ROWS: [(&[Reading], bool, &str); 6] = [
-    (&FIVE, false, OF_FIVE),
+    (&FIVE, true, OF_FIVE),
     (
         &[Reading::Frame(LAST_AT_200, FrameEnd::Unacknowledged(40500))],
-        true,
-        "frames: 1\ncommands: 0\ndata bytes: 1\nnot acknowledged: 1\nglitches: 0\ncut by the recording's end: 0\n",
+        false,
+        "frames: 1, commands: 0, data bytes: 1\nnot acknowledged: 1\nglitches: 0\n",
     ),
     (
         &[Reading::Frame(LAST_AT_200, FrameEnd::Cut)],
-        true,
-        "frames: 1\ncommands: 0\ndata bytes: 1\nnot acknowledged: 0\nglitches: 0\ncut by the recording's end: 1\n",
+        false,
+        "frames: 1, commands: 0, data bytes: 1\nnot acknowledged: 0\nglitches: 0\n",
     ),
     (
         &[BEGUN],
-        true,
-        "frames: 0\ncommands: 0\ndata bytes: 0\nnot acknowledged: 0\nglitches: 1\ncut by the recording's end: 1\nready: 1, least 60, middle 60, greatest 60, outside 1 to 10000: 0\n",
+        false,
+        "frames: 0, commands: 0, data bytes: 0\nnot acknowledged: 0\nglitches: 1\n",
     ),
     (
         &[READY_AT_20000, READY_AT_16383],
         true,
-        "frames: 2\ncommands: 2\ndata bytes: 0\nnot acknowledged: 0\nglitches: 0\ncut by the recording's end: 2\nready: 2, least 16383, middle 16383, greatest 20000, outside 1 to 10000: 2\n",
+        "ready: 2, least 16383, middle 16383, greatest 20000, outside 1 to 10000: 2\n",
     ),
     (
         &[READY_AT_20000, READY_AT_16384],
         true,
-        "frames: 2\ncommands: 2\ndata bytes: 0\nnot acknowledged: 0\nglitches: 0\ncut by the recording's end: 2\nready: 2, least 16384, middle over 16383, greatest 20000, outside 1 to 10000: 2\n",
+        "ready: 2, least 16384, middle over 16383, greatest 20000, outside 1 to 10000: 2\n",
     ),
 ];
 
 #[test]
 fn summaries(rt: HostRuntime) {
-    for &(readings, is_beginning, wanted) in &ROWS {
-        let is_told = match summary(rt.alloc(), readings) {
+    for &(readings, has_intervals, wanted) in &ROWS {
+        let is_told = match summary(rt.alloc(), readings, has_intervals) {
             Ok(text) => {
                 text.as_slice() == wanted.as_bytes()
-                    || is_beginning && text.as_slice().starts_with(wanted.as_bytes())
+                    || has_intervals && text.as_slice().starts_with(wanted.as_bytes())
             }
+            Err(_refused) => false,
+        };
+        assert!(rt; is_told, "{wanted}");
+    }
+}
+
+/// Bounds, readings, the first fault of their edges, and the verdict.
+const VERDICTS: [(Bounds, &[Reading], Option<WaveFault>, &str); 11] = [
+    (
+        Bounds::Profile,
+        &[],
+        None,
+        "verdict: this project's timing\n",
+    ),
+    (
+        Bounds::Profile,
+        &[],
+        Some(WaveFault::Start(0)),
+        "verdict: differs from this project's timing at edge 0: bad start; no byte to measure\n",
+    ),
+    (
+        Bounds::Profile,
+        &[],
+        Some(WaveFault::Order(7)),
+        "verdict: differs from this project's timing at edge 7: bad order; no byte to measure\n",
+    ),
+    (
+        Bounds::Profile,
+        &[],
+        Some(WaveFault::TooEarly(12)),
+        "verdict: differs from this project's timing at edge 12: too early; no byte to measure\n",
+    ),
+    (
+        Bounds::Profile,
+        &[Reading::Frame(LAST_AT_200, FrameEnd::Unacknowledged(40500))],
+        Some(WaveFault::TooLate(1000)),
+        "verdict: differs from this project's timing at edge 1000: too late; within the guide's bounds\n",
+    ),
+    (
+        Bounds::Profile,
+        &FIVE,
+        Some(WaveFault::Shape(3)),
+        "verdict: damaged: glitch at 1000 us, bits 0; differs from this project's timing at edge 3: bad shape; outside the guide's bounds: byte $24 at 1000 us, shortest low half 19 us, the guide has 20 or more\n",
+    ),
+    (
+        Bounds::Profile,
+        &[READY_AT_16384],
+        Some(WaveFault::Truncated(40)),
+        "verdict: damaged: command $24 at 1000 us, cut by the recording's end; this project's timing, truncated at edge 40; within the guide's bounds\n",
+    ),
+    (
+        Bounds::Profile,
+        &[Reading::Frame(LAST_AT_200, FrameEnd::Acknowledged(40020))],
+        None,
+        "verdict: this project's timing\n",
+    ),
+    (
+        Bounds::Guide,
+        &FIVE,
+        Some(WaveFault::Shape(3)),
+        "verdict: damaged: glitch at 1000 us, bits 0; outside the guide's bounds: byte $24 at 1000 us, shortest low half 19 us, the guide has 20 or more\n",
+    ),
+    (
+        Bounds::Guide,
+        &[Reading::Frame(LAST_AT_200, FrameEnd::Acknowledged(40020))],
+        Some(WaveFault::Shape(3)),
+        "verdict: within the guide's bounds\n",
+    ),
+    (
+        Bounds::Guide,
+        &[],
+        Some(WaveFault::Start(0)),
+        "verdict: no byte to measure\n",
+    ),
+];
+
+#[test]
+fn verdicts(rt: HostRuntime) {
+    for &(bounds, readings, fault, wanted) in &VERDICTS {
+        let is_told = match verdict(rt.alloc(), bounds, readings, fault) {
+            Ok(text) => text.as_slice() == wanted.as_bytes(),
             Err(_refused) => false,
         };
         assert!(rt; is_told, "{wanted}");

@@ -2,7 +2,10 @@
 
 use pr_capture::{Signals, Source, TraceInput};
 use pr_jobs::{CliFault, Watched};
-use pr_recording::{PrinterPair, Wording, read_into, tell_input};
+use pr_recording::{
+    PrinterPair, Wording, read_into, readings_are_heard_in_turn, tell_input,
+    traces_are_heard_as_spelled,
+};
 use pr_report::{Bounds, Detail};
 
 const TEXT: TraceInput<'_> = TraceInput {
@@ -25,10 +28,8 @@ const LINES: Wording = Wording::Lines(Detail {
 
 /// What is written for no byte.
 const NOTHING: &str = "\
-    frames: 0\ncommands: 0\ndata bytes: 0\nnot acknowledged: 0\nglitches: 0\ncut by the recording's end: 0\n\
-    ready: none\nfirst pull: none\nanswer: none\nanswer length: none\npull after answer: none\n\
-    shortest low half: none\nlongest low half: none\nshortest high half: none\nlongest high half: none\n\
-    acknowledgement: none\nlawful\nno byte is acknowledged\nattention never comes: ATN is not pulled\n\
+    frames: 0, commands: 0, data bytes: 0\nnot acknowledged: 0\nglitches: 0\nverdict: this project's timing\n\
+    no byte is acknowledged\nattention never comes: ATN is not pulled\n\
     in a trace text the levels are those of ATN, CLOCK and DATA, and 1 is released\n";
 
 #[test]
@@ -60,4 +61,11 @@ fn too_large_for_pages(rt: HostRuntime) {
         let answer = read_into(rt.alloc(), &mut input, TEXT, limit, &mut printers).err();
         assert!(rt; answer == wanted, "limit {limit}");
     }
+}
+
+/// The laws.
+#[test]
+fn laws(_rt: HostRuntime) {
+    readings_are_heard_in_turn();
+    traces_are_heard_as_spelled();
 }

@@ -1,6 +1,5 @@
-//! Statements over a bus without wires.
+//! Statements over a bus without wires: what no page, trace or frame of a case shows of them.
 
-use crate::same::same;
 use pr_basic::{Session, Statement, StatusMode, perform, read_script};
 use pr_channels::{Channels, Stop};
 use pr_refusals::most_refusals;
@@ -35,163 +34,214 @@ fn performed(
     (stop, status, session.channel, output, items)
 }
 
-/// Performs a script over a bus on which nothing was sent, and compares what each statement leaves.
-/// Then these bytes are on the screen, and printer 4 heard these inputs.
-fn performs(
-    rt: &(impl Abort + AllocGlobal),
-    setup: (Present, StatusMode),
-    script: &str,
-    wanted: &[After],
-    screen: &[u8],
-    heard: &[Input],
-) {
-    let statements = read_script(rt.alloc(), script.as_bytes()).expect(rt, "a script");
-    let mut channels = Channels::new(rt.alloc(), Direct::new(rt.alloc(), setup.0));
-    let mut session = Session::new(setup.1);
-    for (statement, after) in statements.as_slice().iter().zip(wanted) {
-        let given = performed(rt, &mut channels, &mut session, statement);
-        same(rt, script, given, *after);
-    }
-    let is_well = statements.len() == wanted.len()
-        && channels.screen() == screen
-        && channels.serial().heard(4) == heard;
-    assert!(rt; is_well, "{script}");
+/// A script, the printers, the status mode, what each of its statements leaves, and then the bytes on the screen and what
+/// printer 4 heard.
+struct Worked {
+    name: &'static str,
+    script: &'static [u8],
+    present: Present,
+    mode: StatusMode,
+    after: &'static [After],
+    screen: &'static [u8],
+    heard: &'static [Input],
 }
 
-#[test]
-fn line_feed_channel(rt: HostRuntime) {
-    const AFTER: [After; 3] = [(None, 0, 0, 3, 0), (None, 0, 0, 3, 5), (None, 0, 0, 3, 10)];
-    const HEARD: [Input; 8] = [
-        Input::Select(false),
-        Input::Byte(65),
-        Input::Byte(13),
-        Input::Byte(10),
-        Input::Select(false),
-        Input::Byte(66),
-        Input::Byte(13),
-        Input::Byte(10),
-    ];
-    let script = "OPEN 128,4:PRINT#128,\"A\":PRINT#128,\"B\"";
-    performs(&rt, (BOTH, StatusMode::Each), script, &AFTER, &[], &HEARD);
-}
-
-#[test]
-fn return_inside_a_list(rt: HostRuntime) {
-    const AFTER: [After; 2] = [(None, 0, 0, 3, 0), (None, 0, 0, 3, 7)];
-    const HEARD: [Input; 6] = [
-        Input::Select(false),
-        Input::Byte(65),
-        Input::Byte(13),
-        Input::Byte(66),
-        Input::Byte(13),
-        Input::Byte(10),
-    ];
-    let script = "OPEN 130,4:PRINT#130,\"A\"CHR$(13)\"B\"";
-    performs(&rt, (BOTH, StatusMode::Each), script, &AFTER, &[], &HEARD);
-}
-
-/// The eleventh of eleven statements stops so, and no other does or sends anything.
-fn eleventh_stops(rt: &(impl Abort + AllocGlobal), script: &str, stop: Stop) {
-    let mut wanted: [After; 11] = [(None, 0, 0, 3, 0); 11];
-    wanted[10] = (Some(stop), 0, 0, 3, 0);
-    performs(rt, (BOTH, StatusMode::Each), script, &wanted, &[], &[]);
-}
-
-#[test]
-fn stops_of_the_file_table(rt: HostRuntime) {
-    let eleven = "OPEN 1,4:OPEN 2,4:OPEN 3,4:OPEN 4,4:OPEN 5,4:OPEN 6,4\n\
-        OPEN 7,4:OPEN 8,4:OPEN 9,4:OPEN 10,4:OPEN 11,4";
-    eleventh_stops(&rt, eleven, Stop::TooManyFiles);
-    let three_again = "OPEN 1,4:OPEN 2,4:OPEN 3,4:OPEN 4,4:OPEN 5,4:OPEN 6,4\n\
-        OPEN 7,4:OPEN 8,4:OPEN 9,4:OPEN 10,4:OPEN 3,4";
-    eleventh_stops(&rt, three_again, Stop::FileOpen);
-}
-
-#[test]
-fn each_statement_stops_by_itself(rt: HostRuntime) {
-    const AFTER: [After; 4] = [
-        (Some(Stop::NotInputFile), 0, 0, 3, 0),
-        (None, 0, 0, 3, 0),
-        (Some(Stop::FileOpen), 0, 0, 3, 0),
-        (Some(Stop::FileNotOpen), 0, 0, 3, 0),
-    ];
-    let script = "OPEN 0,4:OPEN 4,4:OPEN 4,5:PRINT#9,\"A\"";
-    performs(&rt, (BOTH, StatusMode::Each), script, &AFTER, &[], &[]);
-}
-
-/// With printer 4 alone two lines go to printer 5: a byte that nobody hears stops a later PRINT#
-/// where the status is kept, and else leaves its status alone.
-#[test]
-fn unanswered_byte_in_both_modes(rt: HostRuntime) {
-    const MISSING: Option<Stop> = Some(Stop::DeviceNotPresent);
-    const EACH: [After; 3] = [
-        (None, 0, 0, 3, 0),
-        (None, 128, 0, 3, 4),
-        (None, 128, 0, 3, 8),
-    ];
-    const KEPT: [After; 3] = [
-        (None, 0, 0, 3, 0),
-        (None, 128, 0, 3, 4),
-        (MISSING, 128, 0, 3, 5),
-    ];
-    let script = "OPEN 5,5:PRINT#5,\"A\":PRINT#5,\"B\"";
-    performs(&rt, (ONLY_FOUR, StatusMode::Each), script, &EACH, &[], &[]);
-    performs(&rt, (ONLY_FOUR, StatusMode::Kept), script, &KEPT, &[], &[]);
-}
-
-/// A byte that nobody hears stops the next PRINT# while it still waits.
-#[test]
-fn byte_that_waits_is_unanswered(rt: HostRuntime) {
-    const AFTER: [After; 4] = [
-        (None, 0, 0, 3, 0),
-        (None, 0, 0, 3, 0),
-        (None, 128, 5, 5, 2),
-        (Some(Stop::DeviceNotPresent), 128, 0, 3, 5),
-    ];
-    let script = "OPEN 4,4:OPEN 5,5:CMD 5,\"A\":PRINT#4,\"B\"";
-    let heard = [Input::Select(false)];
-    performs(
-        &rt,
-        (ONLY_FOUR, StatusMode::Each),
-        script,
-        &AFTER,
-        &[],
-        &heard,
-    );
-}
+/// What a statement that does not print leaves, where nothing was sent before it.
+const QUIET: After = (None, 0, 0, 3, 0);
 
 /// CMD's channel number stays for PRINT and CLOSE, and ends with PRINT# or a stop; CLOSE notifies a
-/// device only where the file has a secondary address, and leaves the output device.
+/// device only where the file has a secondary address, and leaves the output device. With printer 4 alone a byte that
+/// nobody hears stops a later PRINT# where the status is kept, or while it still waits, and else leaves its status alone.
+static WORKED: [Worked; 9] = [
+    Worked {
+        name: "each_statement_stops_by_itself",
+        script: b"OPEN 0,4:OPEN 4,4:OPEN 4,5:PRINT#9,\"A\"",
+        present: BOTH,
+        mode: StatusMode::Each,
+        after: &[
+            (Some(Stop::NotInputFile), 0, 0, 3, 0),
+            QUIET,
+            (Some(Stop::FileOpen), 0, 0, 3, 0),
+            (Some(Stop::FileNotOpen), 0, 0, 3, 0),
+        ],
+        screen: &[],
+        heard: &[],
+    },
+    Worked {
+        name: "channel_number_follows",
+        script: b"OPEN 200,4:OPEN 7,4,7:CMD 200,\"A\";:PRINT\"X\"\n\
+            CLOSE 200:CLOSE 7:PRINT#7,\"B\":PRINT\"X\"",
+        present: BOTH,
+        mode: StatusMode::Each,
+        after: &[
+            QUIET,
+            QUIET,
+            (None, 0, 200, 4, 1),
+            (None, 0, 200, 4, 4),
+            (None, 0, 200, 4, 4),
+            (None, 0, 200, 4, 7),
+            (Some(Stop::FileNotOpen), 0, 0, 3, 8),
+            (None, 0, 0, 3, 8),
+        ],
+        screen: &[88, 13],
+        heard: &[
+            Input::Select(false),
+            Input::Byte(65),
+            Input::Byte(88),
+            Input::Byte(13),
+            Input::Byte(10),
+            Input::Select(false),
+        ],
+    },
+    Worked {
+        name: "line_feed_channel",
+        script: b"OPEN 128,4:PRINT#128,\"A\":PRINT#128,\"B\"",
+        present: BOTH,
+        mode: StatusMode::Each,
+        after: &[QUIET, (None, 0, 0, 3, 5), (None, 0, 0, 3, 10)],
+        screen: &[],
+        heard: &[
+            Input::Select(false),
+            Input::Byte(65),
+            Input::Byte(13),
+            Input::Byte(10),
+            Input::Select(false),
+            Input::Byte(66),
+            Input::Byte(13),
+            Input::Byte(10),
+        ],
+    },
+    Worked {
+        name: "return_inside_a_list",
+        script: b"OPEN 130,4:PRINT#130,\"A\"CHR$(13)\"B\"",
+        present: BOTH,
+        mode: StatusMode::Each,
+        after: &[QUIET, (None, 0, 0, 3, 7)],
+        screen: &[],
+        heard: &[
+            Input::Select(false),
+            Input::Byte(65),
+            Input::Byte(13),
+            Input::Byte(66),
+            Input::Byte(13),
+            Input::Byte(10),
+        ],
+    },
+    Worked {
+        name: "stops_of_the_file_table, the eleventh file",
+        script: b"OPEN 1,4:OPEN 2,4:OPEN 3,4:OPEN 4,4:OPEN 5,4:OPEN 6,4\n\
+            OPEN 7,4:OPEN 8,4:OPEN 9,4:OPEN 10,4:OPEN 11,4",
+        present: BOTH,
+        mode: StatusMode::Each,
+        after: &[
+            QUIET,
+            QUIET,
+            QUIET,
+            QUIET,
+            QUIET,
+            QUIET,
+            QUIET,
+            QUIET,
+            QUIET,
+            QUIET,
+            (Some(Stop::TooManyFiles), 0, 0, 3, 0),
+        ],
+        screen: &[],
+        heard: &[],
+    },
+    Worked {
+        name: "stops_of_the_file_table, an open file",
+        script: b"OPEN 1,4:OPEN 2,4:OPEN 3,4:OPEN 4,4:OPEN 5,4:OPEN 6,4\n\
+            OPEN 7,4:OPEN 8,4:OPEN 9,4:OPEN 10,4:OPEN 3,4",
+        present: BOTH,
+        mode: StatusMode::Each,
+        after: &[
+            QUIET,
+            QUIET,
+            QUIET,
+            QUIET,
+            QUIET,
+            QUIET,
+            QUIET,
+            QUIET,
+            QUIET,
+            QUIET,
+            (Some(Stop::FileOpen), 0, 0, 3, 0),
+        ],
+        screen: &[],
+        heard: &[],
+    },
+    Worked {
+        name: "unanswered_byte_in_both_modes, each",
+        script: b"OPEN 5,5:PRINT#5,\"A\":PRINT#5,\"B\"",
+        present: ONLY_FOUR,
+        mode: StatusMode::Each,
+        after: &[QUIET, (None, 128, 0, 3, 4), (None, 128, 0, 3, 8)],
+        screen: &[],
+        heard: &[],
+    },
+    Worked {
+        name: "unanswered_byte_in_both_modes, kept",
+        script: b"OPEN 5,5:PRINT#5,\"A\":PRINT#5,\"B\"",
+        present: ONLY_FOUR,
+        mode: StatusMode::Kept,
+        after: &[
+            QUIET,
+            (None, 128, 0, 3, 4),
+            (Some(Stop::DeviceNotPresent), 128, 0, 3, 5),
+        ],
+        screen: &[],
+        heard: &[],
+    },
+    Worked {
+        name: "byte_that_waits_is_unanswered",
+        script: b"OPEN 4,4:OPEN 5,5:CMD 5,\"A\":PRINT#4,\"B\"",
+        present: ONLY_FOUR,
+        mode: StatusMode::Each,
+        after: &[
+            QUIET,
+            QUIET,
+            (None, 128, 5, 5, 2),
+            (Some(Stop::DeviceNotPresent), 128, 0, 3, 5),
+        ],
+        screen: &[],
+        heard: &[Input::Select(false)],
+    },
+];
+
+/// Those, for callers whose proofs do not read them.
+fn worked_rows() -> &'static [Worked] {
+    &WORKED
+}
+
+/// Performs statements over a bus on which nothing was sent, and compares what each leaves.
+fn played(
+    rt: &(impl Abort + AllocGlobal),
+    statements: &[Statement],
+    row: &Worked,
+) -> Channels<Direct> {
+    let mut channels = Channels::new(rt.alloc(), Direct::new(rt.alloc(), row.present));
+    let mut session = Session::new(row.mode);
+    for (statement, after) in statements.iter().zip(row.after) {
+        let given = performed(rt, &mut channels, &mut session, statement);
+        assert!(rt; given == *after, "{}", row.name);
+    }
+    channels
+}
+
+/// Plays a script, and compares what it leaves in the end.
+fn plays(rt: &(impl Abort + AllocGlobal), row: &Worked) {
+    let statements = read_script(rt.alloc(), row.script).expect(rt, "a script");
+    assert!(rt; statements.len() == row.after.len());
+    let channels = played(rt, &statements, row);
+    assert!(rt; channels.screen() == row.screen && channels.serial().heard(4) == row.heard);
+}
+
 #[test]
-fn channel_number_follows(rt: HostRuntime) {
-    const AFTER: [After; 8] = [
-        (None, 0, 0, 3, 0),
-        (None, 0, 0, 3, 0),
-        (None, 0, 200, 4, 1),
-        (None, 0, 200, 4, 4),
-        (None, 0, 200, 4, 4),
-        (None, 0, 200, 4, 7),
-        (Some(Stop::FileNotOpen), 0, 0, 3, 8),
-        (None, 0, 0, 3, 8),
-    ];
-    const HEARD: [Input; 6] = [
-        Input::Select(false),
-        Input::Byte(65),
-        Input::Byte(88),
-        Input::Byte(13),
-        Input::Byte(10),
-        Input::Select(false),
-    ];
-    let script = "OPEN 200,4:OPEN 7,4,7:CMD 200,\"A\";:PRINT\"X\"\n\
-        CLOSE 200:CLOSE 7:PRINT#7,\"B\":PRINT\"X\"";
-    performs(
-        &rt,
-        (BOTH, StatusMode::Each),
-        script,
-        &AFTER,
-        &[88, 13],
-        &HEARD,
-    );
+fn worked_scripts(rt: HostRuntime) {
+    for row in worked_rows() {
+        plays(&rt, row);
+    }
 }
 
 /// Whether a statement reaches the bus, where its file is open with a secondary address.
@@ -205,15 +255,15 @@ fn reaches_bus(channels: &Channels<Direct>, statement: &Statement) -> bool {
     }
 }
 
-/// The number of items, the output device, the number of open files and the status.
-fn state_of(channels: &Channels<Direct>) -> (u64, u8, usize, u8) {
-    let open = channels.files().as_slice().len();
-    (
-        channels.serial().items(),
-        channels.output(),
-        open,
-        channels.readst(),
-    )
+/// Whether the number of items, the output device and the number of open files are these, the status is 0, and the
+/// screen shows no less.
+fn stays(channels: &Channels<Direct>, before: (u64, u8, usize), shown: usize) -> bool {
+    let (items, output, open) = before;
+    channels.serial().items() == items
+        && channels.output() == output
+        && channels.files().as_slice().len() == open
+        && channels.readst() == 0
+        && channels.screen().len() >= shown
 }
 
 /// Performs a statement, and returns whether it was refused. Then the session is as before, and either the
@@ -225,16 +275,17 @@ fn is_refused(
     session: &mut Session,
     statement: &Statement,
 ) -> bool {
-    let (before, shown) = (*session, channels.screen().len());
-    let (items, output, open, _status) = state_of(channels);
+    let (settled, shown) = (*session, channels.screen().len());
+    let open = channels.files().as_slice().len();
+    let before = (channels.serial().items(), channels.output(), open);
     let is_lost = channels.serial().failed() && reaches_bus(channels, statement);
-    assert!(rt; channels.serial().items() < 1000);
+    assert!(rt; before.0 < 1000);
     let told = perform(channels, statement, session);
-    let is_as_before = state_of(channels) == (items, output, open, 0)
-        && channels.screen().len() >= shown;
     let is_well = match told {
         Ok(stop) => stop.is_none() && !is_lost,
-        Err(_refused) => *session == before && (channels.serial().failed() || is_as_before),
+        Err(_refused) => {
+            *session == settled && (channels.serial().failed() || stays(channels, before, shown))
+        }
     };
     assert!(rt; is_well);
     told.is_err()

@@ -1,13 +1,12 @@
 //! Scripts without device 5.
 
-use crate::same::same;
 use crate::system::two_letters::statements_of;
 use pr_basic::Statement;
 use pr_system::without_device;
 use std::process::Abort;
 
 /// The name of a row, a script, and the same without device 5.
-const ROWS: [(&str, &[u8], &[u8]); 5] = [
+static ROWS: [(&str, &[u8], &[u8]); 5] = [
     (
         "without_five_keeps_four",
         b"OPEN 4,4\nOPEN 5,5\nPRINT#4,\"A\"\nPRINT#5,\"B\"\nCLOSE 5\nPRINT#4,\"C\"",
@@ -35,6 +34,11 @@ const ROWS: [(&str, &[u8], &[u8]); 5] = [
     ),
 ];
 
+/// Those, for a caller whose proof does not read them.
+fn rows() -> &'static [(&'static str, &'static [u8], &'static [u8])] {
+    &ROWS
+}
+
 /// The statements as text.
 fn shown(rt: &(impl Abort + AllocGlobal), statements: &[Statement]) -> String {
     format!(in rt.alloc(); "{statements:?}").expect(rt, "memory")
@@ -49,8 +53,8 @@ fn without_five(rt: &(impl Abort + AllocGlobal), script: &[u8]) -> String {
 
 #[test]
 fn without_device_five(rt: HostRuntime) {
-    for (name, script, wanted) in ROWS {
+    for &(name, script, wanted) in rows() {
         let wanted = shown(&rt, &statements_of(&rt, wanted));
-        same(&rt, name, without_five(&rt, script), wanted);
+        assert!(rt; without_five(&rt, script) == wanted, "{name}");
     }
 }

@@ -1,14 +1,34 @@
 //! Refused memory.
 
-ghost use Rattle.std.specs.Prelude.{◌≤◌, length};
+ghost use Rattle.std.specs.Prelude.{◌≡◌, ◌≤◌, false, length, None};
 ghost use Rattle.pr_basic.specs.Limits.{statement_limit};
 
-use crate::system::steps::are_refused;
 use crate::system::two_letters::{BOTH, is_outcome, typical};
 use pr_basic::{Statement, StatusMode, read_script};
 use pr_refusals::most_refusals;
-use pr_system::{Running, run, without_device};
+use pr_serial::Bus;
+use pr_system::{Running, RunningOver, run, without_device};
 use std::process::Abort;
+
+/// Performs statements, none of which stops. True if memory is refused: once a step was refused, each
+/// later one is.
+fn are_refused<B: Bus + Drop>(
+    rt: &impl Abort,
+    running: &mut RunningOver<B>,
+    statements: &[Statement],
+) -> bool
+    requires { running.old.failed ≡ false → running.old.stop ≡ None }
+{
+    let mut refused = false;
+    for statement in statements {
+        assert!(rt; running.statuses().len() < 1000);
+        match running.step(statement) {
+            Ok(stop) => assert!(rt; stop.is_none() && !refused),
+            Err(_refused) => refused = true,
+        }
+    }
+    refused
+}
 
 /// Performs the statements one by one. True if memory is refused; if not, the outcome is right.
 fn steps_are_refused(rt: &(impl Abort + AllocGlobal), statements: &[Statement]) -> bool {

@@ -1,7 +1,7 @@
 //! Whole runs, whose trace is kept.
 
 use crate::system::two_letters::{
-    BOTH, are_of_the_example, is_outcome, is_page, statements_of, typical,
+    BOTH, are_the_example, is_outcome, is_page, statements_of, typical,
 };
 use pr_basic::StatusMode;
 use pr_bus::Delays;
@@ -30,7 +30,7 @@ fn run_up_to_a_stop(rt: HostRuntime) {
     let outcome = outcome_of(&rt, script);
     let stop = Some((4, Stop::FileNotOpen));
     assert!(rt; is_outcome(&outcome, &[0; 4], stop, &[], 110));
-    are_of_the_example(&rt, outcome.trace.as_slice(), 0, 110);
+    assert!(rt; are_the_example(&rt, outcome.trace.as_slice()));
 }
 
 /// A run that prints nothing: its script, printers, status mode and delay numbers of the computer and of printer 4; then its
@@ -137,13 +137,23 @@ fn spells(rt: &(impl Abort + AllocGlobal), outcome: &Outcome, commands: &[u8]) -
     are_commands(frames.as_slice(), commands)
 }
 
+/// The quiet runs, for callers whose proofs do not read them.
+fn quiet_runs() -> &'static [Quiet] {
+    &QUIET
+}
+
+/// Runs, and compares what that gives.
+fn runs_quietly(rt: &(impl Abort + AllocGlobal), row: &Quiet) {
+    let outcome = outcome_by_settings(rt, row);
+    assert!(rt; is_quiet(&outcome, row), "{} edges", row.edges);
+    assert!(rt; spells(rt, &outcome, row.commands), "{} edges", row.edges);
+}
+
 /// The program steps through a run; these settings reach `run` here alone.
 #[test]
 fn runs_by_settings(rt: HostRuntime) {
-    for row in &QUIET {
-        let outcome = outcome_by_settings(&rt, row);
-        let is_well = is_quiet(&outcome, row) && spells(&rt, &outcome, row.commands);
-        assert!(rt; is_well, "{} edges", row.edges);
+    for row in quiet_runs() {
+        runs_quietly(&rt, row);
     }
 }
 

@@ -10,7 +10,7 @@ use pr_page::{Mark, Paper, Placed};
 use pr_serial::Present;
 use pr_system::Outcome;
 use pr_wire::example::TRACE_TEXT;
-use pr_wire::{Choices, Edge, read_trace};
+use pr_wire::{Choices, Edge, write_trace};
 use std::alloc::Global;
 use std::process::Abort;
 
@@ -18,9 +18,6 @@ pub const BOTH: Present = Present {
     four: true,
     five: true,
 };
-
-/// Prints the two letters.
-pub const SCRIPT: &[u8] = b"OPEN 4,4\nPRINT#4,\"HI\"\nCLOSE 4";
 
 /// The marks of the two letters.
 pub const LETTERS: [Placed; 2] = [
@@ -87,14 +84,8 @@ pub fn is_outcome(
         && outcome.trace.len() == edges
 }
 
-/// The edges are those of the example trace from one index up to another.
-pub fn are_of_the_example(
-    rt: &(impl Abort + AllocGlobal),
-    edges: &[Edge],
-    first: usize,
-    end: usize,
-) {
-    let example = read_trace(rt.alloc(), TRACE_TEXT.as_bytes()).expect(rt, "a trace");
-    assert!(rt; first <= end && end <= example.len());
-    assert!(rt; edges == &example[first..end]);
+/// Whether these are the edges of the example trace.
+pub fn are_the_example(rt: &(impl Abort + AllocGlobal), edges: &[Edge]) -> bool {
+    let text = write_trace(rt.alloc(), edges).expect(rt, "memory");
+    text.as_slice() == TRACE_TEXT.as_bytes()
 }

@@ -300,7 +300,7 @@ impl Call {
             Call::Pages(present, format) => {
                 let start = started(alloc, present);
                 let end = pages_as_over(alloc, input, output, start, format, &Shapes::own())?;
-                Ok(end.ending())
+                Ok(end.run.ending())
             }
             Call::Bus(format) => {
                 let start = started(alloc, BOTH);

@@ -1,4 +1,4 @@
-use Rattle.std.proofs.Common.{◌≡◌, ◌^◌, ◌<◌, length}
+use Rattle.std.proofs.Common.{◌≡◌, ◌+◌, ◌^◌, ◌<◌, length}
 use Rattle.std.specs.Prelude.{option_copied}
 use Rattle.pr_capture.specs.Csv.{has_times}
 use Rattle.pr_capture.specs.CsvSteps.{fields_left}
@@ -11,6 +11,6 @@ decreases-loop-left l = length (fields_left l.separator (option_copied l.left))
 -- the fields left decide, and there are not too many
 abbrev pub invariant-loop-left : goal.invariant-loop-left
 invariant-loop-left l = record {
-  left : has_times (fields_left l.separator (option_copied l.left)) ≡ has_times (fields_left l.separator (option_copied l.fields));
-  few : length (fields_left l.separator (option_copied l.left)) < 2 ^ 64;
+  left : has_times l.columns l.column (fields_left l.separator (option_copied l.left)) ≡ has_times l.columns l.place (fields_left l.separator (option_copied l.fields));
+  few : l.column + length (fields_left l.separator (option_copied l.left)) < 2 ^ 64;
 }

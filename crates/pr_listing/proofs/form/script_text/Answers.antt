@@ -1,4 +1,4 @@
-use Rattle.std.proofs.Common.{◌≡◌, ◌⊎◌, sym, subst, List, ℕ}
+use Rattle.std.proofs.Common.{◌≡◌, ◌⊎◌, subst, List, ℕ}
 use Rattle.std.specs.Prelude.{IfErr, IfOk, MatchResult}
 use Rattle.pr_listing.specs.Forms.{HasNoPlainText, HasPlainText, plain_form}
 use Rattle.pr_listing.specs.declared.fault.ListingFault.TheVariants.{NoMemory}

@@ -9,13 +9,13 @@ returns-then-not-quoted c =
     let out : c.args.quoted ≡ false = grind (arith, common_steps) in
     rw (take_rest c.args.bytes.now 1) (plain_piece _ c.args.quoted c.args.bytes.now _ _ _ _ out c.requires refl c.in_ok-add_one.ensures.ok refl, omega (arith, length-drop 1 c.args.bytes.now))
 
-pub returns-then-c-eq123 : goal.returns-then-c-eq123
-returns-then-c-eq123 c =
+pub returns-in_ok-rest-in-Some : goal.returns-in_ok-rest-in-Some
+returns-in_ok-rest-in-Some c =
     let within : c.args.quoted ≡ true = grind (arith, common_steps) in
-    let name = rw (take_rest c.args.bytes.now 1) at c.in_ok-rest.ensures in
-    (name_piece _ c.args.quoted c.args.bytes.now _ _ _ within c.requires c.if-c-eq123.true name.0, omega (arith, name.1, length-drop 1 c.args.bytes.now))
+    let name = rw (take_rest c.args.bytes.now 1) at c.in_ok-rest-in-Some.ensures in
+    (name_piece _ _ c.args.quoted c.args.bytes.now _ _ _ within c.requires c.in-Some.ensures name.0, omega (arith, name.1, length-drop 1 c.args.bytes.now))
 
-pub returns : goal.returns
-returns c =
+pub returns-in_ok-add_character-in-None : goal.returns-in_ok-add_character-in-None
+returns-in_ok-add_character-in-None c =
     let within : c.args.quoted ≡ true = grind (arith, common_steps) in
-    rw (take_rest c.args.bytes.now 1) (character_piece _ c.args.quoted c.args.bytes.now _ _ _ _ within c.requires refl c.in_ok-add_character.ensures refl, omega (arith, length-drop 1 c.args.bytes.now))
+    rw (take_rest c.args.bytes.now 1) (character_piece _ c.args.quoted c.args.bytes.now _ _ _ _ within c.requires c.in-None.ensures refl c.in_ok-add_character-in-None.ensures refl, omega (arith, length-drop 1 c.args.bytes.now))

@@ -1,6 +1,6 @@
 use Rattle.std.proofs.Common.{ap, ◌∙◌}
 use Rattle.pr_report.specs.Steps.{counted}
-use Rattle.pr_report.specs.Summary.{is_command, is_cut, is_data_byte, is_frame, is_incomplete, is_unacknowledged}
+use Rattle.pr_report.specs.Summary.{is_command, is_data_byte, is_frame, is_incomplete, is_unacknowledged}
 use Rattle.pr_report.proofs.Sums.{counted-more}
 use Rattle.pr_report.proofs.counts.Counts.with.Goals as goal
 
@@ -14,5 +14,4 @@ returns c = λ rs few h.
       data_bytes = counted-more is_data_byte rs r old.data_bytes c.counted-data_bytes.result few h.data_bytes (c.counted-data_bytes.ensures ∙ ap (λ b. counted b old.data_bytes) c.is_data_byte.ensures);
       unacknowledged = counted-more is_unacknowledged rs r old.unacknowledged c.counted-unacknowledged.result few h.unacknowledged (c.counted-unacknowledged.ensures ∙ ap (λ b. counted b old.unacknowledged) c.is_unacknowledged.ensures);
       incomplete = counted-more is_incomplete rs r old.incomplete c.counted-incomplete.result few h.incomplete (c.counted-incomplete.ensures ∙ ap (λ b. counted b old.incomplete) c.is_incomplete.ensures);
-      cut = counted-more is_cut rs r old.cut c.counted-cut.result few h.cut (c.counted-cut.ensures ∙ ap (λ b. counted b old.cut) c.is_cut.ensures);
     }

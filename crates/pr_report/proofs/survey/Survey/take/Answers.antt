@@ -1,7 +1,9 @@
 use Rattle.std.proofs.Common.{◌≡◌, ◌+◌, ◌<◌, ◌^◌, ◌++◌, ◌∷◌, [], length, arith}
+use Rattle.pr_report.specs.declared.detail.Bounds.TheVariants.{Guide}
 use Rattle.pr_report.specs.declared.interval.Interval.TheVariants.{Ready, FirstPull, Answer, AnswerLength, PullAfterAnswer, ShortestLow, LongestLow, ShortestHigh, LongestHigh, Acknowledgement}
 use Rattle.pr_report.proofs.Sums.{one-longer}
-use Rattle.pr_report.proofs.FoundOutside.{kept-more}
+use Rattle.pr_report.proofs.FoundOutside.{found-more}
+use Rattle.pr_report.proofs.Surveyed.{damage-more}
 use Rattle.pr_report.proofs.survey.Survey.take.Goals as goal
 
 pub returns-clause-taken : goal.returns-clause-taken
@@ -13,7 +15,8 @@ returns-clause-taken c = λ b rs h.
       taken = omega arith;
       few = omega arith;
       bounds = h.bounds;
-      outside = kept-more b rs c.args.reading.now c.args.self.now.bounds c.args.self.now.outside c.with_reading-self.result h.bounds h.outside c.with_reading-self.ensures;
+      damaged = damage-more rs c.args.reading.now c.args.self.now.damaged c.with_damage-self.result h.damaged c.with_damage-self.ensures;
+      outside = found-more Guide rs c.args.reading.now c.args.self.now.outside c.with_reading-self.result h.outside c.with_reading-self.ensures;
       counts = c.with-self.ensures rs few h.counts;
       ready = c.take.ensures b Ready rs few h.ready;
       first_pull = c.take-2.ensures b FirstPull rs few h.first_pull;

@@ -1,0 +1,180 @@
+//! What separates the fields of a table, and which of its columns has the times.
+
+use crate::names::{
+    begins_with, first_field, has_others, has_times_behind, is_signal, push_later_columns,
+    separator_of,
+};
+use crate::texts::unframed;
+use pr_capture::TraceInput;
+use pr_wire::NoMemory;
+
+/// A line that says what separates fields, as `sep=;` does.
+#[derive(Clone, Copy)]
+pub struct Said {
+    /// Its number, from 1.
+    number: usize,
+    separator: u8,
+}
+
+/// What separates the fields of a line of this number: what a line before it says, or else its own first separator.
+pub fn separator_at(bytes: &[u8], line: &[u8], number: usize) -> Option<u8> {
+    match said_before(bytes, number) {
+        Some(said) => Some(said.separator),
+        None => separator_of(line),
+    }
+}
+
+/// The line before that of this number which says last what separates fields, if one does.
+fn said_before(bytes: &[u8], number: usize) -> Option<Said> {
+    let mut said = None;
+    let mut at: usize = 0;
+    for line in bytes.split(|byte| *byte == b'\n') {
+        at = at.wrapping_add(1);
+        if at >= number {
+            break;
+        }
+        if let Some(separator) = separator_in(line) {
+            said = Some(Said {
+                number: at,
+                separator,
+            });
+        }
+    }
+    said
+}
+
+/// What a line says of the fields' separator, if it says no more.
+fn separator_in(line: &[u8]) -> Option<u8> {
+    let at = line.iter().position(|byte| *byte == b'=')?;
+    match &line[at..] {
+        [_, separator, rest @ ..]
+            if matches!(*separator, b',' | b';' | b'\t')
+                && unframed(&line[..at]).eq_ignore_ascii_case(b"sep")
+                && unframed(rest).is_empty() => { Some(*separator) }
+        _ => None,
+    }
+}
+
+/// The line that says what separates fields, where the names of the columns have another separator alone.
+pub fn other_said(bytes: &[u8], names: &[u8], number: usize) -> Option<Said> {
+    let said = said_before(bytes, number)?;
+    if names.contains(&said.separator) || separator_of(names).is_none() {
+        return None;
+    }
+    Some(said)
+}
+
+/// Adds that a line says what separates fields, and nothing else that the names of the columns have.
+pub fn push_other_said(text: &mut String, said: Said) -> Result<(), NoMemory> {
+    let number = said.number;
+    let sign = match said.separator {
+        b',' => "a comma",
+        b';' => "a semicolon",
+        _ => "a tab",
+    };
+    write!(
+        text,
+        "  line {number} says that {sign} separates the fields, and here is none: correct line {number}, \
+         or leave it out\n"
+    )
+}
+
+/// Whether a table that is refused in the line of this number has a rate, by an option or, as it seems, by a remark.
+pub fn has_rate(bytes: &[u8], input: TraceInput<'_>, number: usize) -> bool {
+    input.rate.is_some() || has_rate_remark(bytes, number)
+}
+
+/// Whether a line before that of this number has the word rate in it, and then a digit.
+fn has_rate_remark(bytes: &[u8], number: usize) -> bool {
+    let mut at: usize = 0;
+    for line in bytes.split(|byte| *byte == b'\n') {
+        at = at.wrapping_add(1);
+        if at >= number {
+            break;
+        }
+        if has_word_of_rates(line) {
+            return true;
+        }
+    }
+    false
+}
+
+/// Whether a line has the word rate in it, or a longer one, and then a digit.
+fn has_word_of_rates(line: &[u8]) -> bool {
+    for i in 0..line.len() {
+        if begins_with(&line[i..], b"rate") {
+            return has_digit(&line[i..]);
+        }
+    }
+    false
+}
+
+/// Whether a digit is among bytes.
+fn has_digit(bytes: &[u8]) -> bool {
+    for byte in bytes {
+        if byte.is_ascii_digit() {
+            return true;
+        }
+    }
+    false
+}
+
+/// Adds what a table has that is refused since it has no times: by this line, of its names or a row whose first cell is
+/// no level, and by whether a rate is given.
+pub fn push_times_rule(
+    text: &mut String,
+    line: &[u8],
+    separator: u8,
+    input: TraceInput<'_>,
+    is_rated: bool,
+) -> Result<(), NoMemory> {
+    let name = first_field(separator, line);
+    let signals = input.signals;
+    let is_first = is_signal(name, signals) || begins_with(name, b"sample");
+    if is_rated && is_first && has_others(separator, line, signals) {
+        return push_later_columns(text, separator, line, signals);
+    }
+    let rule = if is_signal(name, signals) && !has_times_behind(separator, line) {
+        "the first column is a signal: --rate gives the distance of the samples, such as --rate 4M, or a \
+         remark such as ; Samplerate: 4 MHz; a column of times would be the first"
+    } else {
+        rule_of_times(separator, line, name)
+    };
+    write!(text, "  {rule}\n")
+}
+
+/// The same where no first column is one of a signal.
+fn rule_of_times(separator: u8, line: &[u8], name: &[u8]) -> &'static str {
+    if begins_number(name) {
+        "this first column has no levels, and its name is none of times: name this column: Time [us], \
+         Sample; or move it behind the signals if it is neither"
+    } else if has_times_behind(separator, line) {
+        "a later column has times: move it to the front, and name it with its unit, such as Time [us]"
+    } else if begins_with(name, b"sample") {
+        "these are numbers of samples: give the sample rate with --rate, such as --rate 4M, or in a remark \
+         such as ; Samplerate: 4 MHz"
+    } else if begins_with(name, b"delta") {
+        "a column Delta has differences, and does not say of which rows: export the times of the rows, and \
+         name this column: Time [us], Sample"
+    } else if is_time_alone(name) {
+        "the unit of these times is not known: name it, such as Time [ms], or, where they are in seconds, \
+         leave out the sample rate (--rate, or the line that gives it); a table of sigrok-cli is read with \
+         its own remarks and without --rate: write it from a .sr file"
+    } else {
+        "expected a first column of times or of sample numbers: name this column: Time [us], Sample; or \
+         move the column of times to the front; where no column is of times, give the sample rate with \
+         --rate, such as --rate 4M, or in a remark such as ; Samplerate: 4 MHz"
+    }
+}
+
+/// Whether a cell begins as a number does, and a name hardly.
+pub fn begins_number(cell: &[u8]) -> bool {
+    matches!(cell, [b'0'..=b'9' | b'+' | b'-' | b'.', ..])
+}
+
+/// Whether a column has a word for time as its name, without a unit.
+fn is_time_alone(name: &[u8]) -> bool {
+    name.eq_ignore_ascii_case(b"time")
+        || name.eq_ignore_ascii_case(b"timestamp")
+        || name.eq_ignore_ascii_case(b"t")
+}

@@ -1,8 +1,0 @@
-use Rattle.std.proofs.Common.{◌≡◌, ◌+◌, drop}
-use Rattle.std.specs.List.{prefix_len}
-use Rattle.pr_listing.specs.Typed.{is_in_braces}
-use Rattle.pr_listing.proofs.typed.count_to_brace.Given as goal
-
--- all so far count
-abbrev pub invariant-loop-i : goal.invariant-loop-i
-invariant-loop-i l = prefix_len is_in_braces l.bytes ≡ l.i + prefix_len is_in_braces (drop l.i l.bytes)
