@@ -36,7 +36,7 @@ SHARED := libprint1525.so.$(LIBRARY_VERSION)
 SONAME := libprint1525.so.$(firstword $(subst ., ,$(LIBRARY_VERSION)))
 
 # The tests that go on after a refused allocation (tests/growths).
-TEST_CRATES := pr_tests_core pr_tests_forms pr_tests_jobs
+TEST_CRATES := pr_tests_core pr_tests_forms
 TESTS := $(foreach crate,$(TEST_CRATES),crates/$(crate)/out/$(crate)_tests)
 
 # The static libraries that the library for C is made of.
@@ -179,7 +179,8 @@ manual:
 $(LLVM_MODULES) &: $(SOURCES) tools/crates.py tools/llvm.py tools/port/modules
 	@tools/port/modules $(LLVM) $(PART_CRATES) print1525
 
-PORT_TOOLS := $(LLVM_MODULES) tools/llvm.py $(wildcard tools/port/* tools/port/mac/*) $(wildcard include/*.[ch])
+PORT_TOOLS := $(LLVM_MODULES) tools/llvm.py $(wildcard include/*.[ch]) \
+	$(filter-out %/exports %/modules %/speed %/speed.c %/trusted.md,$(wildcard tools/port/* tools/port/mac/*))
 
 $(PORT)/universal/made: $(PORT)/arm64-macos/made $(PORT)/x86_64-macos/made
 	@tools/port/build.py universal $(PORT)/arm64-macos $(PORT)/x86_64-macos $(@D) && touch $@
@@ -199,6 +200,6 @@ dist: build lib
 	@tools/dist $(VERSION) out
 
 # Others belong here that take long, or need packages that few have.
-test-more: build
+test-more: build lib
 	@$(MAKE) --no-print-directory -j4 ports
 	@tests/platforms

@@ -121,7 +121,7 @@ function walk(count,   i, fault) {
 }
 
 # A printer's bytes: the codes in both modes, the ends of bounds, lines and pitches.
-function reset_printer() { graphic = wide = position = parameters = 0 }
+function reset_printer() { graphic = wide = position = furthest = parameters = 0 }
 function mark(width, name) {
     if (position + width > 480) { page[name " that wraps"]++; end_line() }
     else if (position + width == 480) page[name " up to the edge"]++

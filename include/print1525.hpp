@@ -85,7 +85,7 @@ using call_of = int (*)(const Item *, std::size_t, const print1525_settings *, v
                         print1525_details *);
 template <typename Item>
 result text_of(call_of<Item> call, const Item *items, std::size_t length, const settings &with) {
-    result made{std::string(4096, '\0'), {}};
+    result made{std::string(65536, '\0'), {}};
     call(items, length, &with, made.text.data(), made.text.size(), &made.details);
     while (made.details.fault == PRINT1525_FAULT_TOO_SMALL) {
         made.text.resize(made.details.length);

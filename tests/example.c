@@ -48,6 +48,7 @@ static void example_edge_by_edge(void) {
     CHECK(print1525_strict_begin(&strict, 4) == PRINT1525_DONE);
     for (index = 0; index < EDGES; index++) {
         CHECK(print1525_strict_edge(&strict, &edges[index], &input, &answer) == PRINT1525_DONE);
+        CHECK(strict.begun == 1 && strict.last.time == edges[index].time && !strict.last.data == !edges[index].data);
         if (answer.length != 1) continue;
         CHECK(received < 4 && index == received_at[received] && input == inputs[received]);
         received++;

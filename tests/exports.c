@@ -2,8 +2,9 @@
  * own functions call those that include/print1525.h declares. The page in a browser alone calls the others, which are
  * in no library for C: the archive of the crate is linked beside it, or WITHOUT_PAGE is defined.
  *
- * Each buffer holds sevens before a call. What a call may not write still does after it: all that is behind its answer,
- * and the whole buffer where it answers nothing. Status 0, else 1 and a line for each row that is WRONG. */
+ * Standard input is examples/hello.trace. Each buffer holds sevens before a call. What a call may not write still does
+ * after it: all that is behind its answer, and the whole buffer where it answers nothing. Status 0, else 1 and a line
+ * for each row that is WRONG. */
 #include "print1525.h"
 #include <stdio.h>
 #include <string.h>
@@ -15,6 +16,8 @@
 #define MORE_THAN(length) (length) + 1, SIZE_MAX
 #define EXACTLY(length) (length), (length)
 #define ANY 0, SIZE_MAX
+/* A text that is known to its end, by its length and its front. */
+#define WHOLE(text) EXACTLY(sizeof(text) - 1), text
 
 static int wrong;
 static const print1525_plain_numbers before = {SEVEN, SEVEN, SEVEN, SEVEN};
@@ -25,6 +28,9 @@ static const uint8_t *bytes(const char *text) { return (const uint8_t *)text; }
 #define RECORDING(row)                                                                                                \
     bytes((row)->input), strlen((row)->input), (row)->number, bytes("ATN"), 3, bytes("CLOCK"), 5, bytes("DATA"), 4,   \
         0, 0, 0
+
+/* The trace of standard input, with a zero at its end. */
+static char trace[ROOM];
 
 /* Whether a buffer still holds sevens from this byte on. */
 static int is_untouched(const uint8_t *buffer, size_t from) {
@@ -71,6 +77,12 @@ static void explain_trace(const text_row *row, print1525_plain_numbers *answer) 
     print1525_plain_explain_trace(RECORDING(row), text, row->room, answer);
 }
 
+/* The same, of a table in which a name is searched for that is no text. */
+static void explain_name(const text_row *row, print1525_plain_numbers *answer) {
+    print1525_plain_explain_trace(bytes(row->input), strlen(row->input), row->number, bytes("ATN"), 3,
+                                  bytes("D\377"), 2, bytes("DATA"), 4, 0, 0, 0, text, row->room, answer);
+}
+
 static void explain_reading(const text_row *row, print1525_plain_numbers *answer) {
     print1525_plain_explain_reading(RECORDING(row), text, row->room, answer);
 }
@@ -106,6 +118,16 @@ static const text_row text_rows[] = {
     {"a stop that does not come", explain_stop, "PRINT#5", 4, 0, 999, 2, 30, 0, EXACTLY(0), ""},
     {"a line that is no edge", explain_trace, "0 11\n", 0, 0, 999, 0, 0, 1, MORE_THAN(10), "  line 1: "},
     {"nothing to explain", explain_reading, "0 111\n", 0, 0, 999, 0, 0, 0, EXACTLY(0), ""},
+    {"nothing_to_explain, a recording", explain_reading, "0 111\n0 001\n9 001\n", 0, 0, 999, 0, 0, 0, EXACTLY(0), ""},
+    {"nothing_to_explain, a trace", explain_trace, trace, 0, 0, 999, 0, 0, 0, EXACTLY(0), ""},
+    {"nothing_to_explain, a script", explain_script, "10 OPEN 4,4\r\n20 PRINT#4,\"A\";CHR$(65)\n", 0, 0, 999, 0, 0, 0,
+     EXACTLY(0), ""},
+    {"names_that_are_no_text", explain_name, "t,ATN,D1,DATA\n", 2, 0, 999, 0, 0, 1,
+     WHOLE("  line 1: t,ATN,D1,DATA\n"
+           "  found no signal named D\\xFF for the CLOCK line\n"
+           "  the first column is named t\n"
+           "  the recording has the signals ATN, D1, DATA\n"
+           "  name the signals of ATN, CLOCK and DATA with --names, such as --names D0,D1,D2\n")},
     {"a letter", print, "sA\r", 0, 0, 999, 0, 0, 0, MORE_THAN(9), "printer 4"},
     {"no input", print, "Ax", 0, 0, 999, 2, 28, 1, EXACTLY(0), ""},
     {"no name of petcat's", listing, "10 print \"{nix}\"\n", 2, 0, 999, 2, 63, 1, MORE_THAN(1), ""},
@@ -126,6 +148,133 @@ static void try_text(const text_row *row) {
         wrong = 1;
     } else if (!is_untouched(text, answer.code == 0 ? answer.length : 0)) {
         fprintf(stderr, "WRONG: %s: more is written than the text\n", row->name);
+        wrong = 1;
+    }
+}
+
+/* ---- Errors of statements. ---- */
+
+/* The device is that of the file's last OPEN before the statement. */
+#define DEVICES "OPEN 1,4:OPEN 2,30\nCLOSE 1\nOPEN 1,5\nCMD 1\nPRINT#2\nOPEN 2,9\nPRINT#3\nREM\n"
+/* A present printer answers each LISTEN, so it is the byte held back that nobody answers. */
+#define HELD_BACK "OPEN 4,4,7:OPEN 5,5:OPEN 9,9\nCMD 4:CLOSE 4:PRINT \"X\"\nPRINT#5,\"Y\"\nCMD 9\nPRINT#9\nPRINT#3\n"
+
+typedef struct {
+    const char *script;
+    uint8_t kept; /* whether the status is */
+    uint8_t stop; /* the number of the error */
+    size_t statement;
+    uint8_t four, five; /* whether the printers are present */
+    size_t line;
+    const char *told;
+} stop_row;
+
+/* errors_of_statements: errors at any statement, also at those that no run stops at. */
+static const stop_row stop_rows[] = {
+    {"10 OPEN 4,4\n20 OPEN 7,7:PRINT#7,\"A:B\":REM :\n30 CLOSE 7\n", 0, 5, 3, 0, 0, 2,
+     "?DEVICE NOT PRESENT  ERROR IN 20 (statement 3)\n"
+     "  line 2: 20 OPEN 7,7:PRINT#7,\"A:B\":REM :\n"
+     "  device 7 does not answer; --present sets which of printers 4 and 5 are connected\n"},
+    {"OPEN 4,4\r\n\r\nPRINT#5,\"X\"", 0, 3, 2, 0, 0, 3,
+     "?FILE NOT OPEN  ERROR (statement 2)\n"
+     "  line 3: PRINT#5,\"X\"\n"
+     "  the file is not open; open it first\n"},
+    {"  63999  OPEN 4,4:OPEN 4,4\n", 0, 2, 2, 0, 0, 1,
+     "?FILE OPEN  ERROR IN 63999 (statement 2)\n"
+     "  line 1:   63999  OPEN 4,4:OPEN 4,4\n"
+     "  the file is already open; close it first\n"},
+    {"OPEN 4,4\nOPEN 5,5\nPRINT#5,\"A\"\nPRINT#4,\"B\"\n", 1, 5, 4, 0, 0, 4,
+     "?DEVICE NOT PRESENT  ERROR (statement 4)\n"
+     "  line 4: PRINT#4,\"B\"\n"
+     "  no printer answered, here or at an earlier statement (--status kept); --present sets which of printers 4 and "
+     "5 are connected\n"},
+    {"OPEN 4,4,7:OPEN 5,5:CMD 4:CLOSE 4:PRINT \"X\":CMD 5\n", 1, 5, 6, 1, 1, 1,
+     "?DEVICE NOT PRESENT  ERROR (statement 6)\n"
+     "  line 1: OPEN 4,4,7:OPEN 5,5:CMD 4:CLOSE 4:PRINT \"X\":CMD 5\n"
+     "  no printer was listening to a byte sent here or at an earlier statement (--status kept)\n"},
+    {"0030 CLOSE 4:PRINT#4", 0, 3, 2, 0, 0, 1,
+     "?FILE NOT OPEN  ERROR IN 30 (statement 2)\n"
+     "  line 1: 0030 CLOSE 4:PRINT#4\n"
+     "  the file is not open; open it first\n"},
+    {"000PRINT#4", 0, 3, 1, 0, 0, 1,
+     "?FILE NOT OPEN  ERROR IN 0 (statement 1)\n"
+     "  line 1: 000PRINT#4\n"
+     "  the file is not open; open it first\n"},
+    {DEVICES, 0, 5, 5, 0, 0, 4,
+     "?DEVICE NOT PRESENT  ERROR (statement 5)\n"
+     "  line 4: CMD 1\n"
+     "  device 5 does not answer; --present sets which of printers 4 and 5 are connected\n"},
+    {DEVICES, 0, 5, 6, 0, 0, 5,
+     "?DEVICE NOT PRESENT  ERROR (statement 6)\n"
+     "  line 5: PRINT#2\n"
+     "  device 30 does not answer; --present sets which of printers 4 and 5 are connected\n"},
+    {DEVICES, 0, 5, 7, 0, 0, 6,
+     "?DEVICE NOT PRESENT  ERROR (statement 7)\n"
+     "  line 6: OPEN 2,9\n"
+     "  device 9 does not answer; --present sets which of printers 4 and 5 are connected\n"},
+    {DEVICES, 0, 5, 8, 0, 0, 7,
+     "?DEVICE NOT PRESENT  ERROR (statement 8)\n"
+     "  line 7: PRINT#3\n"
+     "  no printer answers; --present sets which of printers 4 and 5 are connected\n"},
+    {DEVICES, 0, 5, 9, 0, 0, 8,
+     "?DEVICE NOT PRESENT  ERROR (statement 9)\n"
+     "  line 8: REM\n"
+     "  no printer answers; --present sets which of printers 4 and 5 are connected\n"},
+    {HELD_BACK, 0, 5, 7, 1, 1, 3,
+     "?DEVICE NOT PRESENT  ERROR (statement 7)\n"
+     "  line 3: PRINT#5,\"Y\"\n"
+     "  no printer was listening to the last byte printed before this statement, which is sent only now\n"},
+    {HELD_BACK, 0, 5, 7, 0, 1, 3,
+     "?DEVICE NOT PRESENT  ERROR (statement 7)\n"
+     "  line 3: PRINT#5,\"Y\"\n"
+     "  no printer was listening to the last byte printed before this statement, which is sent only now\n"},
+    {HELD_BACK, 0, 5, 7, 1, 0, 3,
+     "?DEVICE NOT PRESENT  ERROR (statement 7)\n"
+     "  line 3: PRINT#5,\"Y\"\n"
+     "  no printer was listening to the last byte printed before this statement, which is sent only now; device 5 is "
+     "not connected either: --present sets which of printers 4 and 5 are connected\n"},
+    {HELD_BACK, 0, 5, 9, 1, 1, 5,
+     "?DEVICE NOT PRESENT  ERROR (statement 9)\n"
+     "  line 5: PRINT#9\n"
+     "  no printer was listening to the last byte printed before this statement, which is sent only now; device 9 is "
+     "not connected either: --present sets which of printers 4 and 5 are connected\n"},
+    {HELD_BACK, 0, 5, 10, 1, 1, 6,
+     "?DEVICE NOT PRESENT  ERROR (statement 10)\n"
+     "  line 6: PRINT#3\n"
+     "  no printer was listening to the last byte printed before this statement, which is sent only now\n"},
+    {"REM", 0, 1, 1, 0, 0, 1,
+     "?TOO MANY FILES  ERROR (statement 1)\n"
+     "  line 1: REM\n"
+     "  ten files are already open; close one first\n"},
+    {"REM", 0, 2, 1, 0, 0, 1,
+     "?FILE OPEN  ERROR (statement 1)\n"
+     "  line 1: REM\n"
+     "  the file is already open; close it first\n"},
+    {"REM", 0, 3, 1, 0, 0, 1,
+     "?FILE NOT OPEN  ERROR (statement 1)\n"
+     "  line 1: REM\n"
+     "  the file is not open; open it first\n"},
+    {"REM", 0, 5, 1, 0, 0, 1,
+     "?DEVICE NOT PRESENT  ERROR (statement 1)\n"
+     "  line 1: REM\n"
+     "  no printer answers; --present sets which of printers 4 and 5 are connected\n"},
+    {"REM", 0, 6, 1, 0, 0, 1,
+     "?NOT INPUT FILE  ERROR (statement 1)\n"
+     "  line 1: REM\n"
+     "  file 0 cannot be opened; use 1 to 255\n"},
+};
+
+static void try_stop(const stop_row *row) {
+    print1525_plain_numbers answer = before;
+    const size_t length = strlen(row->told);
+    memset(text, SEVEN, sizeof text);
+    print1525_plain_explain_stop(bytes(row->script), strlen(row->script), row->kept, row->stop, row->statement,
+                                 row->four, row->five, text, sizeof text, &answer);
+    if (answer.code != 0 || answer.fault != 0 || answer.place != row->line || answer.length != length ||
+        memcmp(text, row->told, length) != 0 || !is_untouched(text, length)) {
+        fprintf(stderr, "WRONG: error %u at statement %u of %s: code %u, line %u, %.*s\n", (unsigned)row->stop,
+                (unsigned)row->statement, row->script, (unsigned)answer.code, (unsigned)answer.place,
+                (int)(answer.length < ROOM ? answer.length : 0), (const char *)text);
         wrong = 1;
     }
 }
@@ -355,11 +504,90 @@ static void try_names(void) {
     if (output[6] != 0 || output[7] != 0 || output[8] != 0) is_wrong(&row, "another end of the names", &end);
 }
 
+/* ---- Whole answers. ---- */
+
+typedef struct {
+    const char *name;
+    const char *words; /* with a blank for the byte 0 between each two */
+    uint8_t explained;
+    const char *input;
+    size_t status, fault, place;
+    const char *output;
+    const char *messages; /* what they begin with */
+    size_t lines;         /* and how many lines they have, or SIZE_MAX where that is not said */
+} answer_row;
+
+#define HI "OPEN 4,4\nPRINT#4,\"HI\"\n"
+#define PAGE "printer 4\nrow 0\n 0 cell 72\n 6 cell 73\nprinter 5\nstatus 0 0\nscreen\n"
+#define BAD_BYTE "print1525: line 1: bad byte\n"
+
+static const answer_row answer_rows[] = {
+    {"answers_in_memory, the pages of a script; words_as_one_text", "print1525 pages", 0, HI, 0, 0, 0, PAGE, "", 0},
+    {"answers_in_memory, a file that words name is the input", "print1525 pages hello.bas -o hello.page", 0, HI, 0, 0,
+     0, PAGE, "", 0},
+    {"answers_in_memory, a run that a BASIC error stops", "print1525 pages --present none", 0,
+     "OPEN 4,4\nPRINT#4,\"A\"\n", 1, 105, 2, "printer 4\nprinter 5\nstatus 0 128\nscreen\nstop 5 at 2\n", "", 0},
+    {"answers_in_memory, a refused script", "print1525 bus", 0, "OPEN 4,4\nPRINT#4,CHR$(256)\n", 2, 5, 2, "",
+     "print1525: line 2: bad byte\n", 1},
+    {"answers_in_memory, the frames of a trace", "print1525 check", 0, trace, 0, 0, 0,
+     "command 36\ndata 72\ndata 73\ndata 13 eoi\ncommand 63\nlawful\n", "", 0},
+    {"answers_in_memory, a bad value", "print1525 pages --present 6", 0, HI, 2, 54, 0, "", "print1525: bad --present\n",
+     1},
+    {"answers_in_memory, the version", "print1525 --version", 0, "", 0, 0, 0,
+     "print1525 0.1.0 (rattle-kit-13, logic dac8208d650f15bf)\n", "", 0},
+    {"answers_in_memory, a file of characters without shapes", "print1525 raw --as svg --characters a.txt", 0, "HI", 2,
+     52, 1, "", "print1525: a.txt: line 1: bad character line\n", 1},
+    {"explained_in_memory, not", "print1525 pages", 0, "PRINT#4,CHR$(256)\n", 2, 5, 1, "", BAD_BYTE, 1},
+    {"explained_in_memory, for the caller", "print1525 pages", 1, "PRINT#4,CHR$(256)\n", 2, 5, 1, "", BAD_BYTE, 4},
+    {"explained_in_memory, by its words", "print1525 pages --explain", 0, "PRINT#4,CHR$(256)\n", 2, 5, 1, "", BAD_BYTE,
+     4},
+    {"words_that_are_not_utf_8", "print1525 \377", 0, "", 2, 54, 0, "", "print1525: \\xff: not UTF-8\n", SIZE_MAX},
+    {"words_without_a_job, printers", "print1525 pages --present x --delays 65536", 0, HI, 2, 54, 0, "",
+     "print1525: bad --present\n", 1},
+    {"words_without_a_job, delays", "print1525 bus --delays 65536", 0, HI, 2, 54, 0, "", "print1525: bad --delays\n",
+     1},
+    {"words_without_a_job, a status", "print1525 bus --status x", 0, HI, 2, 54, 0, "", "print1525: bad --status\n", 1},
+    {"words_without_a_job, a line", "print1525 check --delays 1", 0, HI, 2, 54, 0, "",
+     "error: unexpected argument '--delays' found\n", SIZE_MAX},
+    {"words_without_a_job, but this one", "print1525 check", 0, "0 111\n", 0, 0, 0, "lawful\n", "", 0},
+};
+
+static size_t lines_of(const uint8_t *said, size_t length) {
+    size_t n, lines = 0;
+    for (n = 0; n < length; n++) lines += said[n] == '\n';
+    return lines;
+}
+
+/* The file of characters has no shapes. */
+static void try_answer(const answer_row *row) {
+    print1525_plain_end end = {SEVEN, SEVEN, SEVEN, SEVEN, SEVEN, SEVEN};
+    const size_t written = strlen(row->output), front = strlen(row->messages);
+    uint8_t words[99];
+    const size_t length = zeros_between(row->words, words);
+    memset(output, SEVEN, sizeof output);
+    memset(messages, SEVEN, sizeof messages);
+    print1525_plain_answer(words, length, row->explained, 3, bytes(row->input), strlen(row->input), bytes("?\n"), 2,
+                           output, sizeof output, messages, sizeof messages, &end);
+    if (end.status != row->status || end.fault != row->fault || end.place != row->place || end.column != 0 ||
+        end.output != written || memcmp(output, row->output, written) != 0 || !is_untouched(output, written) ||
+        end.messages < front || end.messages > sizeof messages || memcmp(messages, row->messages, front) != 0 ||
+        (row->lines != SIZE_MAX && lines_of(messages, end.messages) != row->lines) ||
+        (row->lines == lines_of(messages, front) && end.messages != front) || !is_untouched(messages, end.messages)) {
+        fprintf(stderr, "WRONG: %s: status %u, fault %u, place %u, output %u, messages %u\n", row->name,
+                (unsigned)end.status, (unsigned)end.fault, (unsigned)end.place, (unsigned)end.output,
+                (unsigned)end.messages);
+        wrong = 1;
+    }
+}
+
 int main(void) {
-    size_t n;
+    size_t n = fread(trace, 1, sizeof trace - 1, stdin);
+    trace[n] = 0;
     for (n = 0; n < COUNT(text_rows); n++) try_text(&text_rows[n]);
+    for (n = 0; n < COUNT(stop_rows); n++) try_stop(&stop_rows[n]);
     for (n = 0; n < COUNT(number_rows); n++) try_numbers(&number_rows[n]);
     for (n = 0; n < COUNT(program_rows); n++) try_program(&program_rows[n]);
+    for (n = 0; n < COUNT(answer_rows); n++) try_answer(&answer_rows[n]);
     try_runs();
     try_names();
     return wrong;

@@ -93,8 +93,34 @@ static const uint16_t bad_inputs[] = {65, 258, 66};
 static const uint16_t delays[] = {7, 9, 1};
 static const char csv[] = "Time [s],ATN,CLK,DATA\n0,1,1,1\n0.0001,0,1,1\n0.0011,0,0,1\n0.0012,0,0,0\n";
 static const char bad_csv[] = "Time [s],ATN,CLK,DATA\n0,1,1,1\n0.0001,0,1,1\n0.0011,0,0,1\n0.0012,0,?,0\n";
-static char trace[ROOM], dump[ROOM], cut[ROOM];
+static char trace[ROOM], dump[ROOM], cut[ROOM], example[ROOM];
 static size_t trace_length, dump_length, cut_length;
+/* Two letters, as statements and as the bytes of a printer. */
+static const char letters[] = "OPEN 4,4\nPRINT#4,\"HI\"\n";
+static const char letters_bytes[] = "HI\r";
+/* One attention to printer 4 alone: its trace, also as a table and as a dump. */
+static const char one_attention[] =
+    "0 111\n1000 001\n1010 000\n2999 010\n"
+    "3049 011\n3089 000\n3159 010\n3179 000\n"
+    "3249 010\n3269 001\n3339 011\n3359 000\n"
+    "3429 010\n3449 000\n3519 010\n3539 001\n"
+    "3609 011\n3629 000\n3699 010\n3719 000\n"
+    "3789 010\n3809 001\n3829 000\n3929 100\n";
+static const char one_table[] =
+    "Time [s],ATN,CLK,DATA\n0.000000,1,1,1\n0.001000,0,0,1\n0.001010,0,0,0\n"
+    "0.002999,0,1,0\n0.003049,0,1,1\n0.003089,0,0,0\n0.003159,0,1,0\n0.003179,0,0,0\n"
+    "0.003249,0,1,0\n0.003269,0,0,1\n0.003339,0,1,1\n0.003359,0,0,0\n0.003429,0,1,0\n"
+    "0.003449,0,0,0\n0.003519,0,1,0\n0.003539,0,0,1\n0.003609,0,1,1\n0.003629,0,0,0\n"
+    "0.003699,0,1,0\n0.003719,0,0,0\n0.003789,0,1,0\n0.003809,0,0,1\n0.003829,0,0,0\n"
+    "0.003929,1,0,0\n";
+static const char one_dump[] =
+    "$timescale 1 us $end\n$scope module bus $end\n$var wire 1 A ATN $end\n"
+    "$var wire 1 C CLOCK $end\n$var wire 1 D DATA $end\n$upscope $end\n"
+    "$enddefinitions $end\n#0\n1A\n1C\n1D\n#1000\n0A\n0C\n#1010\n0D\n#2999\n1C\n"
+    "#3049\n1D\n#3089\n0C\n0D\n#3159\n1C\n#3179\n0C\n#3249\n1C\n#3269\n0C\n1D\n"
+    "#3339\n1C\n#3359\n0C\n0D\n#3429\n1C\n#3449\n0C\n#3519\n1C\n#3539\n0C\n1D\n"
+    "#3609\n1C\n#3629\n0C\n0D\n#3699\n1C\n#3719\n0C\n#3789\n1C\n#3809\n0C\n1D\n"
+    "#3829\n0D\n#3929\n1A\n#4929\n";
 static char characters[ROOM];
 static size_t characters_length;
 
@@ -128,6 +154,7 @@ static int make(const job *j, const print1525_settings *settings, uint8_t *buffe
 }
 
 static uint8_t true_text[ROOM], buffer[ROOM], before[ROOM];
+static size_t true_length;
 
 static int is_untouched(size_t from) {
     size_t index;
@@ -180,12 +207,14 @@ static void try_call(const job *j, int tells) {
     live = 0;
     if (all > MOST) is_wrong("too many allocations", all);
     memcpy(true_text, buffer, ROOM);
+    true_length = truth.length;
     for (number = 1; number <= all && wrong < 20; number++) {
         failed += refuse(j, number, number, &truth);
         refuse(j, number, MOST, &truth);
     }
     if (all > 0 && failed == 0) is_wrong("no refused allocation is reported", all);
     if (all > 0 && refuse(j, 1, MOST, &truth) == 0) is_wrong("an answer without any memory", all);
+    if (refuse(j, 0, 0, &truth) != 0) is_wrong("no answer with memory again", all);
     if (tells) printf("%s: %ld allocations, %ld reported, status %d, %lu bytes\n", j->name, all, failed, truth.status, (unsigned long)truth.length);
 }
 
@@ -243,6 +272,93 @@ static void try_recording(const void *input, size_t length, uint8_t recording, i
     try_one("explain_trace", input, length, 0, recording, 0, 0, tells);
     try_one("explain_reading", input, length, 0, recording, 0, 0, tells);
     try_one("edges", input, length, 0, recording, 0, 0, tells);
+}
+
+/* Two letters and one attention in each format, with what each call gives; of a picture and of a trace the front. */
+typedef struct {
+    const char *name, *input;
+    uint8_t page, trace, recording, words;
+    const char *text;
+} row;
+
+#define FRAMES "command 36\nlawful\n"
+#define STORY "attention\n        2999         3829  $24  LISTEN 4\nlawful\n"
+#define EXAMPLE_FRAMES "command 36\ndata 72\ndata 73\ndata 13 eoi\ncommand 63\nlawful\n"
+#define EXAMPLE_STORY                                                                                                 \
+    "attention\n        1100         1930  $24  LISTEN 4\ndata\n        2130         2960  $48  'H'\n"                 \
+    "        3060         3890  $49  'I'\n        3990         5140  $0D  return, end-or-identify\n"                   \
+    "attention\n        6240         7070  $3F  UNLISTEN\nlawful\n"
+
+static const row rows[] = {
+    {"pages", letters, PRINT1525_PAGE_LIST, 0, 0, 0, "printer 4\nrow 0\n 0 cell 72\n 6 cell 73\nprinter 5\nstatus 0 0\nscreen\n"},
+    {"pages", letters, PRINT1525_PAGE_TEXT, 0, 0, 0, "Printer 4\nHI\nPrinter 5\nStatuses: 0 0.\n"},
+    {"pages", letters, PRINT1525_PAGE_SVG, 0, 0, 0, "<svg "},
+    {"raw", letters_bytes, PRINT1525_PAGE_LIST, 0, 0, 0, "printer 4\nrow 0\n 0 cell 72\n 6 cell 73\nprinter 5\nstatus\nscreen\n"},
+    {"raw", letters_bytes, PRINT1525_PAGE_TEXT, 0, 0, 0, "Printer 4\nHI\n"},
+    {"raw", letters_bytes, PRINT1525_PAGE_SVG, 0, 0, 0, "<svg "},
+    {"bus", letters, 0, PRINT1525_TRACE_TEXT, 0, 0, "0 111\n100 001\n"},
+    {"bus", letters, 0, PRINT1525_TRACE_VCD, 0, 0, "$timescale 1 us $end\n"},
+    {"check", one_attention, 0, 0, PRINT1525_RECORDING_TEXT, PRINT1525_WORDS_LIST, FRAMES},
+    {"check", one_attention, 0, 0, PRINT1525_RECORDING_TEXT, PRINT1525_WORDS_STORY, STORY},
+    {"check", example, 0, 0, PRINT1525_RECORDING_TEXT, PRINT1525_WORDS_LIST, EXAMPLE_FRAMES},
+    {"check", example, 0, 0, PRINT1525_RECORDING_TEXT, PRINT1525_WORDS_STORY, EXAMPLE_STORY},
+    {"check", one_table, 0, 0, PRINT1525_RECORDING_CSV, PRINT1525_WORDS_LIST, FRAMES},
+    {"check", one_table, 0, 0, PRINT1525_RECORDING_CSV, PRINT1525_WORDS_STORY, STORY},
+    {"check", one_dump, 0, 0, PRINT1525_RECORDING_VCD, PRINT1525_WORDS_LIST, FRAMES},
+    {"check", one_dump, 0, 0, PRINT1525_RECORDING_VCD, PRINT1525_WORDS_STORY, STORY},
+};
+
+static void try_row(const row *it, int tells) {
+    const size_t length = strlen(it->text);
+    const int is_front = it->page == PRINT1525_PAGE_SVG || strcmp(it->name, "bus") == 0;
+    job j;
+    j.name = it->name;
+    j.input = it->input;
+    j.length = strlen(it->input);
+    j.settings = defaults();
+    j.settings.page = it->page;
+    j.settings.trace = it->trace;
+    j.settings.recording = it->recording;
+    j.settings.words = it->words;
+    try_call(&j, tells);
+    if (true_length < length || (true_length > length && !is_front) || memcmp(true_text, it->text, length) != 0)
+        is_wrong("another text", (long)true_length);
+}
+
+/* Explanations, and how each ends: of the last one, device 5 is not there. Dumps and tables start a microsecond later. */
+typedef struct {
+    const char *name, *input;
+    uint8_t recording;
+    const char *end;
+} explained_row;
+
+static const explained_row explained_rows[] = {
+    {"explain_script", "20 PRINT+", 0, "write the result\n"},
+    {"explain_trace", "0 111\n0 001\n?\n", PRINT1525_RECORDING_TEXT, "  it is not later than the edge before it\n"},
+    {"explain_trace",
+     "$timescale 1 us $end $var wire 1 a ATN $end $var wire 1 c CLK $end $var wire 1 d DATA $end\n"
+     "$enddefinitions $end #1 1a 1c 1d #3 0a 0c #9 1a 0a q",
+     PRINT1525_RECORDING_VCD, "too early\n"},
+    {"explain_trace", "Time,ATN,CLOCK,DATA\n0.000001,1,1,1\n0.000003,0,0,1\n0.000009,1,0,0\n1,x,1,1",
+     PRINT1525_RECORDING_CSV, "too early\n"},
+    {"explain_stop", "10 OPEN 4,5\n20 PRINT#4,\"A\"", 0, "printers 4 and 5 are connected\n"},
+};
+
+static void try_explained(const explained_row *it, int tells) {
+    const size_t length = strlen(it->end);
+    job j;
+    j.name = it->name;
+    j.input = it->input;
+    j.length = strlen(it->input);
+    j.settings = defaults();
+    j.settings.present = PRINT1525_PRESENT_NONE;
+    j.settings.recording = it->recording;
+    j.settings.start = it->recording == PRINT1525_RECORDING_TEXT ? 0 : 1;
+    j.settings.stopped.fault = PRINT1525_STOP_DEVICE_NOT_PRESENT;
+    j.settings.stopped.place = 2;
+    try_call(&j, tells);
+    if (true_length < length || memcmp(true_text + true_length - length, it->end, length) != 0)
+        is_wrong("another end of an explanation", (long)true_length);
 }
 
 /* What takes edges or words takes no memory. */
@@ -311,6 +427,7 @@ int main(int words, char **word) {
     const int tells = words > 2;
     print1525_settings settings = PRINT1525_SETTINGS_INIT;
     print1525_details details;
+    size_t index;
     FILE *const file = words > 1 ? fopen(word[1], "rb") : NULL;
     if (file == NULL) return 98;
     characters_length = fread(characters, 1, sizeof characters, file);
@@ -324,7 +441,13 @@ int main(int words, char **word) {
     memcpy(cut, trace, trace_length / 2);
     memcpy(cut + trace_length / 2, "\n5 1111\n", 8);
     cut_length = trace_length / 2 + 8;
+    settings.trace = PRINT1525_TRACE_TEXT;
+    print1525_bus(letters, sizeof letters - 1, &settings, example, sizeof example - 1, &details);
+    if (details.length >= sizeof example) return 98;
+    example[details.length] = 0;
 
+    for (index = 0; index < sizeof rows / sizeof *rows; index++) try_row(&rows[index], tells);
+    for (index = 0; index < sizeof explained_rows / sizeof *explained_rows; index++) try_explained(&explained_rows[index], tells);
     try_pages("pages", script, sizeof script - 1, PRINT1525_FROM_TEXT, tells);
     try_pages("pages", petcat, sizeof petcat - 1, PRINT1525_FROM_PETCAT, tells);
     try_pages("raw", bytes, sizeof bytes - 1, 0, tells);

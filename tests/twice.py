@@ -222,7 +222,15 @@ def options(strings):
     return found
 
 
+def quiet():
+    """The words by which print1525.mjs knows --quiet, and pr_options."""
+    said = re.findall(r"word == \"([^\"]+)\" \|\| begins_with_letter|word\[\d\] == b'(.)'", text_of("crates/pr_options/src/command_line.rt"))
+    page = re.search(r"word === '([^']+)' \|\| word\.startsWith\('([^']+)'\)", text_of("web/print1525.mjs"))
+    whole = "".join(word for word, _ in said)
+    return differ("--quiet of print1525.mjs and of pr_options", page and page.groups(), (whole, "".join(sign for _, sign in said)))
+
+
 def wrong(strings):
     """What differs, in words; `strings` are those of the code, each its file, line, what is before it and its text."""
     paths = sorted({path for path, *_ in strings})
-    return [*settings(), *drawn(), *lists(paths), *listings(), *wave(), *hints(), *options(strings)]
+    return [*settings(), *drawn(), *lists(paths), *listings(), *wave(), *hints(), *quiet(), *options(strings)]

@@ -23,3 +23,14 @@ export function button(words, act) {
   made.onclick = act;
   return made;
 }
+
+/** Opens a dialog; a reader of screens begins with its heading. */
+export function openBox(box) {
+  box.showModal();
+  box.querySelector('h2').focus();
+}
+
+/** Does something whenever an element has another size: in the next frame, since that may change the size again, which browsers report as an error. */
+export function whenResized(element, act) {
+  new ResizeObserver(() => requestAnimationFrame(() => act())).observe(element);
+}

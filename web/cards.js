@@ -1,6 +1,6 @@
 // The examples as cards, each with the top of the sheet that the module prints of it.
 
-import { $, encode, fromBase64 } from './basics.js';
+import { $, encode, fromBase64, openBox } from './basics.js';
 import { ask } from './page.js';
 import { examples, openFromMenu } from './kept.js';
 import { ready } from './controls.js';
@@ -30,7 +30,7 @@ function cardOf(example, index) {
 export async function showCards() {
   const box = $('examples-box'), room = box.querySelector('.cards'), isFirst = !room.childElementCount;
   if (isFirst) room.append(...examples.map(cardOf));
-  box.showModal();
+  openBox(box);
   if (!isFirst || !ready) return;
   for (const [index, example] of examples.entries()) await draw(room.children[index], { ...example, isRecording: example.kind === 'text' }).catch(() => {});
 }

@@ -3,7 +3,7 @@
 import './inside.js';
 import './printed.js';
 import { CODES } from './reading.js';
-import { $, all, button, decode, encode, fromBase64 } from './basics.js';
+import { $, all, button, decode, encode, fromBase64, openBox, whenResized } from './basics.js';
 import { ask, editor, fillReader, hasWebAssembly, notice, openModule, paper, print, readers, state, tellBriefly, tellFailed, wave } from './page.js';
 import { cover } from './telling.js';
 import { useBounds } from './wire.js';
@@ -104,10 +104,10 @@ function bar(id, variable, least, most, shareAt) {
   let share = store.get('view')?.[variable];
   share = share ? set(share) : null;
   // A separator's value is there before it is moved.
-  new ResizeObserver(() => {
+  whenResized($(across ? 'listing' : 'wire'), () => {
     const box = $('bench').getBoundingClientRect(), now = across ? $('listing').offsetWidth / box.width : $('wire').offsetHeight / box.height;
     element.setAttribute('aria-valuenow', String(Math.round(now * 100)));
-  }).observe($(across ? 'listing' : 'wire'));
+  });
   element.setAttribute('aria-valuemin', String(least * 100));
   element.setAttribute('aria-valuemax', String(most * 100));
   element.addEventListener('pointerdown', event => {
@@ -147,15 +147,18 @@ export const FILES = {
   trace: ['trace', 'text/plain'],
   vcd: ['vcd', 'text/plain'],
   readings: ['frames', 'text/plain'],
+  intervals: ['intervals', 'text/plain'],
   bytes: ['prn', 'application/octet-stream'],
   json: ['json', 'application/json'],
   story: ['story', 'text/plain'],
 };
 
-/** The words for the sheet that is seen, where a picture has one sheet; a raw file's printer is 4 whatever is asked. */
-function partOf(what) {
-  const seen = what === 'png' ? paper.seen() : null;
-  return seen ? ['--device', String(seen.printer), '--sheet', String(seen.number)] : [];
+/** The words for a part of the pages: the `printer` or the `sheet` that is seen; none for all of them. */
+function partOf(part) {
+  const seen = part ? paper.seen() : null;
+  if (!seen) return [];
+  const printer = ['--device', String(seen.printer)];
+  return part === 'sheet' ? [...printer, '--sheet', String(seen.number)] : printer;
 }
 
 /** The name of what is shown, for files. */
@@ -165,7 +168,7 @@ for (const made of all('[data-save]')) {
   made.onclick = async () => {
     const what = made.dataset.save, [ending, type] = FILES[what];
     try {
-      const bytes = await ask('text', { what, delays: state.taken || chosenDelays(), part: partOf(what) });
+      const bytes = await ask('text', { what, delays: state.taken || chosenDelays(), part: partOf(made.dataset.part) });
       if (bytes) download(bytes, `${shownName()}.${ending}`, type);
     } catch (error) {
       tellFailed(error);
@@ -177,7 +180,7 @@ $('save-wave').onclick = () => download(wave.svg(), `${shownName()}-wave.svg`, '
 
 /** Puts the sheet that is seen on the clipboard as a picture. */
 $('copy-picture').onclick = async () => {
-  const picture = ask('text', { what: 'png', part: partOf('png') }).then(bytes => new Blob([bytes], { type: 'image/png' }));
+  const picture = ask('text', { what: 'png', part: partOf('sheet') }).then(bytes => new Blob([bytes], { type: 'image/png' }));
   try {
     // (a browser wants the promise itself, so that the click still counts)
     await navigator.clipboard.write([new ClipboardItem({ 'image/png': picture })]);
@@ -192,7 +195,7 @@ $('copy-picture').onclick = async () => {
 const COPIES = {
   listing: async () => editor.text,
   pages: async () => decode(await ask('text', { what: state.tabs.pages === 'list' ? 'list' : 'text' }) ?? new Uint8Array(0)),
-  wire: async () => decode(await ask('text', { what: state.tabs.wire === 'edges' ? 'trace' : 'readings' }) ?? new Uint8Array(0)),
+  wire: async () => decode(await ask('text', { what: { edges: 'trace', intervals: 'intervals' }[state.tabs.wire] ?? 'readings' }) ?? new Uint8Array(0)),
 };
 
 for (const made of all('[data-copy]')) {
@@ -284,7 +287,7 @@ $('codes-box').querySelector('tbody').append(...CODES.map(([bytes, words]) => {
 }));
 for (const name of ['about', 'codes']) {
   const box = $(`${name}-box`);
-  $(name).onclick = () => box.showModal();
+  $(name).onclick = () => openBox(box);
   box.addEventListener('click', event => { if (event.target === box) box.close(); });
 }
 $('menu').onchange = () => { const { value } = $('menu'); $('menu').selectedIndex = 0; openFromMenu(value); };

@@ -1,11 +1,23 @@
 // The listing: a text area with the numbers of its lines, a sign beside each for its statements' status, and notes at
 // the place of a refusal or a stop. Only the lines that can be seen are drawn.
 
+import { whenResized } from './basics.js';
+
 const COLOURED = 2000;         // characters: a longer line has no colours
+
+/** Puts rows into an element, in their order. Those that are there already stay as they are, so that a key draws one line. */
+function showRows(element, rows) {
+  rows.forEach((row, place) => {
+    const there = element.children[place];
+    if (there === row) return;
+    if (there && !rows.includes(there)) there.replaceWith(row); else element.insertBefore(row, there ?? null);
+  });
+  while (element.children.length > rows.length) element.lastChild.remove();
+}
 
 export class Editor {
   /**
-   * `reading` gives the parts of a line with their kinds, and what the part at a column says; `onLine` gets the line
+   * `reading` gives a listing's form, the parts of a line with their kinds, and what the part at a column says; `onLine` gets the line
    * whose number is clicked, or on which the cursor is when Ctrl and Enter are pressed; `onPoint` the line and the column that are
    * pointed at, -1 for none.
    */
@@ -22,6 +34,7 @@ export class Editor {
     this.note = null;      // { line, from, to, words, kind }
     this.place = null;     // { line, from, to }: the character of what is chosen
     this.pointed = null;   // the same of what is pointed at, and its line
+    this.rows = new Map(); // the elements of what is drawn, by what it shows
     // (a browser lays a long listing out anew before it can be drawn: the worker prints it meanwhile)
     this.typed = -Infinity;    // when a key was pressed last
     this.area.addEventListener('input', () => { this.typed = performance.now(); this.measure(); requestAnimationFrame(() => this.draw()); onInput(); });
@@ -40,7 +53,7 @@ export class Editor {
     this.numbers.addEventListener('pointermove', event => onPoint(Number(event.target.closest('.number')?.textContent ?? 0) - 1, -1));
     for (const part of [this.area, this.numbers]) part.addEventListener('pointerleave', () => onPoint(-1, -1));
     this.onPoint = onPoint;
-    new ResizeObserver(() => this.draw()).observe(this.area);
+    whenResized(this.area, () => this.draw());
     this.measure();
   }
 
@@ -135,36 +148,50 @@ export class Editor {
     const to = Math.min(from + Math.ceil(this.area.clientHeight / height) + 4, this.starts.length);
     this.numbers.style.minWidth = `${Math.max(String(this.starts.length).length, 2)}ch`;
     this.numbers.style.transform = `translateY(${from * height - top}px)`;
-    const rows = [];
-    for (let number = from; number < to; number++) {
-      const row = document.createElement('div');
-      row.className = `number ${this.signs[number] || ''} ${number === this.chosen ? 'chosen' : ''} ${number === this.pointed?.line ? 'pointed' : ''}`;
-      row.textContent = String(number + 1);
-      if (this.titles[number]) row.title = this.titles[number];
-      rows.push(row);
-    }
-    this.numbers.replaceChildren(...rows);
-    this.drawColours(from, to, height, top);
+    const numbers = Array.from({ length: to - from }, (_, index) => from + index), before = this.rows;
+    this.rows = new Map();
+    showRows(this.numbers, numbers.map(number => this.rowFor(before, ['number', number, this.kindOf(number), this.titles[number] ?? ''], () => this.numberOf(number))));
+    this.drawColours(numbers, before, height, top);
     this.drawNote(height, top);
   }
 
+  /** The element that shows something, by its name: the one that showed it before, or a new one. */
+  rowFor(before, name, make) {
+    const key = name.join(' '), row = before.get(key) ?? make();
+    this.rows.set(key, row);
+    return row;
+  }
+
+  kindOf(number) {
+    return `number ${this.signs[number] || ''} ${number === this.chosen ? 'chosen' : ''} ${number === this.pointed?.line ? 'pointed' : ''}`;
+  }
+
+  /** The number of a line, with its sign. */
+  numberOf(number) {
+    const row = document.createElement('div');
+    row.className = this.kindOf(number);
+    row.textContent = String(number + 1);
+    if (this.titles[number]) row.title = this.titles[number];
+    return row;
+  }
+
   /** Draws the lines that can be seen in their colours, below the text area, whose own letters are transparent then. */
-  drawColours(from, to, height, top) {
-    const lines = [];
-    for (let number = from; number < to; number++) lines.push(this.line(number));
-    const isColoured = lines.every(line => line.length < COLOURED);
+  drawColours(numbers, before, height, top) {
+    const lines = numbers.map(number => this.line(number)), isColoured = lines.every(line => line.length < COLOURED), form = this.reading.form();
     this.area.classList.toggle('coloured', isColoured);
-    this.colours.style.transform = `translate(${-this.area.scrollLeft}px, ${from * height - top}px)`;
-    this.colours.replaceChildren(...(isColoured ? lines : []).map(line => {
-      const row = document.createElement('div');
-      for (const { text, kind } of this.reading.parts(line)) {
-        const span = document.createElement('span');
-        span.className = kind;
-        span.textContent = text;
-        row.append(span);
-      }
-      return row;
-    }));
+    this.colours.style.transform = `translate(${-this.area.scrollLeft}px, ${(numbers[0] ?? 0) * height - top}px)`;
+    showRows(this.colours, isColoured ? lines.map((line, index) => this.rowFor(before, ['line', numbers[index], form, line], () => this.colouredLine(line))) : []);
+  }
+
+  colouredLine(line) {
+    const row = document.createElement('div');
+    for (const { text, kind } of this.reading.parts(line)) {
+      const span = document.createElement('span');
+      span.className = kind;
+      span.textContent = text;
+      row.append(span);
+    }
+    return row;
   }
 
   /** Says what the code under the pointer does. */

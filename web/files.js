@@ -1,8 +1,8 @@
 // Files that are dropped or opened: listings in each form, traces, recordings and a printer's bytes.
 
-import { petcatOf, refusalOf } from './listing.js';
+import { isTape, petcatOf, refusalOf } from './listing.js';
 import { $, button, decode, encode, fromBase64, toBase64 } from './basics.js';
-import { ask, clearPaper, editor, FILE_LIMIT, hasWebAssembly, notice, print, showPaper, state, tellFailed, tellOnce, wave } from './page.js';
+import { ask, capital, clearPaper, editor, FILE_LIMIT, hasWebAssembly, notice, print, showPaper, state, tellFailed, tellOnce, wave } from './page.js';
 import { cover, showWire, verdictWords } from './telling.js';
 import { file, keepEarlier, listingChanged, nameTab } from './kept.js';
 import { takeCharacters } from './characters.js';
@@ -12,10 +12,10 @@ import { ready, showChoices, showTab } from './controls.js';
 
 const KINDS = { script: 'a listing', petcat: 'petcat\'s text', prg: 'a saved program', text: 'a trace', vcd: 'a Value Change Dump', csv: 'a table of samples', raw: 'a printer\'s bytes' };
 
-/** What a file seems to be: the module says it. A name that ends in .bas is a listing's, which the program knows by no ending. */
+/** What a file seems to be: the module says it. A name that ends in .bas is a listing's, saved or as text. */
 async function kindOf(bytes, name) {
-  if (/\.bas$/i.test(name) || !hasWebAssembly()) return 'script';
-  return ask('kind', { bytes, name });
+  const kind = hasWebAssembly() ? await ask('kind', { bytes, name }) : 'script';
+  return kind !== 'prg' && /\.bas$/i.test(name) ? 'script' : kind;
 }
 
 export let taking = 0;     // files that are read and not yet shown (the tests wait for them)
@@ -59,6 +59,13 @@ export async function takeFile(file) {
   }
 }
 
+/** Says why a file cannot be read as a saved program. It may be a printer's bytes that begin so. */
+function tellNoProgram(bytes, name, why) {
+  const what = isTape(bytes) ? 'is a tape image whose first program cannot be read' : 'cannot be read as a saved program', leave = () => notice('file', '');
+  const shows = button('Read it as a printer\'s bytes', () => { leave(); take(bytes, name, 'raw'); });
+  notice('file', `${name} ${what}: ${why}.`, [...(isTape(bytes) ? [] : [shows]), button('Close', leave)]);
+}
+
 /** Shows a saved program as petcat writes it; as the script that the module makes of it, where that would be another program. */
 async function takeProgram(bytes, name) {
   if (!ready) return tellOnce('file', `${name} cannot be read before the page is ready.`);
@@ -66,7 +73,7 @@ async function takeProgram(bytes, name) {
   let answer;
   try { answer = await ask('isSame', { program: bytes, listing: encode(listing ?? ''), form: 'petcat' }); } catch (error) { return tellFailed(error); }
   if (turn !== taken || before !== editor.area.value) return;   // another file was dropped, or more was typed
-  if (answer.code) return tellOnce('file', `${name} cannot be read as a saved program: ${answer.words ? inPageWords(answer.words) : 'out of memory'}.`);
+  if (answer.code) return tellNoProgram(bytes, name, answer.words ? inPageWords(answer.words) : 'out of memory');
   leaveSource();
   keepEarlier();
   state.form = answer.isSame ? 'petcat' : 'text';
@@ -155,17 +162,18 @@ function fieldsOf(source) {
   return source.kind === 'text' ? fields : [...fields, signalFields(source, again)];
 }
 
-/** Says what came of a file, and why; its fields stay as they are. */
-function tellOfSource(words, why) {
-  const box = $('recording'), place = box.querySelector('.why');
-  box.querySelector('[role=status]').textContent = words;
-  if (!why) return place.replaceChildren();
-  const isOpen = place.querySelector('details')?.open, [more, about, lines] = ['details', 'summary', 'pre'].map(kind => document.createElement(kind));
+/** Says what came of a file, what is to be noted of it, and why; its fields stay as they are. */
+function tellOfSource(words, notes, why) {
+  const box = $('recording'), place = box.querySelector('.why'), isOpen = place.querySelector('details')?.open;
+  box.querySelector('[role=status]').textContent = [words, ...notes.map(note => `${capital(note)}.`)].filter(Boolean).join(' ');
+  place.replaceChildren();
+  if (!why) return;
+  const more = Object.assign(document.createElement('details'), { open: Boolean(isOpen) });
+  const [about, lines] = ['summary', 'pre'].map(kind => document.createElement(kind));
   about.textContent = 'Why';
   lines.textContent = why;
   more.append(about, lines);
-  /** @type {HTMLDetailsElement} */ (more).open = Boolean(isOpen);
-  place.replaceChildren(more);
+  place.append(more);
 }
 
 /** Keeps the file that is shown for a reload of this tab. */
@@ -196,7 +204,8 @@ export function showSource(answer) {
   const { source } = state;
   document.body.classList.remove('stale');
   const why = answer.code === 2 ? `It cannot be read to its end: ${inPageWords(answer.words)}.` : answer.code > 2 ? 'Memory ran out.' : '';
-  tellOfSource(why || verdictWords(answer), pageHints(answer.told || []).join('\n'));
+  const { notes = [], odd = [], told = [] } = answer;
+  tellOfSource(why || verdictWords(answer), pageHints([...notes, ...odd]), pageHints(told).join('\n'));
   if (answer.svg) showPaper(decode(answer.svg)); else clearPaper();
   if (source.kind === 'raw') { showWire(null); cover('A printer\'s bytes have no trace.'); return; }
   cover('');

@@ -6,17 +6,27 @@ import { ask, counted, editor, LINES_LIMIT, paper, readers, state, tellBriefly, 
 import { bytesOfLine } from './reading.js';
 import { byteWords, tellChosen } from './telling.js';
 
-const POINTED_EDGES = 80000;       // of a longer trace nothing is found while the pointer moves
+const POINTED_EDGES = 300000;      // of a longer trace nothing is found while the pointer moves
 const POINTED_AFTER = 70;          // milliseconds until what is pointed at is looked for
 
 let asked = 0;                     // how often something was chosen
 let agreed = 0;                    // the print of a long listing whose lines somebody wants to be found
+
+/** Whether what is pointed at is looked for: each answer decodes or runs a part of what is shown, which takes longer than a pointer rests. */
+export const followsPointer = () => wave.edges.times.length <= POINTED_EDGES;
 
 const hasTrace = () => !state.source && wave.frames.length > 0;
 const isLong = () => editor.text.length > LINES_LIMIT && agreed !== wanted;
 
 /** Whether the lines of the listing that is shown can be found: each answer runs parts of it. */
 const knowsLines = () => hasTrace() && !isLong();
+
+/** Whether a listing has a trace that nobody has asked for yet; then it says so of what is found there. */
+function isUntraced(what) {
+  const isMissing = !state.source && !wave.frames.length && Boolean($('wire-cover').querySelector('button'));
+  if (isMissing) tellBriefly(`${what} found in the trace: make it first.`);
+  return isMissing;
+}
 
 /** Says of a long listing why a link is not followed, and offers it. */
 function offer(words, act) {
@@ -41,8 +51,7 @@ function placesIn(line, from, to) {
 /** A line of the listing is chosen: its frames and its marks are shown. */
 export async function lineChosen(line) {
   const turn = ++asked;
-  if (!state.source && !wave.frames.length && !$('wire-cover').hidden) return tellBriefly('The frames and marks of a line are found in the trace: make it first.');
-  if (!hasTrace()) return;
+  if (isUntraced('The frames and marks of a line are') || !hasTrace()) return;
   const words = document.createElement('strong');
   words.textContent = `Line ${line + 1}`;
   $('chosen').replaceChildren(words);
@@ -91,7 +100,7 @@ export async function markClicked(mark) {
   const turn = ++asked;
   if (!mark) { wave.choose(-1); return; }
   const { source } = state, isRaw = source?.kind === 'raw';
-  if (!isRaw && !wave.frames.length) return;
+  if (isUntraced('The byte of a mark is') || (!isRaw && !wave.frames.length)) return;
   document.body.classList.add('searching');
   const answer = await found('byte', { mark }, turn);
   document.body.classList.remove('searching');
@@ -124,7 +133,7 @@ export function leavePointed() {
 function pointSoon(name, look) {
   if (name === pointed) return;
   leavePointed();
-  if (!name || !wave.frames.length || wave.edges.times.length > POINTED_EDGES) return;
+  if (!name || !wave.frames.length || !followsPointer()) return;
   pointed = name;
   pointing = setTimeout(async () => {
     let answer = null;

@@ -60,14 +60,30 @@ function lineOf(number, bytes) {
   return text;
 }
 
+const begins = (file, pattern) => pattern.test(String.fromCharCode(...file.subarray(0, 16)));
+
+/** Whether a file is a tape image (T64), which has programs in it. */
+export const isTape = file => begins(file, /^C64S? tape/);
+
+/** The first program in use of a tape image, after two bytes. */
+function programOfTape(file) {
+  const numbers = new DataView(file.buffer, file.byteOffset, file.byteLength), count = file.length > 36 ? numbers.getUint16(34, true) || 1 : 0;
+  const entries = Array.from({ length: count }, (_, entry) => 64 + 32 * entry).filter(at => at + 32 <= file.length);
+  const used = entries.find(at => file[at] === 1);
+  return used === undefined ? file.subarray(file.length) : file.subarray(Math.max(numbers.getUint32(used + 8, true) - 2, 0));
+}
+
+/** The saved program of a file: after the header of a P00 file, of a tape image the first one, or else the file itself. */
+const programIn = file => (begins(file, /^C64File/) ? file.subarray(26) : isTape(file) ? programOfTape(file) : file);
+
 /** A saved program as petcat's text, a line for each line; null where it is cut off. */
 export function petcatOf(file) {
-  const lines = [];
-  for (let at = 2; at + 2 <= file.length;) {
-    if (file[at] === 0 && file[at + 1] === 0) return lines.map(line => `${line}\n`).join('');
-    const end = file.indexOf(0, at + 4);
-    if (at + 4 > file.length || end < 0) return null;
-    lines.push(lineOf(file[at + 2] + 256 * file[at + 3], file.subarray(at + 4, end)));
+  const program = programIn(file), lines = [];
+  for (let at = 2; at + 2 <= program.length;) {
+    if (program[at] === 0 && program[at + 1] === 0) return lines.map(line => `${line}\n`).join('');
+    const end = program.indexOf(0, at + 4);
+    if (at + 4 > program.length || end < 0) return null;
+    lines.push(lineOf(program[at + 2] + 256 * program[at + 3], program.subarray(at + 4, end)));
     at = end + 1;
   }
   return null;
@@ -84,7 +100,7 @@ const OTHERS = [
   [/^%PDF/, 'a PDF'], [/^PK(\x03\x04|\x05\x06|\x07\x08)/, 'a ZIP archive'], [/^(\x1f\x8b\x08|BZh[1-9]1AY&SY|\xfd7zXZ\0|7z\xbc\xaf|Rar!\x1a|\x28\xb5\x2f\xfd)/, 'a packed file'],
   [/^[^]{257}ustar/, 'an archive (TAR)'], [/^MZ[^]*\0/, 'a program for Windows or DOS'], [/^\x7fELF/, 'a program for Linux'], [/^(\xcf\xfa\xed\xfe|\xca\xfe\xba\xbe)/, 'a program'],
   [/^\0asm/, 'a WebAssembly module'], [/^SQLite format 3\0/, 'a database'], [/^\xd0\xcf\x11\xe0/, 'a document'],
-  [/^C64(S)? tape|^C64-TAPE-RAW/, 'a tape image'], [/^C64 CARTRIDGE/, 'a cartridge image'],
+  [/^C64-TAPE-RAW/, 'a tape image'], [/^C64 CARTRIDGE/, 'a cartridge image'],
 ];
 
 /** Why a file is none of what the page takes, in words, or nothing. */

@@ -1,7 +1,7 @@
 """Drives Firefox by WebDriver BiDi over a socket, and WebKitGTK by its WebDriver: nothing but Python and the browsers.
 
-Both have the calls of chromium.py that the tests need everywhere: open, go, run, until, type, press, click, size, reload and
-picture. A script's value comes back as JSON."""
+Both have the calls of chromium.py that the tests need everywhere: open, go, run, until, type, press, click, size, theme, reload
+and picture. A script's value comes back as JSON."""
 
 import base64
 import json
@@ -33,6 +33,24 @@ def strokes(keys):
 def pointer(x, y, kinds=("pointerMove", "pointerDown", "pointerUp")):
     acts = {"pointerMove": {"type": "pointerMove", "x": int(x), "y": int(y)}, "pointerDown": {"type": "pointerDown", "button": 0}, "pointerUp": {"type": "pointerUp", "button": 0}}
     return [{"type": "pointer", "id": "mouse", "parameters": {"pointerType": "mouse"}, "actions": [acts[kind] for kind in kinds]}]
+
+
+# Shows the page as in a theme: the rules for dark colours hold for all windows, or for none.
+THEME = """
+(isDark => {
+  window.darkRules ??= [...document.styleSheets].flatMap(sheet => [...sheet.cssRules]).filter(rule => /prefers-color-scheme: dark/.test(rule.media?.mediaText));
+  for (const { media } of darkRules) media.mediaText = isDark ? 'all' : 'not all';
+  document.documentElement.style.colorScheme = isDark ? 'dark' : 'light';
+  wave.draw();
+})(%s)
+"""
+
+
+class Themed(Waiting):
+    """A page of a browser whose protocol has no themes."""
+
+    def theme(self, name):
+        self.run(THEME % json.dumps(name == "dark"))
 
 
 class Socket:
@@ -129,7 +147,7 @@ class Firefox:
         shutil.rmtree(self.folder, ignore_errors=True)
 
 
-class FirefoxPage(Waiting):
+class FirefoxPage(Themed):
     def __init__(self, browser, before, width, height):
         self.browser = browser
         self.context = browser.send("browsingContext.create", type="tab")["context"]
@@ -243,7 +261,7 @@ class Webkit:
         self.display.wait(20)
 
 
-class WebkitPage(Waiting):
+class WebkitPage(Themed):
     """A window of the session. What was kept goes before a page is opened, since no script can come before the page's own."""
 
     def __init__(self, browser, width, height, clears):

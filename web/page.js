@@ -3,12 +3,12 @@
 import { $, button, decode, encode } from './basics.js';
 import { Reader } from './reader.js';
 import { partsOf, wordsAt } from './reading.js';
-import { inPageWords, pageHints, withCharacter } from './words.js';
+import { formsIn, inPageWords, withCharacter } from './words.js';
 import { Editor } from './editor.js';
 import { Paper } from './paper.js';
 import { spaced, Wave } from './wave.js';
 import { frameChosen, lineChosen, linePointed, markClicked, markPointed } from './links.js';
-import { cover, endLongTrace, showWire, tellUnder, traceSoon } from './telling.js';
+import { cover, coverProgress, endLongJob, patiently, showWire, tellUnder, traceSoon } from './telling.js';
 import { leaveSource, recordingOf, showSource } from './files.js';
 import { listingChanged } from './kept.js';
 import { chooseForm, ready } from './controls.js';
@@ -20,6 +20,7 @@ export const EARLIER_LIMIT = 20;
 export const LONG = 200000;               // characters: a longer listing is printed and kept when no key is pressed for a moment
 const TYPED_PAUSE = 250;                  // milliseconds of that moment
 const TYPED_AFTER = 800;                  // milliseconds after a key until a refusal of its line is shown
+const LONG_FILE = 10 ** 6;                // bytes: reading a longer recording shows how far it is
 export const FILE_LIMIT = 2 ** 21;        // bytes of a file that is here after a reload
 export const LISTING_LIMIT = 16777216;    // bytes of a script, as the program has it (tests/documents holds it equal)
 
@@ -88,6 +89,7 @@ export const hasWebAssembly = () => typeof WebAssembly === 'object' && typeof De
 // the parts of the page
 
 export const editor = new Editor(document.querySelector('.editor'), () => { leaveSource(); listingChanged(); }, {
+  form: () => state.form,
   parts: line => partsOf(line, state.form),
   words: (line, column) => wordsAt(line, column, state.form),
 }, line => lineChosen(line), (line, column) => linePointed(line, column));
@@ -141,7 +143,7 @@ export let printed = 0, printing = false;     // (the tests wait for them)
 export async function print() {
   wanted++;
   hurry();
-  endLongTrace();
+  endLongJob();
   if (printing || !ready) return;
   printing = true;
   const slow = setTimeout(() => document.body.classList.add('printing'), 250);
@@ -205,11 +207,18 @@ async function printNow(version) {
     if (answer.code <= 1) traceSoon(version, length);
     return;
   }
-  const { bytes, set } = source, isRaw = source.kind === 'raw';
-  const answer = isRaw ? await ask('raw', { bytes, set }, version) : await ask('recording', recordingOf(source), version);
+  const answer = await patiently(readSource(source, version));
   if (version !== wanted || state.source !== source) return;
   onPaper = version;
   showSource(answer);
+}
+
+/** What a file gives; a long recording shows how far it is. */
+function readSource(source, version) {
+  const { name, kind, bytes, set } = source;
+  if (kind === 'raw') return ask('raw', { bytes, set }, version);
+  const onProgress = bytes.length > LONG_FILE ? coverProgress(`Reading ${name}`, () => { leaveSource(); print(); }) : null;
+  return ask('recording', recordingOf(source), version, onProgress);
 }
 
 export let firstPaper = 0;               // when there was paper first, in milliseconds from the page's start (the tests show it)
@@ -223,7 +232,7 @@ export function clearPaper() {
   $('no-sheet').hidden = true;
   for (const what of ['lines', 'list']) {
     readers[what].stale = 0;
-    readers[what].show('');
+    readers[what].show();
   }
 }
 
@@ -283,11 +292,11 @@ export function showPaper(svg) {
 export async function fillReader(tab) {
   const what = { lines: 'text', list: 'list', edges: 'trace', frames: 'readings' }[tab], reader = readers[tab], version = reader?.stale;
   if (!what || !version || !ready) return;
-  let bytes;
-  try { bytes = await ask('text', { what }); } catch (error) { return tellFailed(error); }
-  if (reader.stale !== version || !bytes) return;
+  let text;
+  try { text = await ask('lines', { what }); } catch (error) { return tellFailed(error); }
+  if (reader.stale !== version || !text) return;
   reader.stale = 0;
-  reader.show(decode(bytes));
+  reader.show(text);
   if (tab === 'frames' && wave.frames.get(wave.chosen)) reader.mark(wave.frames.get(wave.chosen).line);
 }
 
@@ -324,29 +333,50 @@ function showScript(answer) {
 /** How many characters the first bytes of a text are. */
 const charactersOf = (text, bytes) => decode(encode(text).subarray(0, bytes)).length;
 
-const capital = words => words && words[0].toUpperCase() + words.slice(1);
+/** Words with a capital. */
+export const capital = words => words && words[0].toUpperCase() + words.slice(1);
 
 /** A listing that cannot be read: its first fault, at its place. `place` is where the module finds it in a script. */
-function tellRefusal({ name, line, column, explanation, place, inNamed }, words) {
-  const upper = capital(name), signs = [], titles = [];
-  if (!place) {
-    words('first', column ? `${upper} in line ${line}, column ${column}` : line ? `Line ${line}: ${name}` : upper);
-    if (line) signs[line - 1] = 'refused';
-    if (!column) return editor.tell(signs, titles, null);
-    const text = editor.line(line - 1), from = charactersOf(text, column - 1), brace = text[from] === '{' ? text.indexOf('}', from) : -1;
-    return editor.tell(signs, titles, { line: line - 1, from, to: Math.max(brace, from) + 1, words: name, kind: 'refused' });
-  }
-  const { sentence, hints } = explanation, number = place.line - 1, text = editor.line(number);
+function tellRefusal(answer, words) {
+  const { name, place, explanation } = answer;
+  if (!place) return tellListingFault(answer, words);
+  const { sentence, hints } = explanation, number = place.line - 1, text = editor.line(number), { from, to } = placeInLine(answer, text);
+  tellFirst(words, capital(name), { line: number, shown: answer.inNamed ? from + 1 : place.column, from });
+  words('', capital(withCharacter(sentence, text.slice(from))));
+  hints.forEach(hint => tellHint(hint, words));
+  tellStale(words);
+  editor.tell(at(number, 'refused'), at(number, sentence), { line: number, from, to, words: name, kind: 'refused' });
+}
+
+/** Says what is wrong, and in which line and column; the place is one click away. */
+function tellFirst(words, upper, { line, shown, from }) {
+  const first = words('first', `${upper} in line ${line + 1}, column ${shown}`);
+  first.append(' ', button('go there', () => editor.goTo(line, from)));
+}
+
+/** Says that the paper is another run's. */
+const tellStale = words => { if (paper.picture) words('', 'The paper and the wire still show the run before.'); };
+
+/** A list with one item, at a place. */
+const at = (place, item) => Object.assign([], { [place]: item });
+
+/** Where in its line the fault of a script is: the word there, or a character of a string. */
+function placeInLine({ place, inNamed }, text) {
   const from = inNamed ? inNamed.from : charactersOf(text, place.column - 1), isQuoted = (text.slice(0, from).split('"').length - 1) % 2 === 1;
   const width = isQuoted ? 1 : Math.max(place.width, /^[a-z]*/i.exec(text.slice(from))[0].length, 1);
-  const first = words('first', `${upper} in line ${place.line}, column ${inNamed ? from + 1 : place.column}`);
-  first.append(' ', button('go there', () => editor.goTo(number, from)));
-  words('', capital(withCharacter(sentence, text.slice(from))));
-  pageHints(hints).forEach(hint => words('', hint));
-  if (paper.picture) words('', 'The paper and the wire still show the run before.');
-  signs[number] = 'refused';
-  titles[number] = sentence;
-  editor.tell(signs, titles, { line: number, from, to: Math.min(from + width, Math.max(text.length, from + 1)), words: name, kind: 'refused' });
+  return { from, to: Math.min(from + width, Math.max(text.length, from + 1)) };
+}
+
+/** A fault of the listing's own form: the name in braces, or the character, that it has not. */
+function tellListingFault({ name, line, column, more }, words) {
+  const upper = capital(name), signs = line ? at(line - 1, 'refused') : [], text = column ? editor.line(line - 1) : '', from = column ? charactersOf(text, column - 1) : 0;
+  if (column) tellFirst(words, upper, { line: line - 1, shown: from + 1, from });
+  else words('first', line ? `Line ${line}: ${name}` : upper);
+  more.forEach(hint => tellHint(hint, words));
+  tellStale(words);
+  if (!column) return editor.tell(signs, [], null);
+  const end = { '{': '}', '[': '>]' }[text[from]], last = end ? text.indexOf(end, from) + end.length - 1 : from;
+  editor.tell(signs, [], { line: line - 1, from, to: Math.max(last, from) + 1, words: name, kind: 'refused' });
 }
 
 /** A run's statuses and its stop. */
@@ -369,7 +399,7 @@ function tellStatuses(answer, words) {
     // (the second line of an explanation is that of the listing)
     const [first, , ...hints] = told;
     words('first', first);
-    pageHints(hints).forEach(hint => words('', hint.trim()));
+    hints.forEach(hint => tellHint(hint, words));
     if (isKnown) {
       const line = lines[statement - 1], text = editor.line(line);
       sign(line, 'stopped', `statement ${statement}: ${name}`);
@@ -385,13 +415,18 @@ function tellStatuses(answer, words) {
   editor.tell(signs, titles, note);
 }
 
-/** A note of the program; where strings of a script have small letters or names in braces, also the reading that has them as typed. */
-function tellNote(note, words) {
-  const said = inPageWords(note);
-  if (!said.trim()) return;
-  const line = words('', `${capital(said)}.`);
-  if (note.includes('--from petcat')) line.append(' ', button('Read it as petcat\'s text', () => chooseForm('petcat')));
+const FORM_WORDS = { text: 'a script', petcat: 'petcat\'s text', magazine: 'a magazine\'s' };
+
+/** A hint of the program in the page's words; each form of a listing that it names is one click away. */
+function tellHint(hint, words, end = '') {
+  const said = inPageWords(hint).trim();
+  if (!said) return;
+  const line = words('', `${capital(said)}${end}`);
+  for (const form of formsIn(hint)) if (form !== state.form) line.append(' ', button(`Read it as ${FORM_WORDS[form]}`, () => chooseForm(form)));
 }
+
+/** A note of the program, as a sentence. */
+const tellNote = (note, words) => tellHint(note, words, '.');
 
 /** Shows the screen; where that moves the listing, once no key is pressed for a while. */
 function showScreenSoon(bytes) {

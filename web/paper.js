@@ -3,6 +3,7 @@
 
 import { DOT, LETTER_HEIGHT, markAt, MARKS_LEFT, MARKS_TOP, SHEET_TOP, sheetsOf, STEP } from './sheets.js';
 import { arrange, drawn, fanfold, SHEET_HEIGHT, sheetAt } from './fanfold.js';
+import { whenResized } from './basics.js';
 import { HIGHEST } from './reader.js';
 
 const PICA = 210;              // units of the picture
@@ -36,7 +37,7 @@ export class Paper {
     this.pointed = [];         // the marks that belong to what is pointed at
     this.focused = '';
     element.addEventListener('scroll', () => this.drawPart(), { passive: true });
-    new ResizeObserver(() => { this.lay(); if (this.picture && !this.size) this.showDots(); }).observe(element);
+    whenResized(element, () => { this.lay(); if (this.picture && !this.size) this.showDots(); });
     element.addEventListener('wheel', event => {
       if (!event.ctrlKey && !event.metaKey) return;
       event.preventDefault();

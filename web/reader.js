@@ -1,5 +1,8 @@
-// Shows a long text: only the lines that can be seen are in the page.
+// Shows a long text: only the lines that can be seen are in the page, and only they are made of its bytes.
 
+import { decode, whenResized } from './basics.js';
+
+const NO_TEXT = { bytes: new Uint8Array(0), starts: new Uint32Array(1) };
 export const HIGHEST = 15e6;         // pixels: the highest element that browsers lay out
 
 export class Reader {
@@ -7,7 +10,7 @@ export class Reader {
   constructor(element, onLine = null) {
     this.element = element;
     this.onLine = onLine;
-    this.lines = [];
+    this.text = NO_TEXT;
     this.marked = -1;
     this.block = document.createElement('pre');
     this.room = document.createElement('div');
@@ -15,7 +18,7 @@ export class Reader {
     this.room.append(this.block);
     element.append(this.room);
     element.addEventListener('scroll', () => this.draw(), { passive: true });
-    new ResizeObserver(() => this.draw()).observe(element);
+    whenResized(element, () => this.draw());
     if (onLine) {
       this.block.addEventListener('click', event => {
         const line = /** @type {any} */ (event.target).closest('[data-line]');
@@ -24,13 +27,27 @@ export class Reader {
     }
   }
 
-  show(text) {
-    this.lines = text.split('\n');
-    if (this.lines[this.lines.length - 1] === '') this.lines.pop();
+  /** Shows a text, by its bytes and where each of its lines begins, and where the last one ends; or nothing. */
+  show(text = NO_TEXT) {
+    this.text = text;
     this.marked = -1;
     this.drawn = '';
     this.draw();
   }
+
+  /** How many lines there are: after a last line's end there is none. */
+  get length() {
+    const { bytes, starts } = this.text, count = starts.length - 1;
+    return count > 0 && starts[count - 1] === bytes.length ? count - 1 : count;
+  }
+
+  line(at) {
+    const { bytes, starts } = this.text, to = starts[at + 1];
+    return decode(bytes.subarray(starts[at], bytes[to - 1] === 10 ? to - 1 : to));
+  }
+
+  /** All lines (the tests look at them). */
+  get lines() { return Array.from({ length: this.length }, (_, at) => this.line(at)); }
 
   /** Marks a line and brings it into view. */
   mark(line) {
@@ -45,7 +62,7 @@ export class Reader {
 
   /** The height of a line, and how many lines go by for one that is scrolled: more than one where a browser has no element so high. */
   measures() {
-    const height = parseFloat(getComputedStyle(this.block).lineHeight) || 20, whole = this.lines.length * height, seen = this.element.clientHeight;
+    const height = parseFloat(getComputedStyle(this.block).lineHeight) || 20, whole = this.length * height, seen = this.element.clientHeight;
     return { height, crowding: whole > HIGHEST ? (whole - seen) / (HIGHEST - seen) : 1 };
   }
 
@@ -53,18 +70,19 @@ export class Reader {
     const { scrollTop, clientHeight } = this.element;
     if (!clientHeight) return;
     const { height, crowding } = this.measures(), first = scrollTop * crowding / height, from = Math.max(Math.floor(first) - 20, 0);
-    const to = Math.min(from + Math.ceil(clientHeight / height) + 40, this.lines.length);
+    const to = Math.min(from + Math.ceil(clientHeight / height) + 40, this.length);
     const key = [from, to, height].join(' ');
     if (key === this.drawn) return;
     this.drawn = key;
-    this.room.style.height = `${Math.min(this.lines.length * height, HIGHEST)}px`;
+    this.room.style.height = `${Math.min(this.length * height, HIGHEST)}px`;
     this.block.style.transform = `translateY(${scrollTop - (first - from) * height}px)`;
-    this.block.replaceChildren(...this.lines.slice(from, to).map((line, index) => {
-      const span = document.createElement('span');
-      span.dataset.line = String(from + index);
-      span.textContent = line + '\n';
-      if (from + index === this.marked) span.className = 'marked';
-      return span;
-    }));
+    this.block.replaceChildren(...Array.from({ length: Math.max(to - from, 0) }, (_, index) => this.rowOf(from + index)));
+  }
+  rowOf(line) {
+    const row = document.createElement('span');
+    row.dataset.line = String(line);
+    row.textContent = `${this.line(line)}\n`;
+    if (line === this.marked) row.className = 'marked';
+    return row;
   }
 }

@@ -30,29 +30,59 @@ function wordsOfByte(byte) {
   return `${byte}: prints a graphic sign, or a letter of the lower/upper case set${column}`;
 }
 
-// Names that magazines print and petcat does not write so.
-const KEYS = {
-  clr: 147, up: 145, left: 157, right: 29, rvs: 18, 'rvs on': 18, off: 146, 'rvs off': 146, spaces: 32, 'shift-space': 160, inst: 148,
-  'up arrow': 94, 'back arrow': 95, pi: 222,
-};
+// The names of bytes in magazines that petcat has not, and the keys 1 to 9 and 0 with the control key and 1 to 8 with the Commodore
+// key. (web/test compares each with what the module reads.)
+const CONTROL_KEYS = { 1: 144, 2: 5, 3: 28, 4: 159, 5: 156, 6: 30, 7: 31, 8: 158, 9: 18, 0: 146 };
+const COMMODORE_KEYS = { 1: 129, 2: 149, 3: 150, 4: 151, 5: 152, 6: 153, 7: 154, 8: 155 };
+const keysOf = (name, keys) => Object.entries(keys).map(([key, byte]) => [`${name} ${key}`, byte]);
+const MAGAZINE = new Map(/** @type {[string, number][]} */ ([
+  ['rvs', 18], ['rvs on', 18], ['off', 146], ['rvs off', 146], ['right', 29], ['up arrow', 94], ['back arrow', 95], ['pi', 222],
+  ['crsr dn', 17], ['crsr up', 145], ['crsr lf', 157], ['crsr rt', 29], ['shift clr/home', 147],
+  ...keysOf('ctrl', CONTROL_KEYS), ...keysOf('comd', COMMODORE_KEYS),
+]));
 
-/** The byte of a name in braces that petcat writes or a magazine prints, or null. */
-function byteOfName(name) {
-  const plain = name.replace(/^\d+ /, '').toLowerCase();
-  if (/^\$[0-9a-f]{2}$/.test(plain)) return parseInt(plain.slice(1), 16);
-  const low = NAMES[0].indexOf(plain), high = NAMES[1].indexOf(plain);
-  return !plain ? null : low >= 0 ? low : high >= 0 ? 128 + high : plain === 'space' ? 32 : KEYS[plain] ?? null;
+/** The byte of a name in small letters and without a count, or undefined. */
+function byteOfName(name, form) {
+  if (/^\$[0-9a-f]{2}$/.test(name)) return parseInt(name.slice(1), 16);
+  if (name === 'space' || name === 'spaces') return 32;
+  const set = NAMES.findIndex(names => name && names.includes(name));
+  if (set >= 0) return 128 * set + NAMES[set].indexOf(name);
+  if (form !== 'magazine') return undefined;
+  return /^[a-z]$/.test(name) ? name.charCodeAt(0) - 96 : MAGAZINE.get(name);
 }
 
-/** The parts of a string: its codes by name; in a script the small letters, which print something else. */
+/** The byte of a key with the Commodore key, or undefined. */
+const byteOfKey = (key, form) => byteOfName(`cbm-${key}`, form) ?? byteOfName(`comd ${key}`, form);
+
+/** What a name in braces says, or a magazine's key in `[<` and `>]`: a byte and how often; or null. */
+function namedBytes(name, isKey, form) {
+  const [, digits, plain] = /^(?:(\d+) )?([^]*)$/.exec(name.toLowerCase()), count = Number(digits ?? 1);
+  const once = isKey ? byteOfKey(plain, form) : byteOfName(plain, form);
+  // (after a count a magazine has a name in the plural)
+  const byte = once ?? (digits && !isKey && form === 'magazine' ? byteOfName(plain.replace(/s$/, ''), form) : undefined);
+  return byte === undefined || count < 1 || count > 255 ? null : { byte, count };
+}
+
+// What is no letter alone in the strings of each form of a listing: names in braces, a magazine's keys.
+const NAMED = { petcat: /\{([^}]*)\}/g, magazine: /\{([^}]*)\}|\[<(.*?)>\]/g };
+const SMALL = /[a-z]+/g;
+
+/** What a part of a string says that is no letter alone: the byte of a name; in a script small letters print something else. */
+function wordsOfPart(found, form) {
+  if (!NAMED[form]) return 'small letters, which are sent as they are';
+  const named = namedOf(found, form);
+  return named ? wordsOfByte(named.byte) : '';
+}
+
+const namedOf = ([, name, key], form) => namedBytes(name ?? key, name === undefined, form);
+
+/** The parts of a string: its codes by name; in a script the small letters. */
 function partsOfString(text, form) {
-  const parts = [], isNamed = form !== 'text', pattern = isNamed ? /\{([^}]*)\}/g : /[a-z]+/g;
+  const parts = [];
   let at = 0;
-  for (const found of text.matchAll(pattern)) {
+  for (const found of text.matchAll(NAMED[form] ?? SMALL)) {
     if (found.index > at) parts.push({ text: text.slice(at, found.index), kind: 'string' });
-    const byte = isNamed ? byteOfName(found[1]) : null;
-    const words = isNamed ? (byte === null ? '' : wordsOfByte(byte)) : 'small letters, which are sent as they are';
-    parts.push({ text: found[0], kind: isNamed ? 'code' : 'typed', words });
+    parts.push({ text: found[0], kind: NAMED[form] ? 'code' : 'typed', words: wordsOfPart(found, form) });
     at = found.index + found[0].length;
   }
   if (at < text.length) parts.push({ text: text.slice(at), kind: 'string' });
@@ -83,15 +113,27 @@ export function wordsAt(line, column, form) {
   return '';
 }
 
+/** The byte of a letter in a string: in petcat's text small letters are the keys without shift, capitals those with it. */
+function byteOfLetter(code, form) {
+  if (form !== 'petcat') return code;
+  return code >= 97 && code <= 122 ? code - 32 : code >= 65 && code <= 90 ? code + 128 : code;
+}
+
+/** The bytes of letters one after another, and where each comes from; `at` is where they begin. */
+const bytesOfLetters = (letters, form, at) => Array.from({ length: letters.length }, (_, n) => (
+  { byte: byteOfLetter(letters.charCodeAt(n), form), from: at + n, to: at + n + 1 }));
+
 /** The bytes of a string's text and where each comes from, as `{ byte, from, to }`; `at` is where the text begins. */
 function bytesOfString(text, form, at) {
   const bytes = [];
-  for (const found of text.matchAll(form !== 'text' ? /\{(\d+ )?([^}]*)\}|[^]/g : /[^]/g)) {
-    const [whole, count, name] = found, place = { from: at + found.index, to: at + found.index + whole.length }, code = whole.charCodeAt(0);
-    const letter = form !== 'petcat' ? code : code >= 97 && code <= 122 ? code - 32 : code >= 65 && code <= 90 ? code + 128 : code;
-    for (let n = 0; n < (Number(count) || 1); n++) bytes.push({ byte: name === undefined ? letter : byteOfName(name), ...place });
+  let next = 0;
+  for (const found of NAMED[form] ? text.matchAll(NAMED[form]) : []) {
+    const to = found.index + found[0].length, { byte = null, count = 1 } = namedOf(found, form) ?? {};
+    bytes.push(...bytesOfLetters(text.slice(next, found.index), form, at + next));
+    for (let n = 0; n < count; n++) bytes.push({ byte, from: at + found.index, to: at + to });
+    next = to;
   }
-  return bytes;
+  return [...bytes, ...bytesOfLetters(text.slice(next), form, at + next)];
 }
 
 /** What a line prints, by its strings and codes. */

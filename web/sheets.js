@@ -12,7 +12,7 @@ export const LETTER_HEIGHT = 140; // seven dots
  * The sheets of a picture: `{ width, height, sheets, notes }`. A sheet is `{ printer, x, height, from, to, rows }`: its
  * number, its left edge, how high it is drawn, where the text of its rows begins and ends, and its rows as `{ y, from, to, held }`: the
  * distance from the top in 1/126 inch, and where the text of its marks begins and ends. `notes` is `{ y, from, to }`
- * for the lines below the sheets, or null.
+ * for the lines below the sheets, or null where there are none.
  */
 export function sheetsOf(svg) {
   const size = /viewBox="0 0 (\d+) (\d+)"/.exec(svg.slice(0, 400));
@@ -26,8 +26,8 @@ export function sheetsOf(svg) {
   }
   const notes = svg.indexOf('<text font-size="210" fill="#555" transform="translate(630 ', sheetStart.lastIndex || 0);
   if (notes >= 0) {
-    const from = svg.indexOf('\n', notes) + 1;
-    picture.notes = { y: Number(/translate\(630 (\d+)/.exec(svg.slice(notes, notes + 90))[1]), from, to: svg.lastIndexOf('</text>') };
+    const from = svg.indexOf('\n', notes) + 1, to = svg.lastIndexOf('</text>');
+    if (from < to) picture.notes = { y: Number(/translate\(630 (\d+)/.exec(svg.slice(notes, notes + 90))[1]), from, to };
   }
   return picture;
 }

@@ -2,10 +2,24 @@
 
 const LINES = ['ATN', 'CLOCK', 'DATA'];
 
-/** The names of a table's columns. */
+/** The fields of a line of a table, without the quotation marks around them. */
+function fieldsOf(line, separator) {
+  const outside = new RegExp(`${separator}(?=(?:[^"]*"[^"]*")*[^"]*$)`);
+  return line.split(outside).map(field => field.trim().replace(/^"(.*)"$/, '$1').trim());
+}
+
+// What may come before the line of a table's names: a remark, sigrok-cli's first line, a line that says what separates fields.
+const BEFORE_NAMES = /^\s*([;#]|META\b|"?sep=|$)/i;
+const CHANNELS = /^\s*[;#]\s*channels\b[^:]*:(.*)$/i;
+const TIMES = /^(time|timestamp|t|samples?|index|sec|msec|usec|nsec|psec|(milli|micro|nano|pico)?seconds?|[mµunp]?s)(?![a-z0-9])/i;
+
+/** The names of a table's signals: those of its columns, or of sigrok's remark where each column is called by its unit, `logic`. */
 function namesOfTable(head) {
-  const line = head.split(/\r?\n/).find(line => line.trim() && !/^\s*([;#]|META\b)/.test(line)) ?? '', separator = ['\t', ';', ','].find(sign => line.includes(sign)) ?? ',';
-  return line.split(separator).map(name => name.trim().replace(/^"(.*)"$/, '$1').trim());
+  const lines = head.split(/\r?\n/), at = lines.findIndex(line => !BEFORE_NAMES.test(line)), line = lines[at] ?? '', before = lines.slice(0, at);
+  const [said = /[,;\t]/.exec(line)?.[0] ?? ','] = before.flatMap(one => /^"?sep=([,;\t])/i.exec(one)?.[1] ?? []).slice(-1);
+  const fields = fieldsOf(line, said), columns = TIMES.test(fields[0]) ? fields.slice(1) : fields;
+  const [channels = ''] = before.flatMap(one => CHANNELS.exec(one)?.[1] ?? []).slice(-1);
+  return channels && columns.every(name => name.toLowerCase() === 'logic') ? fieldsOf(channels, ',') : columns;
 }
 
 /** The names of a dump's signals, each with its scopes; of a vector each bit. */
@@ -30,8 +44,7 @@ function namesOfDump(head) {
 /** The names of the signals of a file, by its header; a table's first column of times is none. */
 export function signalNames({ bytes, kind }) {
   const head = new TextDecoder().decode(bytes.subarray(0, 2 ** 18)), names = kind === 'vcd' ? namesOfDump(head) : namesOfTable(head);
-  const isSignal = (name, at) => name && !(kind === 'csv' && at === 0 && /^(time|t|sample)\b/i.test(name));
-  return [...new Set(names.filter(isSignal))];
+  return [...new Set(names.filter(Boolean))];
 }
 
 /** The name among those of a file that a signal's name means: it is written the same but for case, perhaps without its scopes. */
@@ -54,6 +67,30 @@ function inputOf(type, value, act) {
   return input;
 }
 
+const UNITS = { us: 1, µs: 1, ms: 1e3, s: 1e6 }, PREFIXES = { k: 1e3, m: 1e6, g: 1e9 };
+
+/** The microseconds that a text says, as `200`, `5ms` or `2 s`; undefined where it says none. */
+export function timeOf(text) {
+  const [, number, unit = 'us'] = /^(\d+(?:\.\d+)?)\s*(us|µs|ms|s)?$/.exec(text.trim()) ?? [];
+  return number && Math.floor(Number(number) * UNITS[unit]);
+}
+
+/** The samples in a second that a text says, as `4M`, `12.5 MHz`, `500kS/s` or `4e6`, or 0 for none; undefined where it says nothing. */
+export function rateOf(text) {
+  if (!text.trim()) return 0;
+  const [, number, prefix = ''] = /^(\d+(?:\.\d+)?(?:e\d+)?)\s*([kmg]?)\s*(?:hz|s\/s|sa\/s|sps)?$/i.exec(text.trim()) ?? [];
+  return number && Math.round(Number(number) * (PREFIXES[prefix.toLowerCase()] ?? 1));
+}
+
+/** A field for a number that is read from a text; what cannot be read is marked, and changes nothing. */
+function numberField(value, read, act) {
+  return inputOf('text', value, input => {
+    const number = read(input.value);
+    input.setAttribute('aria-invalid', String(number === undefined));
+    if (number !== undefined) act(number);
+  });
+}
+
 /** The choice of a line's signal among the names of the file. */
 function choiceOfSignal(source, line, names, again) {
   const select = document.createElement('select'), meant = meantBy(source.names[line], names);
@@ -69,16 +106,20 @@ function choiceOfSignal(source, line, names, again) {
  * table's rate. `again` is called after each change. They are made once a file: what is chosen stays as it is while the file is read.
  */
 export function signalFields(source, again) {
-  const fields = document.createElement('div'), names = signalNames(source), number = input => Math.max(Math.floor(Number(input.value)) || 0, 0);
+  const fields = document.createElement('div'), names = signalNames(source);
   fields.className = 'signals';
   LINES.forEach((name, line) => {
     const written = () => inputOf('text', source.names[line], input => { source.names[line] = input.value.trim() || name; again(); });
     fields.append(labelled(`${name} is`, names.length ? choiceOfSignal(source, line, names, again) : written()));
   });
   fields.append(labelled('inverted levels', inputOf('checkbox', source.inverted, input => { source.inverted = input.checked; again(); }), true));
-  fields.append(labelled('starts at', inputOf('text', source.start, input => { source.start = number(input); again(); })), 'µs');
+  const start = numberField(`${source.start} µs`, timeOf, time => { source.start = time; again(); });
+  start.title = 'A time of the recording, as 200 µs, 5 ms or 2 s';
+  fields.append(labelled('starts at', start));
   // (a table with times of its own has no use for it)
   if (source.kind !== 'csv') return fields;
-  fields.append(labelled('samples a second, of a table without times', inputOf('text', source.rate || '', input => { source.rate = number(input); again(); })));
+  const rate = numberField(source.rate || '', rateOf, number => { source.rate = number; again(); });
+  rate.title = 'As 4M, 12.5 MHz or 500kS/s';
+  fields.append(labelled('samples a second, of a table without times', rate));
   return fields;
 }

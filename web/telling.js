@@ -4,7 +4,7 @@ import { Frames, intervalsOf, measureBy, turnsOf } from './wire.js';
 import { hexadecimal, spaced } from './wave.js';
 import { $, all, button, encode } from './basics.js';
 import { ask, AUTOMATIC, counted, editor, fillReader, nextText, print, readers, restartWorker, state, tellFailed, wanted, wave } from './page.js';
-import { framePointed, leavePointed } from './links.js';
+import { followsPointer, framePointed, leavePointed } from './links.js';
 import { chosenDelays, judgeLists } from './controls.js';
 
 export function cover(words, actions = []) {
@@ -16,9 +16,9 @@ export function cover(words, actions = []) {
 
 let waitingTrace = 0;
 export let traced = 0;     // the number of the print whose trace is shown (the tests wait for it)
-let tracing = 0;           // since when a trace is made, or 0
+let began = 0;             // since when a job is under way that may take long, or 0
 
-const PATIENCE = 600;      // milliseconds: a trace that takes longer is ended by the next print
+const PATIENCE = 600;      // milliseconds: such a job that takes longer is ended by the next print
 // What a byte of a listing comes to, about: edges, seconds and bytes of memory (web/test measures them).
 const COST = { edges: 17, seconds: 20e-6, memory: 2400 };
 const MOST_EDGES = 33e6;   // a longer trace has more than the four gigabytes that the module can have
@@ -37,21 +37,27 @@ export function traceSoon(version, length) {
   waitingTrace = setTimeout(() => trace(version), 90);
 }
 
-/** Ends the making of a trace that takes long, since there is something else to print. */
-export function endLongTrace() {
-  if (!tracing || performance.now() - tracing < PATIENCE) return;
-  tracing = 0;
+/** The answer of a job that may take long. */
+export async function patiently(job) {
+  const mine = began = performance.now();
+  try { return await job; } finally { if (began === mine) began = 0; }
+}
+
+/** Ends a job that takes long, since there is something else to print. */
+export function endLongJob() {
+  if (!began || performance.now() - began < PATIENCE) return;
+  began = 0;
   cover('');
   restartWorker();
 }
 
-/** Shows how far a trace is, with a way out. */
-function coverProgress() {
+/** Shows how far a job is, with a way out, after which `next` is done. */
+export function coverProgress(what, next) {
   const bar = document.createElement('progress'), words = document.createElement('p');
-  bar.setAttribute('aria-label', 'Making the trace');
-  const cancel = button('Cancel', () => { tracing = 0; restartWorker(); print(); });
-  cover('Making the trace …', [bar, words, cancel]);
-  return ({ done, words: next }) => { bar.value = done; words.textContent = next; };
+  bar.setAttribute('aria-label', what);
+  const cancel = button('Cancel', () => { began = 0; restartWorker(); next(); });
+  cover(`${what} …`, [bar, words, cancel]);
+  return ({ done, words: said }) => { bar.value = done; words.textContent = said; };
 }
 
 async function trace(version) {
@@ -63,10 +69,9 @@ async function trace(version) {
   }
   if (version !== wanted || state.source) return;
   const { printers, status } = state, delays = chosenDelays(), script = encode(editor.text);
-  const onProgress = script.length > AUTOMATIC ? coverProgress() : null;
-  tracing = performance.now();
+  const onProgress = script.length > AUTOMATIC ? coverProgress('Making the trace', print) : null;
   try {
-    const answer = await ask('trace', { script, form: state.form, printers, status, delays }, version, onProgress);
+    const answer = await patiently(ask('trace', { script, form: state.form, printers, status, delays }, version, onProgress));
     if (version !== wanted || state.source || !answer) return;
     traced = version;
     state.taken = answer.delays;
@@ -75,14 +80,14 @@ async function trace(version) {
     else { showWire(null); cover(answer.code === 3 ? 'Memory ran out, so there is no trace.' : 'There is no trace.'); }
   } catch (error) {
     tellFailed(error);
-  } finally {
-    if (version === wanted) tracing = 0;
   }
 }
 
+const WIRE_TEXTS = ['trace', 'vcd', 'readings', 'intervals', 'json', 'story'];
+
 /** Offers the texts of the wire for saving, or not: until a run's own trace is made, they are those of an earlier run. */
 function offerWire(isThere) {
-  for (const what of ['trace', 'vcd', 'readings']) all(`[data-save=${what}]`)[0].disabled = !isThere;
+  for (const what of WIRE_TEXTS) all(`[data-save=${what}]`)[0].disabled = !isThere;
 }
 
 export let onWire = null;  // what the wire shows and what is said of it, or null (the tests look at it)
@@ -110,7 +115,7 @@ export function showWire(answer) {
   showIntervals(answer);
   for (const tab of ['frames', 'edges']) {
     readers[tab].stale = answer ? nextText() : 0;
-    if (!answer) readers[tab].show('');
+    if (!answer) readers[tab].show();
   }
   fillReader(state.tabs.wire);
 }
@@ -156,14 +161,20 @@ function showIntervals(answer) {
 const boundsWords = bounds => !bounds ? '' : Number.isFinite(bounds[1]) ? ` (${bounds.join('–')})` : ` (${bounds[0]} or more)`;
 const named = ({ name }, bit) => bit === null ? name : `${name} of bit ${bit}`;
 
-const HINTS = ['Point at the wave for its intervals; click a frame for its marks.', 'Tap a frame for its marks.'];
+/** What can be done on the wave, while nothing is pointed at. */
+function hint() {
+  if (!wave.frames.length) return '';
+  if (matchMedia('(pointer: coarse)').matches) return 'Tap a frame for its marks.';
+  const words = 'Point at the wave for its intervals; click a frame for its marks.';
+  return followsPointer() ? words : `${words} In a trace this long pointing alone shows no marks and no line.`;
+}
 
 /** Shows what is under the pointer on the wave. */
 export function tellUnder(under) {
   const line = $('under');
   line.className = '';
   framePointed(under ? under.frame : -1);
-  if (!under) { line.textContent = wave.frames.length ? HINTS[Number(matchMedia('(pointer: coarse)').matches)] : ''; return; }
+  if (!under) { line.textContent = hint(); return; }
   const since = wave.mark === null ? '' : ` (${spaced(Math.round(under.moment - wave.mark))} µs from the cursor)`, moment = `${spaced(Math.round(under.moment))} µs${since}`, { part, bit, level, wire } = under;
   if (part) {
     const long = part.to - part.from, bad = part.bounds && (long < part.bounds[0] || long > part.bounds[1]);

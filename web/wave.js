@@ -2,6 +2,7 @@
 // strip below. What is drawn takes as long for a million edges as for a hundred: a column of pixels in which a line
 // turns more than once is one stroke.
 
+import { whenResized } from './basics.js';
 import { SvgPen } from './pen.js';
 import { ATN, CLOCK, DATA, delaysAt, edgeAt, Frames, halfOf, momentsOf } from './wire.js';
 
@@ -27,7 +28,7 @@ export class Wave {
     Object.assign(this, { canvas, onUnder, onChoose, frames: new Frames(), edges: null, delays: null, turns: [] });
     Object.assign(this, { begin: 0, end: 0, from: 0, to: 1, moved: false, chosen: -1, pointer: null, mark: null, pointed: null });
     // What is seen at first fits the width, so that frames have room for their names.
-    new ResizeObserver(() => { if (this.edges && !this.moved) this.front(); else this.draw(); }).observe(canvas);
+    whenResized(canvas, () => { if (this.edges && !this.moved) this.front(); else this.draw(); });
     for (const query of ['(prefers-color-scheme: dark)', '(forced-colors: active)']) matchMedia(query).addEventListener('change', () => this.draw());
     canvas.addEventListener('keydown', event => this.key(event));
     canvas.addEventListener('wheel', event => this.wheel(event), { passive: false });

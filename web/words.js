@@ -19,6 +19,7 @@ const WORDS = [
   [/sample rate with --rate, such as --rate 4M,/, 'sample rate in “samples a second”,'],
   [/--rate gives the distance of the samples, such as --rate 4M,/, '“samples a second” gives the distance of the samples,'],
   [/without --rate/, 'without a rate'],
+  [/the sample rate \(--rate, or the line that gives it\)/, 'the sample rate (“samples a second”, or the line that gives it)'],
   [/--from-time/, '“starts at”'],
   [/use --from vcd for a dump, --from csv for a table/, 'read it as a Value Change Dump, or as a table of samples'],
   [/use --from vcd/, 'read it as a Value Change Dump'],
@@ -27,16 +28,23 @@ const WORDS = [
   [/use --from text/, 'read it as a trace'],
   [/pages prints it, bus writes its trace/, 'read it as a listing'],
   [/; --from petcat reads both as typed.*/, ''],
+  [/; --from petcat reads small letters/, ''],
+  [/: --from petcat reads it/, ''],
   [/--from text sends strings as they are/, 'the form “a script” sends strings as they are'],
+  [/: (pages )?--from prg (reads|runs) one/, ''],
+  [/, and pages --from prg runs it/, ''],
   [/the letter \S+, as UTF-8 has it, is/, 'this letter is'],
   [/raw --set lower prints them/, 'choose that character set'],
   [/with --set lower in that of the first byte/, 'with the lower/upper case set in that of the first byte'],
-  [/write the table with -O csv:label=channel/, 'write the table again with sigrok-cli -O csv:label=channel, or as a Value Change Dump'],
+  [/write the table with -O csv:label=channel/, 'choose the signals by the names of its channels, or write the table again with -O csv:label=channel'],
   [/.*--from (prg|petcat|text).*/, ''],
 ];
 
 /** A hint in the page's words, or nothing. */
 export const inPageWords = hint => WORDS.reduce((text, [words, instead]) => text.replace(words, instead), hint);
+
+/** The forms of a listing that a hint names: the page offers each. */
+export const formsIn = hint => Array.from(hint.matchAll(/--from (text|petcat|magazine)\b/g), ([, form]) => form);
 
 /** Hints in the page's words. */
 export const pageHints = hints => hints.map(inPageWords).filter(hint => hint.trim());

@@ -38,23 +38,29 @@ function answerOf({ status, place, column, messages }) {
   return { code: status, line: place, column, words, name, more };
 }
 
-/** Lines without those that name the option for a listing's form: the page has a choice for it. */
-const withoutForm = lines => lines.filter(line => !line.includes('--from'));
-
 /** The script that a listing says: itself, or what the module makes of it in another form; or the answer that refuses it. */
 function scriptOf({ script, form = 'text' }) {
   if (form === 'text') return { script };
   const made = print1525.listing({ bytes: script, form: formNumber(form) });
-  return made.code ? { refused: answerOf(answer(pagesWords({}, 'list', form), script)) } : { script: made.text };
+  return made.code ? { refused: answerOf(answer(pagesWords({}, 'list', form), script, true)) } : { script: made.text };
 }
+
+// What may be the beginning of a name, at the end of a line that is cut.
+const CUT_NAME = { petcat: /\{[^}]*$/, magazine: /(\{[^}]*|\[(<((?!>\])[^])*)?)$/ };
 
 /** The place of a script's fault in a listing with names: its line, and how many characters of the line come before it. */
 function placeInNamed({ line, column }, listing, form) {
   const row = text(listing).split('\n')[line - 1] || '', encoder = new TextEncoder();
-  const lengthOf = end => print1525.listing({ bytes: encoder.encode(row.slice(0, end).replace(/\{[^}]*$/, '')), form: formNumber(form) }).text.length;
+  const lengthOf = end => print1525.listing({ bytes: encoder.encode(row.slice(0, end).replace(CUT_NAME[form], '')), form: formNumber(form) }).text.length;
   // (the text of a front ends with a line's end)
-  const last = least(row.length, end => lengthOf(end + 1) > column);
-  return { line, from: row[last] === '}' ? row.lastIndexOf('{', last) : last };
+  const last = least(row.length, end => lengthOf(end + 1) > column), isKey = form === 'magazine' && row.startsWith('>]', last - 1);
+  return { line, from: row[last] === '}' ? row.lastIndexOf('{', last) : isKey ? row.lastIndexOf('[<', last) : last };
+}
+
+/** The sheets of a listing's run: with the notes on the listing itself where it runs, and by its script where that is refused. */
+function pagesOf({ script: listing, form = 'text' }, run, script) {
+  const pages = answer(pagesWords(run, 'svg', form), listing, true);
+  return form === 'text' || pages.status <= 1 ? pages : answer(pagesWords(run, 'svg'), script, true);
 }
 
 /**
@@ -77,7 +83,7 @@ function endOf(pages) {
  */
 function explanationOf([, , sentence = '', ...hints], { line, column, basicLine }) {
   const where = `  line ${line}, column ${column}${basicLine === null ? '' : `, BASIC line ${basicLine}`}: `;
-  return { sentence: sentence.startsWith(where) ? sentence.slice(where.length) : sentence.trim(), hints: withoutForm(hints).map(hint => hint.trim()).filter(Boolean) };
+  return { sentence: sentence.startsWith(where) ? sentence.slice(where.length) : sentence.trim(), hints: hints.map(hint => hint.trim()).filter(Boolean) };
 }
 
 const FRONT = 2 ** 18;                                                 // bytes by which a file is judged: more than a disk image has
@@ -173,14 +179,16 @@ function least(count, isSo) {
 
 const LAWFUL = { isLawful: true, verdict: 'this project\'s timing' }, UNKNOWN = { isLawful: null, verdict: '' };
 
-/** The verdict on a recording with these readings, whether it is the best one of its bounds, and why, where it is not this project's timing. */
+/**
+ * The verdict on a recording with these readings, whether it is the best one of its bounds, and why, where it is not this project's
+ * timing; and what is odd about the recording, with what to try, which the readings end with.
+ */
 function verdictOf(ask, readings) {
-  const [, verdict] = latin(readings.subarray(-4000)).match(/^verdict: (.*)$/m), isLawful = /^(this project's timing|within the guide's bounds)$/.test(verdict);
-  if (isLawful || ask.bounds === 'guide') return { isLawful, verdict, told: [] };
+  const [, verdict, end] = /^verdict: (.*)\n([^]*)$/m.exec(latin(readings.subarray(-4000))), odd = end.split('\n').filter(Boolean);
+  const isLawful = /^(this project's timing|within the guide's bounds)$/.test(verdict);
+  if (isLawful || ask.bounds === 'guide') return { isLawful, verdict, odd, told: [] };
   const { more } = answerOf(answer(recordingWords('check', ask, 'frames'), ask.bytes, true));
-  // (what is odd about a recording is at the end of its readings too)
-  const end = latin(readings.subarray(-2000)).split('\n'), told = more.filter(line => !end.includes(line.trim()));
-  return { isLawful, verdict, told };
+  return { isLawful, verdict, odd, told: more.filter(line => !odd.includes(line.trim())) };
 }
 
 /** How many of these moments there are before time goes back, which no reading and no picture has. */
@@ -278,12 +286,12 @@ const jobs = {
     const began = performance.now(), { script, refused } = scriptOf(ask);
     if (refused) return { ...refused, milliseconds: performance.now() - began };
     const run = { script, printers: ask.printers, status: ask.status }, words = format => pagesWords(run, format);
-    const pages = answer(words('svg'), script, true);
+    const pages = pagesOf(ask, run, script);
     /** @type {any} */
     const told = answerOf(pages);
     if (pages.status <= 1) Object.assign(told, { svg: picture('script', words, script, pages, run), notes: linesOf(pages).notes });
     told.milliseconds = performance.now() - began;
-    if (pages.status === 1) Object.assign(told, { statement: pages.place, told: withoutForm([told.words, ...told.more]) });
+    if (pages.status === 1) Object.assign(told, { statement: pages.place, told: [told.words, ...told.more] });
     if (pages.status === 2) {
       told.place = placeOf(script);
       if (told.place) told.explanation = explanationOf(told.more, told.place);
@@ -352,21 +360,28 @@ const jobs = {
 
   /** The page of the bytes that a printer gets. */
   raw({ bytes, set }) {
-    const words = format => rawWords({ set }, format), pages = answer(words('svg'), bytes);
-    return { ...answerOf(pages), svg: pages.status === 0 ? picture('raw', words, bytes, pages) : null };
+    const words = format => rawWords({ set }, format), pages = answer(words('svg'), bytes, true);
+    return { ...answerOf(pages), notes: linesOf(pages).notes, svg: pages.status === 0 ? picture('raw', words, bytes, pages) : null };
   },
 
   /**
-   * A text of what is shown: `svg`, `png`, `pdf`, `list`, `text`, `bytes`; `trace`, `vcd`, `readings`, `json`, `story`. `part` is a
-   * printer and its sheet, as words.
+   * A text of what is shown: `svg`, `png`, `pdf`, `list`, `text`, `bytes`; `trace`, `vcd`, `readings`, `intervals`, `json`, `story`.
+   * `part` is a printer and its sheet, as words.
    */
   text({ what, delays, part }) {
     if (what === 'readings') return wire.readings.slice();
     if (what === 'trace') return wire.input === 'text' ? wire.bytes.slice() : textOfEdges(wire.edges, wire.edges.times.length);
     if (what === 'vcd') return answer(busWords({ ...shown.settings, delays }, 'vcd'), shown.input).output;
+    if (what === 'intervals') return answer([...recordingWords('decode', wire.asked, 'list'), '--intervals'], wire.asked.bytes).output;
     if (what === 'json') return answer(recordingWords('decode', wire.asked, 'json'), wire.asked.bytes).output;
     if (what === 'story') return answer(recordingWords('check', wire.asked, 'story'), wire.asked.bytes).output;
     return what === 'list' && shown.list ? shown.list.slice() : madeAgain(what, part);
+  },
+
+  /** The same with where each of its lines begins. */
+  lines(ask) {
+    const bytes = jobs.text(ask);
+    return { bytes, starts: lineStarts(bytes) };
   },
 
   /** The marks that a frame's byte makes: those that the pages have with its last edge and not without it. */
@@ -392,12 +407,13 @@ const jobs = {
 /** Whether a job asks for what another run shows by now. A run's trace belongs to its sheets; frames and marks belong to its trace. */
 function isLate(job, ask, run) {
   if (['end', 'trace', 'byte'].includes(job)) return run !== shown.run;
-  if (['marks', 'line', 'lineOf'].includes(job) || (job === 'text' && ['trace', 'readings', 'json', 'story'].includes(ask.what))) return run !== wire.run;
-  return job === 'text' && run !== shown.run;
+  const isText = ['text', 'lines'].includes(job), isOfWire = isText && ['trace', 'readings', 'intervals', 'json', 'story'].includes(ask.what);
+  if (['marks', 'line', 'lineOf'].includes(job) || isOfWire) return run !== wire.run;
+  return isText && run !== shown.run;
 }
 
 /** What is handed over to the page itself, and is no copy: these can have millions of bytes. */
-const handedOver = answer => [answer?.svg, answer?.times, answer?.levels, answer?.kinds, answer?.since, answer?.rows, answer?.lines, ...(answer?.turns || []).map(({ times }) => times)]
+const handedOver = answer => [answer?.bytes, answer?.starts, answer?.svg, answer?.times, answer?.levels, answer?.kinds, answer?.since, answer?.rows, answer?.lines, ...(answer?.turns || []).map(({ times }) => times)]
   .filter(Boolean).map(({ buffer }) => buffer);
 
 let opened = () => {};

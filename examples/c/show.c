@@ -3,6 +3,10 @@
 #include <stdio.h>
 #include <stdlib.h>
 #include <string.h>
+#ifdef _WIN32 /* where standard streams are text, unless a program says that they are bytes */
+#include <fcntl.h>
+#include <io.h>
+#endif
 
 /* All of standard input; its length is left in *length. NULL where there is no memory for it. */
 static uint8_t *read_all(size_t *length) {
@@ -28,6 +32,9 @@ int main(int count, char **words) {
     size_t length, capacity = 0;
     char message[80];
     int status;
+#ifdef _WIN32
+    _setmode(0, _O_BINARY), _setmode(1, _O_BINARY);
+#endif
     while (count == 2 && settings.page <= PRINT1525_PAGE_PDF && strcmp(words[1], formats[settings.page]) != 0) settings.page++;
     if (count > 2 || settings.page > PRINT1525_PAGE_PDF) {
         fprintf(stderr, "usage: show [list|text|svg|png|pdf] < SCRIPT\n");

@@ -175,7 +175,7 @@ def _settings(words):
 
 
 def _text(make, given, length, words):
-    settings, details, text = _settings(words), Details(), ctypes.create_string_buffer(4096)
+    settings, details, text = _settings(words), Details(), ctypes.create_string_buffer(65536)
     status = make(given, length, byref(settings), text, len(text), byref(details))
     while details.fault == TOO_SMALL:
         text = ctypes.create_string_buffer(details.length)

@@ -5,7 +5,6 @@
 
 use std::ffi::{CStr, c_char, c_int, c_void};
 use std::fmt;
-use std::ptr::null_mut;
 
 /// Where there is no text: the status, fault, place, column and length of `print1525_details`.
 #[repr(C)]
@@ -433,13 +432,16 @@ pub fn version() -> &'static str {
 
 const NO_SUCH_DEVICE: i32 = 21;
 const TOO_SMALL: i32 = 91;
+/// The room in bytes that a call is given first.
+const ROOM: usize = 65_536;
 
-/// Makes a call without a buffer, and with one of the size that it needs.
+/// Makes a call with room for most answers, and again for one that is longer.
 fn filled<Item: Clone + Default>(mut make: impl FnMut(*mut Item, usize, &mut Details)) -> (Vec<Item>, Details) {
     let mut details = Details::default();
-    make(null_mut(), 0, &mut details);
-    let mut items = vec![Item::default(); details.length];
+    let mut items = vec![Item::default(); ROOM / size_of::<Item>().max(1)];
+    make(items.as_mut_ptr(), items.len(), &mut details);
     if details.fault == TOO_SMALL {
+        items.resize(details.length, Item::default());
         make(items.as_mut_ptr(), items.len(), &mut details);
     }
     items.truncate(details.length);

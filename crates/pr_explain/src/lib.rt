@@ -13,7 +13,7 @@
 //!
 //! - `rows` has the rows of the table at a place, and those that can follow the last edge.
 //! - `traces`, `oddities`, `scripts` and `stops` are what is explained. `edges` follows edges to the
-//!   first that is not allowed, and `input` reads a trace in any format as `check` reads it.
+//!   first that is not allowed, and `input` reads a trace in any format as `check` reads it ([`read_input`]).
 //! - The words: `trace_text` and `states` of edges; `faults`, `tables` and `names` of a line that cannot be
 //!   read, what it should have, and which signals a recording has, by `declared` those of a dump;
 //!   `context` and `words` of the
@@ -22,8 +22,7 @@
 //!   escaped bytes.
 //! - `lines` goes through the lines of a script, with how many statements each has.
 //!
-//! Where memory for an explanation is refused, there is none and the answer stays. A stopped run is
-//! run again, step by step and without its trace, to find its error.
+//! Where memory for an explanation is refused, there is none and the answer stays.
 #![tactic(auto)]
 
 mod context;
@@ -45,6 +44,7 @@ mod traces;
 mod words;
 
 pub use edges::EdgePlace;
+pub use input::read_input;
 pub use lines::{FirstLine, first_line};
 pub use oddities::{Remarks, remark_on};
 pub use rows::{Miss, Row, rows_behind, rows_from};

@@ -7,9 +7,9 @@ ghost use Rattle.pr_exports.specs.Giving.{GivesDelays};
 ghost use Rattle.pr_exports.specs.Settings.{source_of};
 
 use crate::answer::{Answer, Told, give, made_of, numbered, refused};
-use crate::numbers::read_input;
 use crate::settings::{input_for, source_for};
 use pr_capture::TraceInput;
+use pr_explain::read_input;
 use pr_jobs::CliFault;
 use pr_wire::{BusState, ByteRole, Edge, EdgeError, Kind, Levels, NoMemory};
 use std::alloc::Global;

@@ -1,8 +1,7 @@
 //! A recording as numbers: its edges, and what they say; and the bounds of the delays.
 
-ghost use Rattle.std.specs.Prelude.{◌≡◌, ◌+◌, ◌-◌, ◌<◌, ◌≤◌, ◌++◌, ◌∷◌, [], List, length, IfErr, IfOk, IfSome, OnOk};
+ghost use Rattle.std.specs.Prelude.{◌≡◌, ◌+◌, ◌-◌, ◌<◌, ◌≤◌, ◌++◌, ◌∷◌, [], List, length, IfErr, IfOk, OnOk};
 ghost use Rattle.pr_wire.specs.Delays.{bounds_of};
-ghost use Rattle.pr_jobs.specs.Report.{IsOwnFault, Says};
 ghost use Rattle.pr_exports.specs.Asked.{TellsBounds, TellsEdges, TellsIntervals, TellsRows};
 ghost use Rattle.pr_exports.specs.Giving.{GivesEdges, GivesIntervals, GivesRows};
 ghost use Rattle.pr_exports.specs.Numbers.{bounds_numbers, edge_numbers, kind_numbers, level_number};
@@ -13,7 +12,8 @@ use crate::lengths::all_figures;
 use crate::rows::{flag, readings_of, rows_of};
 use crate::settings::{detail_for, input_for, source_for};
 use pr_capture::TraceInput;
-use pr_jobs::{CliFault, EdgeReader, LastEdges};
+use pr_explain::read_input;
+use pr_jobs::CliFault;
 use pr_report::{Detail, longest_answer};
 use pr_wire::{Edge, Kind, Levels, NoMemory, bounds};
 use std::alloc::Global;
@@ -35,17 +35,6 @@ const KINDS: [Kind; 14] = [
     Kind::F,
     Kind::Dr,
 ];
-
-/// Reads an input to its end, or to its first fault: the edges that it says up to there, and that
-/// fault, if it has one.
-pub fn read_input(alloc: Global, bytes: &[u8], input: TraceInput<'_>) -> Result<LastEdges, NoMemory>
-    ensures says { IfOk result (λ said. Says input.entry bytes.now said.edges.items said.fault) }
-    ensures own { IfOk result (λ said. IfSome said.fault IsOwnFault) }
-{
-    let mut reader = EdgeReader::new(alloc, input);
-    let _goes_on = reader.take_block(bytes)?;
-    Ok(reader.finish()?)
-}
 
 /// Levels as a number: 4 for ATN, 2 for CLOCK and 1 for DATA, where they are released.
 fn level_number(levels: Levels) -> u64

@@ -2,7 +2,6 @@
 
 ghost use Rattle.std.specs.Prelude.{◌≡◌, ◌≤◌, length, map, IfOk};
 ghost use Rattle.std.specs.List.{position};
-ghost use Rattle.pr_jobs.specs.Raw.{printed_on};
 ghost use Rattle.pr_page.specs.Page.{IsPage};
 ghost use Rattle.pr_exports.specs.Laws.{BytesAreInputs};
 ghost use Rattle.pr_exports.specs.Printed.{GivesInputsText};
@@ -14,11 +13,10 @@ use crate::answer::{Answer, ended, give, numbered, refused};
 use crate::settings::{shapes_for, shown_for};
 use pr_cli::End;
 use pr_dots::Shapes;
-use pr_jobs::{CliFault, ShapesFault, text_in_format};
-use pr_page::{Input, NoMemory, Paper, Printer, Sequence};
+use pr_jobs::{CliFault, ShapesFault, outcome_with, text_in_format};
+use pr_page::{Input, NoMemory, Paper, Printer};
 use pr_render::Format;
 use pr_serial::Present;
-use pr_system::Outcome;
 use std::alloc::Global;
 
 /// The most inputs of a page: a printer takes no more.
@@ -66,23 +64,6 @@ fn paper_of(alloc: Global, numbers: &[u16]) -> Result<Paper, NoMemory>
         printer.take(input_for(*number))?;
     }
     Ok(printer.into_paper())
-}
-
-/// The outcome that is the paper of printer 4 and nothing else.
-fn outcome_with(alloc: Global, paper: Paper) -> Outcome
-    ensures { result ≡ printed_on paper }
-{
-    Outcome {
-        paper4: paper,
-        paper5: Paper {
-            rows: Sequence::new(alloc),
-            held: Sequence::new(alloc),
-        },
-        statuses: Sequence::new(alloc),
-        stop: None,
-        screen: Sequence::new(alloc),
-        trace: Sequence::new(alloc),
-    }
 }
 
 /// The text of the page of the inputs that numbers mean.

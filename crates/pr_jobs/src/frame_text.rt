@@ -3,7 +3,7 @@
 ghost use Rattle.std.specs.Prelude.{◌≡◌, ◌++◌, OnOk};
 ghost use Rattle.pr_jobs.specs.FrameText.{frame_line, kind_word, line_end};
 
-use crate::short_text::push_number;
+use pr_render::push_small;
 use pr_wire::Frame;
 use std::alloc::AllocError;
 
@@ -27,6 +27,6 @@ pub fn push_frame(text: &mut Vec<u8>, frame: Frame) -> Result<(), AllocError>
     ensures { OnOk result (text.new.items ≡ text.old.items ++ frame_line frame) }
 {
     text.extend_from_slice(kind_word(frame.attention))?;
-    push_number(text, u64::from(frame.byte))?;
+    push_small(text, u64::from(frame.byte))?;
     text.extend_from_slice(line_end(frame.eoi))
 }

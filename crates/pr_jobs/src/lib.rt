@@ -60,7 +60,7 @@ pub use pages::{SCRIPT_LIMIT, pages_as_over, pages_over};
 pub use pr_input::{
     BLOCK, ReadFault, TeeReader, Watched, WriteFault, read_whole, write_piece, write_whole,
 };
-pub use raw::{RAW_LIMIT, print_input, raw_over};
+pub use raw::{RAW_LIMIT, outcome_with, print_input, raw_over};
 pub use report::{check_as_over, report_input};
 pub use reporter::ReportText;
 pub use run::{Ending, HeldMarks, PagesEnd, RunEnd, Start};

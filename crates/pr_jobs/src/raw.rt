@@ -72,7 +72,7 @@ pub fn raw_over<R: Read, W: Write>(
 }
 
 /// The outcome that is the paper of printer 4 and nothing else.
-fn outcome_with(alloc: Global, paper: Paper) -> Outcome
+pub fn outcome_with(alloc: Global, paper: Paper) -> Outcome
     ensures { result ≡ printed_on paper }
 {
     Outcome {

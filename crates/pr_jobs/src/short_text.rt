@@ -1,10 +1,10 @@
 //! Short texts that are ready in tables.
 
-ghost use Rattle.std.specs.Prelude.{◌≡◌, ◌+◌, ◌≤◌, ◌++◌, decimal, length, take, vec_len, OnOk, IfOk};
+ghost use Rattle.std.specs.Prelude.{◌≡◌, ◌+◌, ◌≤◌, ◌++◌, length, take, vec_len, OnOk, IfOk};
 ghost use Rattle.pr_jobs.specs.Tables.{HasNumbers};
 
 use crate::text::Text;
-use itoa::Buffer;
+use pr_render::push_small;
 use std::alloc::{AllocError, Global};
 use std::marker::Model;
 
@@ -64,14 +64,6 @@ impl ShortText {
     }
 }
 
-/// Adds a number in decimal at the end of a text.
-pub fn push_number(text: &mut Vec<u8>, n: u64) -> Result<(), AllocError>
-    ensures { OnOk result (text.new.items ≡ text.old.items ++ decimal n) }
-{
-    let mut buffer = Buffer::new();
-    text.extend_from_slice(buffer.format(n).as_bytes())
-}
-
 /// The numbers below a count, each between two texts.
 pub fn numbers_between(
     alloc: Global,
@@ -89,7 +81,7 @@ pub fn numbers_between(
     for n in 0..count {
         text.clear();
         text.extend_from_slice(before)?;
-        push_number(&mut text, n as u64)?;
+        push_small(&mut text, n as u64)?;
         text.extend_from_slice(after)?;
         texts.push(ShortText::new(text.as_slice()))?;
     }

@@ -3,16 +3,8 @@
 ghost use Rattle.std.specs.Prelude.{◌≡◌, ◌<◌, ◌++◌, decimal, OnOk};
 ghost use Rattle.pr_pdf.specs.Words.{hex_2, hex_4, hex_digit};
 
-use itoa::Buffer;
+use pr_render::push_small;
 use std::alloc::AllocError;
-
-/// Adds a number in decimal at the end of a text.
-pub fn push_number(text: &mut Vec<u8>, n: u64) -> Result<(), AllocError>
-    ensures { OnOk result (text.new.items ≡ text.old.items ++ decimal n) }
-{
-    let mut buffer = Buffer::new();
-    text.extend_from_slice(buffer.format(n).as_bytes())
-}
 
 /// Adds a number between two texts.
 pub fn push_between(
@@ -24,7 +16,7 @@ pub fn push_between(
     ensures { OnOk result (text.new.items ≡ text.old.items ++ (before.now ++ decimal n ++ after.now)) }
 {
     text.extend_from_slice(before)?;
-    push_number(text, n)?;
+    push_small(text, n)?;
     text.extend_from_slice(after)
 }
 

@@ -5,12 +5,13 @@ ghost use Rattle.pr_pdf.specs.Parts.{object_begin};
 ghost use Rattle.pr_pdf.specs.Pdf.{place_pdf, stream_pdf, table_pdf, trailer_pdf};
 ghost use Rattle.pr_pdf.specs.Linked.{Adds, HasBodies};
 
-use crate::adding::{push_between, push_number};
+use crate::adding::push_between;
 use crate::parts::{
     header, object_begin, object_end, place_end, stream_begin, stream_bytes, stream_end,
     table_begin, table_free, trailer_begin, trailer_end, trailer_root,
 };
 use itoa::Buffer;
+use pr_render::push_small;
 use std::alloc::{AllocError, Global};
 
 /// The objects so far, and where each begins.
@@ -69,7 +70,7 @@ fn push_trailer(text: &mut Vec<u8>, count: u64, table: u64) -> Result<(), AllocE
     ensures { OnOk result (text.new.items ≡ text.old.items ++ trailer_pdf count table) }
 {
     push_between(text, trailer_begin(), count + 1, trailer_root())?;
-    push_number(text, table)?;
+    push_small(text, table)?;
     text.extend_from_slice(trailer_end())
 }
 
@@ -101,7 +102,7 @@ impl Document {
         ensures places { OnOk result (self.new.places.items ≡ self.old.places.items ++ length self.old.text.items ∷ []) }
     {
         self.places.push(self.text.len() as u64)?;
-        push_number(&mut self.text, self.places.len() as u64)?;
+        push_small(&mut self.text, self.places.len() as u64)?;
         self.text.extend_from_slice(object_begin())
     }
 

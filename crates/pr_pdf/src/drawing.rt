@@ -8,7 +8,7 @@ ghost use Rattle.pr_pdf.specs.Pdf.{catalog_pdf, file_limit, first_bodies, glyph_
 ghost use Rattle.pr_pdf.specs.Words.{numbers_from};
 ghost use Rattle.pr_pdf.specs.Linked.{Adds, HasBodies, ascend, bodies_before};
 
-use crate::adding::{push_between, push_number};
+use crate::adding::push_between;
 use crate::document::Document;
 use crate::fault::PdfFault;
 use crate::fonts::{push_characters, push_encoding, push_resources, push_widths};
@@ -22,6 +22,7 @@ use crate::sheets::{are_ascending, push_sheet, rows_from, sheet_count, skip_befo
 use crate::used::{GLYPHS, Used};
 use pr_dots::Shapes;
 use pr_page::{Paper, Row};
+use pr_render::push_small;
 use pr_serial::Present;
 use std::alloc::{AllocError, Global};
 
@@ -172,7 +173,7 @@ fn add_sheet(
 {
     let mut page = Vec::new(alloc);
     push_between(&mut page, page_begin(), pages, page_content())?;
-    push_number(&mut page, number + 1)?;
+    push_small(&mut page, number + 1)?;
     page.extend_from_slice(reference_end())?;
     document.add(&page)?;
     document.add_stream(sheet)
@@ -229,7 +230,7 @@ fn push_kids(text: &mut Vec<u8>, first: u64, count: u64) -> Result<(), AllocErro
     ensures { OnOk result (text.new.items ≡ text.old.items ++ flat_map (kid_pdf first) (numbers_from 0 count)) }
 {
     for sheet in 0..count {
-        push_number(text, first + 2 * sheet)?;
+        push_small(text, first + 2 * sheet)?;
         text.extend_from_slice(reference())?;
     }
     Ok(())

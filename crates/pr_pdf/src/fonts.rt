@@ -4,13 +4,13 @@ ghost use Rattle.std.specs.Prelude.{◌≡◌, ◌<◌, ◌≤◌, ◌++◌, fla
 ghost use Rattle.pr_pdf.specs.Fonts.{character_pdf, characters_pdf, code_name, encoding_pdf, font_entry, resources_pdf, set_character, utf_16, width_pdf, widths_pdf};
 ghost use Rattle.pr_pdf.specs.Words.{numbers_from};
 
-use crate::adding::{push_between, push_hex_4, push_number};
+use crate::adding::{push_between, push_hex_4};
 use crate::marks::{FONTS, font_name};
 use crate::parts::{
     characters_begin, characters_end, dictionary_end, encoding_begin, fonts_begin, list_end,
     reference,
 };
-use pr_render::character;
+use pr_render::{character, push_small};
 use std::alloc::AllocError;
 
 /// The code that no mark has. Its glyph is called `m`: programs that find text take a font's size from its width.
@@ -54,7 +54,7 @@ fn push_width(text: &mut Vec<u8>, columns: u64, code: u64) -> Result<(), AllocEr
     ensures { OnOk result (text.new.items ≡ text.old.items ++ width_pdf columns code) }
 {
     let columns = if code == NO_MARK { 6 } else { columns };
-    push_number(text, 42 * columns)?;
+    push_small(text, 42 * columns)?;
     text.push(b' ')?;
     Ok(())
 }

@@ -4,7 +4,7 @@ ghost use Rattle.std.specs.Prelude.{◌≡◌, ◌+◌, ◌*◌, ◌<◌, ◌≤
 ghost use Rattle.pr_dots.specs.Dots.{bit_dots, column_dots, columns_dots};
 ghost use Rattle.pr_pdf.specs.Fonts.{disc_pdf, font_pdf, glyph_disc, glyph_object, glyph_pdf, proc_pdf, used_among, widths_object};
 
-use crate::adding::{push_between, push_number};
+use crate::adding::push_between;
 use crate::fonts::push_code_name;
 use crate::marks::{COLUMN_FONT, font_columns, mark_of};
 use crate::parts::{
@@ -13,6 +13,7 @@ use crate::parts::{
 };
 use crate::used::Used;
 use pr_dots::{Shapes, columns};
+use pr_render::push_small;
 use std::alloc::AllocError;
 
 /// Adds the disc of a dot.
@@ -24,9 +25,9 @@ fn push_disc(text: &mut Vec<u8>, x: u64, y: u64) -> Result<(), AllocError>
 {
     let across = 42 * x + 21;
     let up = 240 - 20 * y;
-    push_number(text, across)?;
+    push_small(text, across)?;
     push_between(text, b" ", up, disc_move())?;
-    push_number(text, across)?;
+    push_small(text, across)?;
     push_between(text, b" ", up, disc_stroke())
 }
 
@@ -80,7 +81,7 @@ pub fn push_glyph(
     ensures { OnOk result (text.new.items ≡ text.old.items ++ glyph_pdf shapes.now font code) }
 {
     let width = 42 * font_columns(font);
-    push_number(text, width)?;
+    push_small(text, width)?;
     push_between(text, glyph_box(), width + 1, glyph_strokes())?;
     push_columns(text, columns(shapes, mark_of(font, code)).as_slice())
 }
@@ -110,7 +111,7 @@ fn push_proc(text: &mut Vec<u8>, used: &Used, number: usize, object: u64) -> Res
         return Ok(object);
     }
     push_code_name(text, (number % 256) as u64)?;
-    push_number(text, object)?;
+    push_small(text, object)?;
     text.extend_from_slice(reference())?;
     Ok(object + 1)
 }
@@ -150,7 +151,7 @@ pub fn push_font(
     ensures next { IfOk result (λ next. next ≡ glyph_object used.now (256 * font + 256)) }
 {
     text.extend_from_slice(font_begin())?;
-    push_number(text, widths_object(font))?;
+    push_small(text, widths_object(font))?;
     push_between(
         text,
         font_characters(),

@@ -4,10 +4,11 @@ ghost use Rattle.std.specs.Prelude.{◌≡◌, ◌<◌, ◌++◌, flat_map, OnOk
 ghost use Rattle.pr_pdf.specs.Sheets.{end_of, run_begin, run_pdf, runs_of};
 ghost use Rattle.pr_pdf.specs.Linked.{close_pdf};
 
-use crate::adding::{push_between, push_hex_2, push_number};
+use crate::adding::{push_between, push_hex_2};
 use crate::marks::{FONTS, code_of, font_columns, font_name, font_of};
 use crate::parts::{run_codes, run_end, run_place};
 use pr_page::Placed;
+use pr_render::push_small;
 use std::alloc::AllocError;
 
 /// Begins a run.
@@ -19,7 +20,7 @@ fn push_begin(text: &mut Vec<u8>, height: u64, font: usize, x: u16) -> Result<()
     text.push(b'/')?;
     text.extend_from_slice(font_name(font))?;
     push_between(text, run_place(), 42 * u64::from(x), b" ")?;
-    push_number(text, height)?;
+    push_small(text, height)?;
     text.extend_from_slice(run_codes())
 }
 

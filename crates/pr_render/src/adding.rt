@@ -15,7 +15,7 @@ pub fn push_number(text: &mut Vec<u8>, n: u128) -> Result<(), AllocError>
     text.extend_from_slice(buffer.format(n).as_bytes())
 }
 
-/// Adds a small number in decimal at the end of a text.
+/// Adds a number of 64 bits in decimal at the end of a text.
 pub fn push_small(text: &mut Vec<u8>, n: u64) -> Result<(), AllocError>
     ensures { OnOk result (text.new.items ≡ text.old.items ++ decimal n) }
 {

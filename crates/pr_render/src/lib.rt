@@ -30,6 +30,7 @@ mod single;
 mod texts;
 mod uses;
 
+pub use adding::push_small;
 pub use characters::character;
 pub use drawing::{drawn_of, svg, svg_blocks};
 pub use format::{Device, Format, Part};

@@ -3,4 +3,4 @@
 mod many_bytes;
 mod refusals;
 mod room;
-mod wires;
+pub mod wires;

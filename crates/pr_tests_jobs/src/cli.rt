@@ -1,10 +1,8 @@
 //! The calls of the program's library over readers and writers in memory.
 
-pub mod calls;
-mod characters;
-mod growths;
+mod calls;
+mod faults;
 mod limits;
 mod pictures;
 mod readers;
 mod slow;
-mod worked;

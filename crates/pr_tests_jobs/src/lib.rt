@@ -1,5 +1,6 @@
-//! Tests of command lines, of what the subcommands read and write, of explanations and of recordings. Most of what the
-//! program shows of them is in tests/cases.
+//! Tests of what no built program and no library for C shows: readers and writers that fail, lack of memory, limits that
+//! are the caller's, and values for callers in Rust. All else that the program does with command lines, explanations and
+//! recordings is in tests/cases and tests/exports.c.
 #![tactic(auto)]
 
 #[cfg(test)]
@@ -8,8 +9,6 @@ mod cli;
 mod command_line;
 #[cfg(test)]
 mod explanations;
-#[cfg(test)]
-mod program;
 #[cfg(test)]
 mod recordings;
 #[cfg(test)]

@@ -4,12 +4,14 @@ use pr_explain::{Row, rows_from};
 use pr_wire::example::TRACE_TEXT;
 use pr_wire::{BusState, ByteRole, Edge, Levels, read_trace};
 use std::process::Abort;
-use std::test::Fail;
 
 /// Whether a row takes an edge.
 fn is_in_row(row: Row, edge: Edge) -> bool {
     let (one, other) = (row.levels, edge.levels);
-    let is_late = row.latest.is_some_and(|latest| edge.time > latest);
+    let is_late = match row.latest {
+        Some(latest) => edge.time > latest,
+        None => false,
+    };
     one.atn == other.atn
         && one.clock == other.clock
         && one.line == other.line
@@ -74,11 +76,11 @@ fn agrees(rt: &impl Abort, place: &BusState) {
 /// The places of the example trace: commands and data bytes with all their bits, end-or-identify, and
 /// attentions that end with UNLISTEN and without.
 #[test]
-fn places_of_the_example(rt: HostRuntime) -> Result<(), Fail> {
-    let edges = read_trace(rt.alloc(), TRACE_TEXT.as_bytes())?;
+fn places_of_the_example(rt: HostRuntime) {
+    let edges = read_trace(rt.alloc(), TRACE_TEXT.as_bytes()).expect(&rt, "edges");
     let [first, others @ ..] = edges.as_slice() else {
         assert!(rt; false, "the example has edges");
-        return Ok(());
+        return;
     };
     let mut place = BusState::Idle(0);
     let mut last = *first;
@@ -88,7 +90,6 @@ fn places_of_the_example(rt: HostRuntime) -> Result<(), Fail> {
         last = *edge;
     }
     agrees(&rt, &place);
-    Ok(())
 }
 
 #[test]
@@ -123,9 +124,15 @@ fn other_places(rt: HostRuntime) {
 fn the_last_moments(rt: HostRuntime) {
     let end = u64::MAX;
     assert!(rt; rows_from(&BusState::Idle(end - 99))[0].is_none());
-    assert!(rt; rows_from(&BusState::Idle(end - 100))[0].is_some_and(|row| row.earliest == end));
-    let row = rows_from(&BusState::After(end - 1))[0];
-    assert!(rt; row.is_some_and(|row| row.earliest == end && row.latest == Some(end)));
+    let (Some(idle), Some(after)) = (
+        rows_from(&BusState::Idle(end - 100))[0],
+        rows_from(&BusState::After(end - 1))[0],
+    ) else {
+        assert!(rt; false, "a row that ends or begins at the last moment");
+        return;
+    };
+    assert!(rt; idle.earliest == end);
+    assert!(rt; after.earliest == end && after.latest == Some(end));
     agrees_at(&rt, &BusState::Idle(end - 100), end);
     agrees_at(&rt, &BusState::Call(end - 1000, false), end);
 }

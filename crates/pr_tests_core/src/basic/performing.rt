@@ -52,7 +52,7 @@ const QUIET: After = (None, 0, 0, 3, 0);
 /// CMD's channel number stays for PRINT and CLOSE, and ends with PRINT# or a stop; CLOSE notifies a
 /// device only where the file has a secondary address, and leaves the output device. With printer 4 alone a byte that
 /// nobody hears stops a later PRINT# where the status is kept, or while it still waits, and else leaves its status alone.
-static WORKED: [Worked; 9] = [
+static WORKED: [Worked; 8] = [
     Worked {
         name: "each_statement_stops_by_itself",
         script: b"OPEN 0,4:OPEN 4,4:OPEN 4,5:PRINT#9,\"A\"",
@@ -128,9 +128,9 @@ static WORKED: [Worked; 9] = [
         ],
     },
     Worked {
-        name: "stops_of_the_file_table, the eleventh file",
+        name: "stops_of_the_file_table, an eleventh file and an open one",
         script: b"OPEN 1,4:OPEN 2,4:OPEN 3,4:OPEN 4,4:OPEN 5,4:OPEN 6,4\n\
-            OPEN 7,4:OPEN 8,4:OPEN 9,4:OPEN 10,4:OPEN 11,4",
+            OPEN 7,4:OPEN 8,4:OPEN 9,4:OPEN 10,4:OPEN 11,4:OPEN 3,4",
         present: BOTH,
         mode: StatusMode::Each,
         after: &[
@@ -145,27 +145,6 @@ static WORKED: [Worked; 9] = [
             QUIET,
             QUIET,
             (Some(Stop::TooManyFiles), 0, 0, 3, 0),
-        ],
-        screen: &[],
-        heard: &[],
-    },
-    Worked {
-        name: "stops_of_the_file_table, an open file",
-        script: b"OPEN 1,4:OPEN 2,4:OPEN 3,4:OPEN 4,4:OPEN 5,4:OPEN 6,4\n\
-            OPEN 7,4:OPEN 8,4:OPEN 9,4:OPEN 10,4:OPEN 3,4",
-        present: BOTH,
-        mode: StatusMode::Each,
-        after: &[
-            QUIET,
-            QUIET,
-            QUIET,
-            QUIET,
-            QUIET,
-            QUIET,
-            QUIET,
-            QUIET,
-            QUIET,
-            QUIET,
             (Some(Stop::FileOpen), 0, 0, 3, 0),
         ],
         screen: &[],

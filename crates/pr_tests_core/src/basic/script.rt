@@ -1,8 +1,107 @@
-//! Readings of scripts of which memory is refused. What scripts mean is in tests/cases/statements_of_scripts.case.
+//! The statements of scripts, and readings of which memory is refused. What the statements do is in
+//! tests/cases/statements_of_scripts.case.
 
 use pr_basic::{FaultAt, ScriptFault, Statement, read_script, read_script_at};
 use pr_refusals::most_refusals;
 use std::process::Abort;
+
+/// Scripts, and their statements as text.
+static READ: [(&str, &str); 22] = [
+    // accepted_scripts
+    (
+        "PRINT;",
+        "[Print { line: Line { bytes: [], ends: false } }]",
+    ),
+    (
+        "PRINT ;\"A\"",
+        "[Print { line: Line { bytes: [65], ends: true } }]",
+    ),
+    (
+        "CMD 4",
+        "[Cmd { file: 4, line: Line { bytes: [], ends: true } }]",
+    ),
+    (
+        "CMD 4,;",
+        "[Cmd { file: 4, line: Line { bytes: [], ends: false } }]",
+    ),
+    (
+        "PRINT\"A\r\n",
+        "[Print { line: Line { bytes: [65], ends: true } }]",
+    ),
+    ("::", "[]"),
+    ("REM :PRINT", "[Rem]"),
+    (
+        "63999 PRINT",
+        "[Print { line: Line { bytes: [], ends: true } }]",
+    ),
+    // choices_of_the_grammar
+    (
+        "PrInT Chr$(65)",
+        "[Print { line: Line { bytes: [65], ends: true } }]",
+    ),
+    (
+        "PRINT CHR$ ( 65 ) ;",
+        "[Print { line: Line { bytes: [65], ends: false } }]",
+    ),
+    (
+        "\tPRINT\t\"A\"\t",
+        "[Print { line: Line { bytes: [65], ends: true } }]",
+    ),
+    (
+        "CMD 4,\"\"",
+        "[Cmd { file: 4, line: Line { bytes: [], ends: true } }]",
+    ),
+    (
+        "CMD 4,\"",
+        "[Cmd { file: 4, line: Line { bytes: [], ends: true } }]",
+    ),
+    (
+        "PRINT#0004,CHR$(007)",
+        "[PrintTo { file: 4, line: Line { bytes: [7], ends: true } }]",
+    ),
+    ("", "[]"),
+    ("10", "[]"),
+    ("\r", "[]"),
+    ("\n\n \t\n", "[]"),
+    ("REMARK", "[Rem]"),
+    // files_devices_and_secondary_addresses
+    // lower_case_keywords_on_one_line
+    (
+        "10 open4,4:print#4,\"a\"chr$(66)\"c",
+        "[OpenFile { file: 4, device: Device { number: 4 }, second: None }, \
+        PrintTo { file: 4, line: Line { bytes: [97, 66, 99], ends: true } }]",
+    ),
+    (
+        "REM :PRINT\nOPEN 0,4",
+        "[Rem, OpenFile { file: 0, device: Device { number: 4 }, second: None }]",
+    ),
+    (
+        "OPEN 1,30,15:CMD 2:PRINT#3\nPRINT\r\n\nCLOSE 255:REM",
+        "[OpenFile { file: 1, device: Device { number: 30 }, second: Some(Second { number: 15 }) }, \
+        Cmd { file: 2, line: Line { bytes: [], ends: true } }, \
+        PrintTo { file: 3, line: Line { bytes: [], ends: true } }, \
+        Print { line: Line { bytes: [], ends: true } }, CloseFile { file: 255 }, Rem]",
+    ),
+];
+
+/// Those, for a caller whose proof does not read them.
+fn read_rows() -> &'static [(&'static str, &'static str)] {
+    &READ
+}
+
+/// Whether a script is read as the statements of this text.
+fn is_read_as(rt: &(impl Abort + AllocGlobal), script: &str, wanted: &str) -> bool {
+    let statements = read_script(rt.alloc(), script.as_bytes()).expect(rt, "a script");
+    let told = format!(in rt.alloc(); "{statements:?}").expect(rt, "memory");
+    told.as_str() == wanted
+}
+
+#[test]
+fn statements_of_scripts(rt: HostRuntime) {
+    for &(script, wanted) in read_rows() {
+        assert!(rt; is_read_as(&rt, script, wanted), "{script}");
+    }
+}
 
 /// How many bytes some statements print.
 fn printed_count(statements: &[Statement]) -> usize {

@@ -12,7 +12,7 @@ use std::process::Abort;
 
 /// Performs statements, none of which stops. True if memory is refused: once a step was refused, each
 /// later one is.
-fn are_refused<B: Bus + Drop>(
+pub fn are_refused<B: Bus + Drop>(
     rt: &impl Abort,
     running: &mut RunningOver<B>,
     statements: &[Statement],

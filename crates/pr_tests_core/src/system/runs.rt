@@ -1,14 +1,16 @@
-//! Whole runs, whose trace is kept.
+//! Whole runs, whose trace is kept, and one over a bus without wires.
 
+use crate::bus::wires::choices;
+use crate::system::growths::are_refused;
 use crate::system::two_letters::{
     BOTH, are_the_example, is_outcome, is_page, statements_of, typical,
 };
 use pr_basic::StatusMode;
 use pr_bus::Delays;
 use pr_channels::Stop;
-use pr_serial::Present;
-use pr_system::{Outcome, run};
-use pr_wire::{Choices, Frame, analyse};
+use pr_serial::{Direct, Present};
+use pr_system::{Outcome, RunningOver, run};
+use pr_wire::{Frame, analyse};
 use std::env::FillError;
 use std::process::Abort;
 use std::rt::Env;
@@ -31,6 +33,17 @@ fn run_up_to_a_stop(rt: HostRuntime) {
     let stop = Some((4, Stop::FileNotOpen));
     assert!(rt; is_outcome(&outcome, &[0; 4], stop, &[], 110));
     assert!(rt; are_the_example(&rt, outcome.trace.as_slice()));
+}
+
+/// The two letters over a bus without wires, with the papers and statuses of the run on wires.
+#[test]
+fn two_letters_without_wires(rt: HostRuntime) {
+    let bus = Direct::new(rt.alloc(), BOTH);
+    let mut running = RunningOver::over(rt.alloc(), bus, StatusMode::Each);
+    let statements = statements_of(&rt, b"OPEN 4,4\nPRINT#4,\"HI\"\nCLOSE 4");
+    let refused = are_refused(&rt, &mut running, &statements);
+    let outcome = running.finish();
+    assert!(rt; !refused && is_outcome(&outcome, &[0; 3], None, &[], 0));
 }
 
 /// A run that prints nothing: its script, printers, status mode and delay numbers of the computer and of printer 4; then its
@@ -94,13 +107,6 @@ static QUIET: [Quiet; 3] = [
     },
 ];
 
-/// A list of delay numbers.
-fn choices(rt: &(impl Abort + AllocGlobal), numbers: &[u16]) -> Choices {
-    let mut list = Vec::new(rt.alloc());
-    list.extend_from_slice(numbers).expect(rt, "memory");
-    Choices::new(list)
-}
-
 /// Whether the outcome is that of a quiet run.
 fn is_quiet(outcome: &Outcome, wanted: &Quiet) -> bool {
     is_page(&outcome.paper4, &[])
@@ -124,9 +130,9 @@ fn are_commands(frames: &[Frame], commands: &[u8]) -> bool {
 fn outcome_by_settings(rt: &(impl Abort + AllocGlobal), row: &Quiet) -> Outcome {
     let statements = statements_of(rt, row.script);
     let delays = Delays {
-        computer: choices(rt, row.numbers[0]),
-        four: choices(rt, row.numbers[1]),
-        five: choices(rt, &[]),
+        computer: choices(rt, row.numbers[0]).expect(rt, "memory"),
+        four: choices(rt, row.numbers[1]).expect(rt, "memory"),
+        five: choices(rt, &[]).expect(rt, "memory"),
     };
     run(rt.alloc(), &statements, row.present, delays, row.mode).expect(rt, "memory")
 }

@@ -3,10 +3,9 @@
 ghost use Rattle.std.specs.Prelude.{◌≡◌, false};
 ghost use Rattle.pr_input.specs.Watched.{has_failed};
 
-use crate::cli::pictures::{drawn, sheet_alone};
 use pr_basic::StatusMode;
 use pr_bus::Delays;
-use pr_capture::{Signals, Source, TraceFormat, TraceInput, write_vcd};
+use pr_capture::{Signals, Source, TraceFormat, TraceInput};
 use pr_dots::Shapes;
 use pr_jobs::{
     CliFault, Ending, Start, Watched, bus_as_over, bus_over, check_as_over, check_over,
@@ -15,9 +14,9 @@ use pr_jobs::{
 use pr_render::{Format, Part};
 use pr_report::Report;
 use pr_serial::Present;
+use pr_wire::Choices;
 use pr_wire::example::TRACE_TEXT;
-use pr_wire::{Choices, read_trace};
-use std::alloc::{AllocError, Global};
+use std::alloc::Global;
 use std::io::{Read, Write};
 
 pub const BOTH: Present = Present {
@@ -25,13 +24,8 @@ pub const BOTH: Present = Present {
     five: true,
 };
 
-pub const NONE: Present = Present {
-    four: false,
-    five: false,
-};
-
 /// The picture of all pages.
-pub const SVG: Format = Format::Svg(Part {
+const SVG: Format = Format::Svg(Part {
     device: None,
     sheet: None,
 });
@@ -44,7 +38,7 @@ pub const HI_BYTES: &str = "HI\r";
 
 /// One attention to printer 4 alone, with delays 1000 before it, 1999 to the look and 10 to the
 /// answer, all others typical.
-pub const ONE_ATTENTION: &str = "\
+const ONE_ATTENTION: &str = "\
     0 111\n1000 001\n1010 000\n2999 010\n\
     3049 011\n3089 000\n3159 010\n3179 000\n\
     3249 010\n3269 001\n3339 011\n3359 000\n\
@@ -54,7 +48,7 @@ pub const ONE_ATTENTION: &str = "\
 ";
 
 /// The same trace as a table, as a logic analyser exports it.
-pub const ONE_ATTENTION_TABLE: &str = "\
+const ONE_ATTENTION_TABLE: &str = "\
     Time [s],ATN,CLK,DATA\n0.000000,1,1,1\n0.001000,0,0,1\n0.001010,0,0,0\n\
     0.002999,0,1,0\n0.003049,0,1,1\n0.003089,0,0,0\n0.003159,0,1,0\n0.003179,0,0,0\n\
     0.003249,0,1,0\n0.003269,0,0,1\n0.003339,0,1,1\n0.003359,0,0,0\n0.003429,0,1,0\n\
@@ -79,7 +73,7 @@ const ONE_ATTENTION_DUMP: &str = "\
 const ONE_STORY: &str = "attention\n        2999         3829  $24  LISTEN 4\nlawful\n";
 
 /// The frames of one attention to printer 4.
-pub const ONE_COMMAND: &str = "command 36\nlawful\n";
+const ONE_COMMAND: &str = "command 36\nlawful\n";
 
 /// The frames of the example trace, which is that of the script.
 pub const EXAMPLE_LINES: &str = "command 36\ndata 72\ndata 73\ndata 13 eoi\ncommand 63\nlawful\n";
@@ -92,38 +86,63 @@ const EXAMPLE_STORY: &str = "\
     attention\n        6240         7070  $3F  UNLISTEN\nlawful\n\
 ";
 
-/// How a script runs: the printers, the raw numbers that each party draws on, and how the status goes on. After its
-/// numbers a party's delays are typical.
-#[derive(Clone, Copy)]
-pub struct Setting {
-    pub present: Present,
-    pub computer: &'static [u16],
-    pub four: &'static [u16],
-    pub five: &'static [u16],
-    pub mode: StatusMode,
-}
+/// The example trace as a Value Change Dump.
+const EXAMPLE_DUMP: &str = "\
+    $timescale 1 us $end\n$scope module bus $end\n$var wire 1 A ATN $end\n\
+    $var wire 1 C CLOCK $end\n$var wire 1 D DATA $end\n$upscope $end\n$enddefinitions $end\n\
+    #0\n1A\n1C\n1D\n#100\n0A\n0C\n#200\n0D\n#1100\n1C\n#1150\n1D\n#1190\n0C\n0D\n#1260\n1C\n\
+    #1280\n0C\n#1350\n1C\n#1370\n0C\n1D\n#1440\n1C\n#1460\n0C\n0D\n#1530\n1C\n#1550\n0C\n\
+    #1620\n1C\n#1640\n0C\n1D\n#1710\n1C\n#1730\n0C\n0D\n#1800\n1C\n#1820\n0C\n#1890\n1C\n\
+    #1910\n0C\n1D\n#1930\n0D\n#2030\n1A\n#2130\n1C\n#2180\n1D\n#2220\n0C\n0D\n#2290\n1C\n\
+    #2310\n0C\n#2380\n1C\n#2400\n0C\n#2470\n1C\n#2490\n0C\n1D\n#2560\n1C\n#2580\n0C\n0D\n\
+    #2650\n1C\n#2670\n0C\n#2740\n1C\n#2760\n0C\n1D\n#2830\n1C\n#2850\n0C\n0D\n#2920\n1C\n\
+    #2940\n0C\n1D\n#2960\n0D\n#3060\n1C\n#3110\n1D\n#3150\n0C\n#3220\n1C\n#3240\n0C\n0D\n\
+    #3310\n1C\n#3330\n0C\n#3400\n1C\n#3420\n0C\n1D\n#3490\n1C\n#3510\n0C\n0D\n#3580\n1C\n\
+    #3600\n0C\n#3670\n1C\n#3690\n0C\n1D\n#3760\n1C\n#3780\n0C\n0D\n#3850\n1C\n#3870\n0C\n\
+    1D\n#3890\n0D\n#3990\n1C\n#4040\n1D\n#4290\n0D\n#4370\n1D\n#4400\n0C\n#4470\n1C\n#4490\n\
+    0C\n0D\n#4560\n1C\n#4580\n0C\n1D\n#4650\n1C\n#4670\n0C\n#4740\n1C\n#4760\n0C\n0D\n\
+    #4830\n1C\n#4850\n0C\n#4920\n1C\n#4940\n0C\n#5010\n1C\n#5030\n0C\n#5100\n1C\n#5120\n0C\n\
+    1D\n#5140\n0D\n#5240\n0A\n#6240\n1C\n#6290\n1D\n#6330\n0C\n#6400\n1C\n#6420\n0C\n#6490\n\
+    1C\n#6510\n0C\n#6580\n1C\n#6600\n0C\n#6670\n1C\n#6690\n0C\n#6760\n1C\n#6780\n0C\n#6850\n\
+    1C\n#6870\n0C\n0D\n#6940\n1C\n#6960\n0C\n#7030\n1C\n#7050\n0C\n1D\n#7070\n0D\n#7170\n\
+    1A\n#7190\n1D\n#7270\n1C\n#8270\n\
+";
 
-/// Both printers, typical delays, and a status that each statement clears.
-pub const USUAL: Setting = Setting {
-    present: BOTH,
-    computer: &[],
-    four: &[],
-    five: &[],
-    mode: StatusMode::Each,
-};
+/// The picture of two letters on printer 4, as tests/pictures.awk draws it, apart from the proved code: of the pages of the
+/// script, and of the page of the bytes.
+const PICTURE: &str = "\
+    <svg xmlns=\"http://www.w3.org/2000/svg\" version=\"1.1\" width=\"66pc\" height=\"18pc\" viewBox=\"0 0 \
+    13860 3780\">\n<desc>Pages of VIC-1525 printers. Each dot is where the hammer strikes.</desc>\n<pattern \
+    id=\"paper\" width=\"12600\" height=\"630\" patternUnits=\"userSpaceOnUse\"><rect width=\"12600\" \
+    height=\"630\" fill=\"#fff\"/><g fill=\"#e9e6df\" stroke=\"#b4afa2\" stroke-width=\"10\"><circle cx=\"315\" \
+    cy=\"315\" r=\"100\"/><circle cx=\"12285\" cy=\"315\" r=\"100\"/><path stroke-dasharray=\"35\" d=\"M630 \
+    0v630M11970 0v630\"/></g></pattern>\n<pattern id=\"folds\" y=\"7560\" width=\"12600\" height=\"13860\" \
+    patternUnits=\"userSpaceOnUse\"><path stroke=\"#b4afa2\" stroke-width=\"10\" stroke-dasharray=\"70\" d=\"M0 \
+    6930h12600\"/></pattern>\n<rect width=\"100%\" height=\"100%\" fill=\"#e9e6df\"/>\n<defs>\n<path \
+    stroke=\"#222\" id=\"u72\" d=\"M10 10h0M10 30h0M10 50h0M10 70h0M10 90h0M10 110h0M10 130h0M31 70h0M52 \
+    70h0M73 70h0M94 10h0M94 30h0M94 50h0M94 70h0M94 90h0M94 110h0M94 130h0\"/>\n<path stroke=\"#222\" \
+    id=\"u73\" d=\"M31 10h0M31 130h0M52 10h0M52 30h0M52 50h0M52 70h0M52 90h0M52 110h0M52 130h0M73 10h0M73 \
+    130h0\"/>\n</defs>\n<g transform=\"translate(630 1050)\">\n<text font-size=\"210\" fill=\"#555\" \
+    y=\"-210\">Printer 4</text>\n<rect width=\"12600\" height=\"1890\" fill=\"url(#paper)\" stroke=\"#b4afa2\" \
+    stroke-width=\"10\"/>\n<rect y=\"1260\" width=\"12600\" height=\"630\" fill=\"url(#folds)\"/>\n<g \
+    transform=\"translate(1260 630)\">\n<g stroke-width=\"22\" stroke-linecap=\"round\" fill-opacity=\"0\" \
+    font-size=\"140\">\n<g transform=\"translate(0 0)\">\n<use href=\"#u72\" x=\"0\"/>\n<use href=\"#u73\" \
+    x=\"126\"/>\n<text x=\"0\" y=\"140\" textLength=\"252\" lengthAdjust=\"spacingAndGlyphs\" \
+    xml:space=\"preserve\">HI</text>\n</g>\n</g>\n</g>\n</g>\n<text font-size=\"210\" fill=\"#555\" \
+    transform=\"translate(630 3150)\">\n</text>\n</svg>\n\
+";
 
-/// A call of the library over a reader and a writer. Where no setting is named, a script runs with
-/// typical delays and a status that each statement clears; the signals of a recording have the usual
-/// names.
+/// A call of the library over a reader and a writer. A script runs with both printers, typical delays and a status that
+/// each statement clears; the signals of a recording have the usual names.
 #[derive(Clone, Copy)]
 pub enum Call {
     /// The page text of a script.
-    PageText(Setting),
+    PageText,
     /// The trace text of a script.
-    TraceText(Setting),
-    /// The pages of a script, with these printers.
-    Pages(Present, Format),
-    /// The trace of a script, with both printers.
+    TraceText,
+    /// The pages of a script.
+    Pages(Format),
+    /// The trace of a script.
     Bus(TraceFormat),
     /// The frames of a trace text.
     Check,
@@ -133,99 +152,92 @@ pub enum Call {
     Raw(Format),
 }
 
-/// The page text of a script, with both printers.
-pub const PAGES: Call = Call::PageText(USUAL);
-
-/// The text that a call writes.
-#[derive(Clone, Copy)]
-pub enum Wanted {
-    /// This one.
-    Text(&'static str),
-    /// The picture of the script's pages, as `pr_render` draws it.
-    Picture,
-    /// The picture of the script's page of printer 4, and of nothing else.
-    Sheet,
-    /// The example trace as a Value Change Dump, as `pr_capture` writes it.
-    Dump,
-}
-
 /// A call, its input and what it writes.
-pub type Row = (Call, &'static str, Wanted);
+pub type Row = (Call, &'static str, &'static str);
 
 /// Each call in each format.
-const ROWS: [Row; 18] = [
+static ROWS: [Row; 18] = [
     (
-        PAGES,
+        Call::PageText,
         HI,
-        Wanted::Text("printer 4\nrow 0\n 0 cell 72\n 6 cell 73\nprinter 5\nstatus 0 0\nscreen\n"),
+        "printer 4\nrow 0\n 0 cell 72\n 6 cell 73\nprinter 5\nstatus 0 0\nscreen\n",
     ),
     (
-        Call::Pages(BOTH, Format::Lines),
+        Call::Pages(Format::Lines),
         HI,
-        Wanted::Text("Printer 4\nHI\nPrinter 5\nStatuses: 0 0.\n"),
+        "Printer 4\nHI\nPrinter 5\nStatuses: 0 0.\n",
     ),
-    (Call::Pages(BOTH, SVG), HI, Wanted::Picture),
+    (Call::Pages(SVG), HI, PICTURE),
     (
         Call::Raw(Format::List),
         HI_BYTES,
-        Wanted::Text("printer 4\nrow 0\n 0 cell 72\n 6 cell 73\nprinter 5\nstatus\nscreen\n"),
+        "printer 4\nrow 0\n 0 cell 72\n 6 cell 73\nprinter 5\nstatus\nscreen\n",
     ),
-    (
-        Call::Raw(Format::Lines),
-        HI_BYTES,
-        Wanted::Text("Printer 4\nHI\n"),
-    ),
-    (Call::Raw(SVG), HI_BYTES, Wanted::Sheet),
-    (Call::TraceText(USUAL), HI, Wanted::Text(TRACE_TEXT)),
-    (Call::Bus(TraceFormat::Vcd), HI, Wanted::Dump),
-    (Call::Check, ONE_ATTENTION, Wanted::Text(ONE_COMMAND)),
-    (Call::Check, TRACE_TEXT, Wanted::Text(EXAMPLE_LINES)),
+    (Call::Raw(Format::Lines), HI_BYTES, "Printer 4\nHI\n"),
+    (Call::Raw(SVG), HI_BYTES, PICTURE),
+    (Call::TraceText, HI, TRACE_TEXT),
+    (Call::Bus(TraceFormat::Vcd), HI, EXAMPLE_DUMP),
+    (Call::Check, ONE_ATTENTION, ONE_COMMAND),
+    (Call::Check, TRACE_TEXT, EXAMPLE_LINES),
     (
         Call::CheckAs(Source::Text, Report::Frames),
         ONE_ATTENTION,
-        Wanted::Text(ONE_COMMAND),
+        ONE_COMMAND,
     ),
     (
         Call::CheckAs(Source::Text, Report::Story),
         ONE_ATTENTION,
-        Wanted::Text(ONE_STORY),
+        ONE_STORY,
     ),
     (
         Call::CheckAs(Source::Text, Report::Frames),
         TRACE_TEXT,
-        Wanted::Text(EXAMPLE_LINES),
+        EXAMPLE_LINES,
     ),
     (
         Call::CheckAs(Source::Text, Report::Story),
         TRACE_TEXT,
-        Wanted::Text(EXAMPLE_STORY),
+        EXAMPLE_STORY,
     ),
     (
         Call::CheckAs(Source::Csv, Report::Frames),
         ONE_ATTENTION_TABLE,
-        Wanted::Text(ONE_COMMAND),
+        ONE_COMMAND,
     ),
     (
         Call::CheckAs(Source::Csv, Report::Story),
         ONE_ATTENTION_TABLE,
-        Wanted::Text(ONE_STORY),
+        ONE_STORY,
     ),
     (
         Call::CheckAs(Source::Vcd, Report::Frames),
         ONE_ATTENTION_DUMP,
-        Wanted::Text(ONE_COMMAND),
+        ONE_COMMAND,
     ),
     (
         Call::CheckAs(Source::Vcd, Report::Story),
         ONE_ATTENTION_DUMP,
-        Wanted::Text(ONE_STORY),
+        ONE_STORY,
     ),
 ];
 
-/// The rows: each call in each format.
-pub fn rows() -> [Row; 18] {
-    ROWS
+/// Those rows, for callers whose proofs do not read them.
+pub fn rows() -> &'static [Row] {
+    &ROWS
 }
+
+/// A trace text, from its first moment on. In another format its signals have the usual names.
+pub const USUAL: TraceInput<'static> = TraceInput {
+    source: Source::Text,
+    signals: Signals {
+        atn: b"ATN",
+        clock: b"CLOCK",
+        line: b"DATA",
+        is_inverted: false,
+    },
+    start: 0,
+    rate: None,
+};
 
 /// Delays that are all typical.
 pub fn typical(alloc: Global) -> Delays {
@@ -236,36 +248,12 @@ pub fn typical(alloc: Global) -> Delays {
     }
 }
 
-/// A run with these printers present, typical delays, and status 0 before each statement.
-pub fn started(alloc: Global, present: Present) -> Start {
+/// A run with both printers, typical delays, and status 0 before each statement.
+fn started(alloc: Global) -> Start {
     Start {
-        present,
+        present: BOTH,
         delays: typical(alloc),
         mode: StatusMode::Each,
-    }
-}
-
-/// The delays of a setting.
-fn delays_of(alloc: Global, setting: Setting) -> Result<Delays, AllocError> {
-    Ok(Delays {
-        computer: Choices::new(setting.computer.to_vec(alloc)?),
-        four: Choices::new(setting.four.to_vec(alloc)?),
-        five: Choices::new(setting.five.to_vec(alloc)?),
-    })
-}
-
-/// A trace in this format, from its first moment on, whose signals have the usual names.
-pub fn usual(source: Source) -> TraceInput<'static> {
-    TraceInput {
-        source,
-        signals: Signals {
-            atn: b"ATN",
-            clock: b"CLOCK",
-            line: b"DATA",
-            is_inverted: false,
-        },
-        start: 0,
-        rate: None,
     }
 }
 
@@ -289,26 +277,27 @@ impl Call {
         requires output { has_failed output.old ≡ false }
     {
         match self {
-            Call::PageText(setting) => {
-                let delays = delays_of(alloc, setting)?;
-                pages_over(alloc, input, output, setting.present, delays, setting.mode)
+            Call::PageText => {
+                let delays = typical(alloc);
+                pages_over(alloc, input, output, BOTH, delays, StatusMode::Each)
             }
-            Call::TraceText(setting) => {
-                let delays = delays_of(alloc, setting)?;
-                bus_over(alloc, input, output, setting.present, delays, setting.mode)
+            Call::TraceText => {
+                let delays = typical(alloc);
+                bus_over(alloc, input, output, BOTH, delays, StatusMode::Each)
             }
-            Call::Pages(present, format) => {
-                let start = started(alloc, present);
+            Call::Pages(format) => {
+                let start = started(alloc);
                 let end = pages_as_over(alloc, input, output, start, format, &Shapes::own())?;
                 Ok(end.run.ending())
             }
             Call::Bus(format) => {
-                let start = started(alloc, BOTH);
+                let start = started(alloc);
                 Ok(bus_as_over(alloc, input, output, start, format)?.ending())
             }
             Call::Check => done(check_over(alloc, input, output)),
             Call::CheckAs(source, report) => {
-                done(check_as_over(alloc, input, output, usual(source), report))
+                let trace = TraceInput { source, ..USUAL };
+                done(check_as_over(alloc, input, output, trace, report))
             }
             Call::Raw(format) => done(raw_over(
                 alloc,
@@ -333,27 +322,9 @@ impl Call {
     /// dump for its head and its end too, the others at the end.
     pub fn flushes(self) -> usize {
         match self {
-            Call::TraceText(_) | Call::Bus(TraceFormat::Text) => 3,
+            Call::TraceText | Call::Bus(TraceFormat::Text) => 3,
             Call::Bus(TraceFormat::Vcd) => 5,
             _ => 1,
         }
     }
-}
-
-impl Wanted {
-    /// The bytes of the text. None where memory is refused.
-    pub fn bytes(self, alloc: Global) -> Option<Vec<u8>> {
-        match self {
-            Wanted::Text(text) => text.as_bytes().to_vec(alloc).ok(),
-            Wanted::Picture => drawn(alloc, HI, BOTH),
-            Wanted::Sheet => sheet_alone(alloc, HI),
-            Wanted::Dump => example_dump(alloc),
-        }
-    }
-}
-
-/// The example trace as a Value Change Dump.
-fn example_dump(alloc: Global) -> Option<Vec<u8>> {
-    let edges = read_trace(alloc, TRACE_TEXT.as_bytes()).ok()?;
-    write_vcd(alloc, &edges).ok()
 }

@@ -1,11 +1,11 @@
-//! Inputs of about the greatest length that a caller gives, and endless ones.
+//! Inputs of about the greatest length that a caller gives, and endless ones. Those of the program's own limits are in
+//! tests/cases (input_limit and million_statements).
 
 ghost use Rattle.std.specs.Prelude.{◌≡◌, ◌^◌, ◌<◌, false};
 ghost use Rattle.pr_input.specs.Watched.{has_failed};
 
-use crate::cli::calls::{EXAMPLE_LINES, HI, HI_BYTES, usual};
+use crate::cli::calls::{EXAMPLE_LINES, HI, HI_BYTES, USUAL};
 use crate::cli::slow::SlowReader;
-use pr_capture::Source;
 use pr_jobs::{BLOCK, CliFault, Watched, check_input, print_input, read_whole, report_input};
 use pr_report::Report;
 use pr_wire::example::TRACE_TEXT;
@@ -16,11 +16,11 @@ use std::process::Abort;
 
 /// Gives zeros without end: to `check` they are an unfinished line, to a printer bytes like others.
 #[derive(Drop)]
-pub struct Endless {
+struct Endless {
     /// The most bytes that a call gives.
-    pub most: usize,
+    most: usize,
     /// The bytes given so far.
-    pub given: usize,
+    given: usize,
 }
 
 impl Read for Endless {
@@ -45,21 +45,31 @@ enum Reading {
 const READINGS: [Reading; 3] = [Reading::Raw, Reading::Check, Reading::Report];
 
 impl Reading {
-    /// The fault of a reader with this limit, if there is one.
-    fn fault<R: Read>(self, alloc: Global, input: &mut Watched<R>, limit: usize) -> Option<CliFault>
+    /// What a reader with this limit gives: a text, or a sign for one row.
+    fn answer<R: Read>(
+        self,
+        alloc: Global,
+        input: &mut Watched<R>,
+        limit: usize,
+    ) -> Result<Vec<u8>, CliFault>
         requires fresh { has_failed input.old ≡ false }
         requires few { limit < 2 ^ 32 }
     {
         match self {
             Reading::Whole => match read_whole(alloc, input, limit) {
-                Ok(_) => None,
-                Err(fault) => Some(CliFault::from(fault)),
+                Ok(bytes) => Ok(bytes),
+                Err(fault) => Err(CliFault::from(fault)),
             },
-            Reading::Raw => print_input(alloc, input, false, limit).err(),
-            Reading::Check => check_input(alloc, input, limit).err(),
-            Reading::Report => {
-                report_input(alloc, input, usual(Source::Text), Report::Story, limit).err()
+            Reading::Raw => {
+                let paper = print_input(alloc, input, false, limit)?;
+                if paper.rows.len() == 1 {
+                    Ok(b"-".to_vec(alloc)?)
+                } else {
+                    Ok(Vec::new(alloc))
+                }
             }
+            Reading::Check => check_input(alloc, input, limit),
+            Reading::Report => Ok(report_input(alloc, input, USUAL, Report::Story, limit)?.lines),
         }
     }
 }
@@ -95,8 +105,8 @@ fn too_large(
 ) {
     assert!(rt; limit < 1_000_000);
     let mut input = Watched::new(Endless { most, given: 0 });
-    let fault = reading.fault(rt.alloc(), &mut input, limit);
-    let is_well = fault == Some(CliFault::TooLarge)
+    let answer = reading.answer(rt.alloc(), &mut input, limit);
+    let is_well = answer == Err(CliFault::TooLarge)
         && !input.failed()
         && input.into_inner().given == given;
     assert!(rt; is_well, "{most} bytes a call, limit {limit}");
@@ -114,57 +124,47 @@ fn too_large_by_an_endless_reader(rt: HostRuntime) {
     }
 }
 
-/// Whether an answer is this text, where the limit lets it in, and else a fault.
-fn is_up_to(given: Result<Vec<u8>, CliFault>, text: &str, limit: usize, whole: usize) -> bool {
-    match given {
-        Ok(bytes) => whole <= limit && bytes.as_slice() == text.as_bytes(),
-        Err(fault) => limit < whole && fault == CliFault::TooLarge,
-    }
+/// A reading, an input, and what is given of it.
+type Input = (Reading, &'static str, &'static str);
+
+/// Inputs by the names of their tests.
+static WHOLE: [(&str, Input); 3] = [
+    ("scripts_up_to_the_limit", (Reading::Whole, HI, HI)),
+    (
+        "traces_up_to_the_limit",
+        (Reading::Check, TRACE_TEXT, EXAMPLE_LINES),
+    ),
+    ("bytes_up_to_the_limit", (Reading::Raw, HI_BYTES, "-")),
+];
+
+/// Those, for a caller whose proof does not read them.
+fn whole() -> &'static [(&'static str, Input)] {
+    &WHOLE
 }
 
-/// The script read whole by a reader, with this limit.
-fn script_within<R: Read + Drop>(
-    alloc: Global,
-    input: R,
-    limit: usize,
-) -> Result<Vec<u8>, CliFault> {
+/// Whether a reader of this text gives what is wanted, where the limit lets the text in, and else its fault.
+fn is_up_to<R: Read + Drop>(alloc: Global, input: R, row: Input, limit: usize) -> bool
+    requires few { limit < 2 ^ 32 }
+{
+    let (reading, text, wanted) = row;
     let mut input = Watched::new(input);
-    match read_whole(alloc, &mut input, limit) {
-        Ok(bytes) => Ok(bytes),
-        Err(fault) => Err(CliFault::from(fault)),
+    match reading.answer(alloc, &mut input, limit) {
+        Ok(bytes) => text.len() <= limit && bytes.as_slice() == wanted.as_bytes(),
+        Err(fault) => limit < text.len() && fault == CliFault::TooLarge,
     }
 }
 
+/// With each limit up to one past the input's length, at once and byte by byte.
 #[test]
-fn scripts_up_to_the_limit(rt: HostRuntime) {
-    let script = HI.as_bytes();
-    for limit in [3, HI.len() - 2, HI.len() - 1, HI.len(), HI.len() + 1] {
-        let blocks = script_within(rt.alloc(), script, limit);
-        let slow = SlowReader::new(script, HI.len() + 1);
-        let bytes = script_within(rt.alloc(), slow, limit);
-        let is_well = is_up_to(blocks, HI, limit, HI.len()) && is_up_to(bytes, HI, limit, HI.len());
-        assert!(&rt; is_well, "{limit}");
-    }
-}
-
-#[test]
-fn traces_up_to_the_limit(rt: HostRuntime) {
-    let whole = TRACE_TEXT.len();
-    for limit in [whole - 2, whole - 1, whole, whole + 1] {
-        let mut input = Watched::new(TRACE_TEXT.as_bytes());
-        let lines = check_input(rt.alloc(), &mut input, limit);
-        assert!(&rt; is_up_to(lines, EXAMPLE_LINES, limit, whole), "{limit}");
-    }
-}
-
-#[test]
-fn bytes_up_to_the_limit(rt: HostRuntime) {
-    for limit in 1..5 {
-        let mut input = Watched::new(HI_BYTES.as_bytes());
-        let is_well = match print_input(rt.alloc(), &mut input, false, limit) {
-            Ok(paper) => HI_BYTES.len() <= limit && paper.rows.len() == 1,
-            Err(fault) => limit < HI_BYTES.len() && fault == CliFault::TooLarge,
-        };
-        assert!(&rt; is_well, "{limit}");
+fn up_to_the_limit(rt: HostRuntime) {
+    for (name, row) in whole() {
+        let (_, text, _) = *row;
+        assert!(&rt; text.len() < 1_000_000);
+        for limit in 1..text.len() + 2 {
+            let slow = SlowReader::new(text.as_bytes(), text.len() + 1);
+            let is_well = is_up_to(rt.alloc(), text.as_bytes(), *row, limit)
+                && is_up_to(rt.alloc(), slow, *row, limit);
+            assert!(&rt; is_well, "{name}, {limit}");
+        }
     }
 }

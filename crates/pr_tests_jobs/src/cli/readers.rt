@@ -1,6 +1,6 @@
 //! Each read and each write of a call failing in turn.
 
-use crate::cli::calls::{Call, HI, PAGES, Row, rows};
+use crate::cli::calls::{Call, HI, Row, rows};
 use crate::cli::slow::{SlowReader, SlowWriter};
 use pr_jobs::{BLOCK, CliFault, Ending, TeeReader, Watched};
 use std::alloc::{AllocError, Global};
@@ -52,9 +52,9 @@ fn tells_write(
 /// Each read of a row failing in turn, and none.
 fn reads_fail(rt: &(impl Abort + AllocGlobal), number: usize, (call, input, wanted): Row) {
     let input = input.as_bytes();
-    let text = wanted.bytes(rt.alloc()).expect(rt, "memory");
+    let text = wanted.as_bytes();
     for fail_at in 0..input.len().saturating_add(3) {
-        let is_told = tells_read(rt.alloc(), call, input, &text, fail_at);
+        let is_told = tells_read(rt.alloc(), call, input, text, fail_at);
         assert!(rt; is_told, "row {number}, read {fail_at}");
     }
 }
@@ -62,34 +62,29 @@ fn reads_fail(rt: &(impl Abort + AllocGlobal), number: usize, (call, input, want
 /// Each write and flush of a row failing in turn, and none: by an error, or by taking no byte.
 fn writes_fail(rt: &(impl Abort + AllocGlobal), number: usize, (call, input, wanted): Row) {
     let input = input.as_bytes();
-    let text = wanted.bytes(rt.alloc()).expect(rt, "memory");
+    let text = wanted.as_bytes();
     for fail_at in 0..text.len().saturating_add(5) {
-        let is_told = tells_write(rt.alloc(), call, input, &text, fail_at, false)
-            && tells_write(rt.alloc(), call, input, &text, fail_at, true);
+        let is_told = tells_write(rt.alloc(), call, input, text, fail_at, false)
+            && tells_write(rt.alloc(), call, input, text, fail_at, true);
         assert!(rt; is_told, "row {number}, write {fail_at}");
     }
 }
 
+/// A failed read is reported before a bad line that came earlier, too.
 #[test]
 fn each_read_fails(rt: HostRuntime) {
-    let rows = rows();
-    for (number, row) in rows.iter().enumerate() {
+    for (number, row) in rows().iter().enumerate() {
         reads_fail(&rt, number, *row);
     }
+    let is_told = tells_read(rt.alloc(), Call::Check, b"0 121\n100 001\n", b"", 10);
+    assert!(&rt; is_told, "failed_read_before_bad_line");
 }
 
 #[test]
 fn each_write_fails(rt: HostRuntime) {
-    let rows = rows();
-    for (number, row) in rows.iter().enumerate() {
+    for (number, row) in rows().iter().enumerate() {
         writes_fail(&rt, number, *row);
     }
-}
-
-/// A failed read is reported before a bad line that came earlier.
-#[test]
-fn failed_read_before_bad_line(rt: HostRuntime) {
-    assert!(&rt; tells_read(rt.alloc(), Call::Check, b"0 121\n100 001\n", b"", 10));
 }
 
 /// A script that prints thirty lines of 255 letters.
@@ -108,7 +103,7 @@ fn long_script(alloc: Global) -> Result<Vec<u8>, AllocError> {
 #[test]
 fn long_text(rt: HostRuntime) {
     let script = long_script(rt.alloc()).expect(&rt, "memory");
-    let (_answer, text) = PAGES.answer(rt.alloc(), &script);
+    let (_answer, text) = Call::PageText.answer(rt.alloc(), &script);
     let whole = text.len();
     assert!(&rt; BLOCK < whole && whole < 2 * BLOCK);
     for fail_at in [
@@ -122,7 +117,7 @@ fn long_text(rt: HostRuntime) {
         whole,
         whole + 1,
     ] {
-        let is_told = tells_write(rt.alloc(), PAGES, &script, &text, fail_at, false);
+        let is_told = tells_write(rt.alloc(), Call::PageText, &script, &text, fail_at, false);
         assert!(&rt; is_told, "write {fail_at}");
     }
 }
@@ -132,7 +127,7 @@ fn kept_of(alloc: Global, fail_at: usize, is_kept: bool) -> (Option<Vec<u8>>, bo
     let reader = SlowReader::new(HI.as_bytes(), fail_at);
     let mut input = Watched::new(TeeReader::new(alloc, reader, is_kept));
     let mut output = Watched::new(Vec::new(alloc));
-    let is_whole = PAGES.make(alloc, &mut input, &mut output).is_ok();
+    let is_whole = Call::PageText.make(alloc, &mut input, &mut output).is_ok();
     (input.into_inner().into_bytes(), is_whole)
 }
 
@@ -145,12 +140,8 @@ fn all_that_came_is_kept(rt: HostRuntime) {
         let is_well = kept.as_slice() == came && is_whole == (fail_at > HI.len());
         assert!(&rt; is_well, "read {fail_at}");
     }
-}
-
-#[test]
-fn nothing_is_kept_unasked(rt: HostRuntime) {
     let (kept, is_whole) = kept_of(rt.alloc(), HI.len() + 1, false);
-    assert!(&rt; kept.is_none() && is_whole);
+    assert!(&rt; kept.is_none() && is_whole, "nothing_is_kept_unasked");
 }
 
 #[test]

@@ -4,20 +4,11 @@ use std::alloc::Global;
 use std::io;
 use std::io::{Error, ErrorKind, Read, Write};
 
-/// Counts calls, of which one fails.
-#[derive(Drop)]
-struct Calls {
-    count: usize,
-    fail_at: usize,
-}
-
-impl Calls {
-    /// Counts a call, and returns whether it is the one to fail.
-    fn fails(&mut self) -> bool {
-        let fails = self.count == self.fail_at;
-        self.count = self.count.saturating_add(1);
-        fails
-    }
+/// Counts a call, and returns whether it is the one to fail.
+fn fails(calls: &mut usize, fail_at: usize) -> bool {
+    let fails = *calls == fail_at;
+    *calls = calls.saturating_add(1);
+    fails
 }
 
 /// Gives one byte a call.
@@ -26,7 +17,8 @@ pub struct SlowReader<'a> {
     bytes: &'a [u8],
     /// The bytes given so far.
     pub given: usize,
-    calls: Calls,
+    calls: usize,
+    fail_at: usize,
 }
 
 impl<'a> SlowReader<'a> {
@@ -34,14 +26,15 @@ impl<'a> SlowReader<'a> {
         SlowReader {
             bytes,
             given: 0,
-            calls: Calls { count: 0, fail_at },
+            calls: 0,
+            fail_at,
         }
     }
 }
 
 impl<'a> Read for SlowReader<'a> {
     fn read(&mut self, buf: &mut [u8]) -> io::Result<usize> {
-        if self.calls.fails() {
+        if fails(&mut self.calls, self.fail_at) {
             return Err(Error::from(ErrorKind::Other));
         }
         match (self.bytes.get(self.given), buf.first_mut()) {
@@ -59,7 +52,8 @@ impl<'a> Read for SlowReader<'a> {
 #[derive(Drop)]
 pub struct SlowWriter {
     pub bytes: Vec<u8>,
-    calls: Calls,
+    calls: usize,
+    fail_at: usize,
     /// In place of an error a failing write takes none of its bytes.
     takes_none: bool,
 }
@@ -68,7 +62,8 @@ impl SlowWriter {
     pub fn new(alloc: Global, fail_at: usize, takes_none: bool) -> SlowWriter {
         SlowWriter {
             bytes: Vec::new(alloc),
-            calls: Calls { count: 0, fail_at },
+            calls: 0,
+            fail_at,
             takes_none,
         }
     }
@@ -76,7 +71,7 @@ impl SlowWriter {
 
 impl Write for SlowWriter {
     fn write(&mut self, buf: &[u8]) -> io::Result<usize> {
-        if self.calls.fails() {
+        if fails(&mut self.calls, self.fail_at) {
             if self.takes_none {
                 return Ok(0);
             }
@@ -92,7 +87,7 @@ impl Write for SlowWriter {
     }
 
     fn flush(&mut self) -> io::Result<()> {
-        if self.calls.fails() {
+        if fails(&mut self.calls, self.fail_at) {
             return Err(Error::from(ErrorKind::Other));
         }
         Ok(())
