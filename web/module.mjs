@@ -164,6 +164,9 @@ export const loadPrint1525 = (() => {
   const encode = text => new TextEncoder().encode(text);
   /** @type {any} */
   const NOTHING = new Uint8Array(0);
+  // What a call has that is given no settings at all: the one that it needs is then named.
+  /** @type {any} */
+  const WITHOUT = {};
 
   // What callers give, or a TypeError with the name of the setting: bytes, or a string in their place as UTF-8; words; numbers of a range.
   const wrong = (name, wanted) => { throw new TypeError(`print1525: ${name} must be ${wanted}`); };
@@ -176,7 +179,8 @@ export const loadPrint1525 = (() => {
 
   function numberOf(name, number, least, greatest) {
     const isNumber = typeof number === 'bigint' || Number.isSafeInteger(number);
-    return isNumber && number >= least && number <= greatest ? number : wrong(name, `a whole number from ${least} to ${greatest}`);
+    if (!isNumber || number < least || number > greatest) return wrong(name, `a whole number from ${least} to ${greatest}`);
+    return typeof greatest === 'bigint' ? number : Number(number);
   }
 
   const LARGEST = 2n ** 64n - 1n;
@@ -192,7 +196,7 @@ export const loadPrint1525 = (() => {
   }
 
   // The arguments that say what a recording is.
-  function recording({ bytes, source = 0, names = ['ATN', 'CLOCK', 'DATA'], inverted = false, start = 0, rate = 0 }) {
+  function recording({ bytes, source = 0, names = ['ATN', 'CLOCK', 'DATA'], inverted = false, start = 0, rate = 0 } = WITHOUT) {
     if (!Array.isArray(names) || names.length !== 3) wrong('names', 'three names');
     return [
       bytesOf('bytes', bytes), numberOf('source', source, 0, 4), ...names.map((name, line) => bytesOf(`names[${line}]`, name)), flagOf('inverted', inverted),
@@ -247,7 +251,7 @@ export const loadPrint1525 = (() => {
       // What the program does with the words of a command line, with `input` in the place of the file that they name or of standard
       // input, and `characters` in that of the file of characters: its exit status, what it writes, and its lines for people, which
       // say more where it is `explained`. Of a refusal `fault`, `place` and `column` are numbers, each 0 where it has none.
-      answer({ words, explained = false, input = NOTHING, characters = NOTHING }) {
+      answer({ words, explained = false, input = NOTHING, characters = NOTHING } = WITHOUT) {
         const given = bytesOf('input', input), key = wordsOf(words).join(' '), room = Math.min(Math.max(WIDER * given.length, rooms.get(key) || 0), KEPT / 4);
         const [[status, fault, place, column], output, messages] = texts('print1525_answer', [lineOf(words), flagOf('explained', explained), ANY_STATUS, given, bytesOf('characters', characters)], Math.max(room, ROOM), 4);
         if (rooms.size > 100) rooms.clear();
@@ -256,14 +260,14 @@ export const loadPrint1525 = (() => {
       },
       // The names of the files that words name, or null: that which is read, that which is written and that of characters; and what is
       // said where the input comes from a terminal. With another status than 0 words ask for no task, as `answer` says.
-      names({ words }) {
+      names({ words } = WITHOUT) {
         const [[status], output, messages] = texts('print1525_names', [lineOf(words)], ROOM, 4);
         const parts = new TextDecoder().decode(output).split('\0');
         return { status, names: [0, 1, 2].map(index => (parts[index] ? parts[index].slice(1) : null)), messages };
       },
       // The text of the script that a listing says: itself (form 0), that of a saved program (1), of
       // petcat's text (2), of a magazine's listing (3) or of what its first bytes show (4).
-      listing({ bytes, form = 0 }) {
+      listing({ bytes, form = 0 } = WITHOUT) {
         const given = bytesOf('bytes', bytes);
         // Beside a fault the length is its column.
         return numbered('print1525_listing', [given, numberOf('form', form, 0, 4)], Math.max(ROOM, WIDER * given.length), (memory, at, length, code) => (
@@ -271,10 +275,10 @@ export const loadPrint1525 = (() => {
       },
       // The pages of what a printer hears: 0 to 255 a byte, 256 and 257 the selection of the graphic/upper case or the lower/upper
       // case set. `format` is 0 the page text, 1 lines, 2 SVG, 3 PNG, 4 PDF; `device` and `sheet` show a part, where it can.
-      print({ inputs, format = 0, device = 0, sheet = 0, characters = NOTHING }) {
+      print({ inputs, format = 0, device = 0, sheet = 0, characters = NOTHING } = WITHOUT) {
         const given = heard(inputs), room = Math.max(ROOM, Math.min(WIDER * given.length, KEPT / 4));
-        if (device !== 0) numberOf('device', device, 4, 5);
-        const part = [numberOf('format', format, 0, 4), device, BigInt(numberOf('sheet', sheet, 0, LARGEST))];
+        const printer = device === 0 ? 0 : numberOf('device', device, 4, 5);
+        const part = [numberOf('format', format, 0, 4), printer, BigInt(numberOf('sheet', sheet, 0, LARGEST))];
         return numbered('print1525_print', [given, ...part, bytesOf('characters', characters)], room, text, 1);
       },
       // The edges of a recording, up to its fault: the moment and the levels of each.

@@ -248,6 +248,7 @@ function showRun(answer, version) {
   document.body.classList.toggle('stale', answer.code > 1);
   if (answer.code > 1) {
     if (ofSource) leavePaper();
+    else if ($('wire-cover').querySelector('button')) cover('There is no trace of this listing.');    // (it offered that of the one before)
     return;
   }
   onPaper = version;

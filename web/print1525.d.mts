@@ -63,8 +63,9 @@ export interface Print1525 {
   answer(asked: Asked): Answered;
   /** the files that words name: which is read, which is written, and that of characters; and what is said where the input is a terminal */
   names(asked: { words: string[] }): { status: 0 | 2 | 3; names: (string | null)[]; messages: Uint8Array };
-  /** the text of the script that a listing says: itself (form 0, the default), that of a saved program (1) or of petcat's text (2) */
-  listing(asked: { bytes: Bytes; form?: 0 | 1 | 2 }): Answer & { column: number; text: Uint8Array };
+  /** the text of the script that a listing says: itself (form 0, the default), that of a saved program (1), of petcat's text (2), of a
+   * magazine's (3), or of the one that its first bytes show (4) */
+  listing(asked: { bytes: Bytes; form?: 0 | 1 | 2 | 3 | 4 }): Answer & { column: number; text: Uint8Array };
   /**
    * the pages of what a printer hears: bytes, and 256 and 257, which select the graphic/upper case or the lower/upper case set.
    * `format` is 0 the page text (the default), 1 lines, 2 SVG, 3 PNG, 4 PDF; `device` (4 or 5) and `sheet` (from 1) show a part,

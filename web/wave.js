@@ -129,11 +129,17 @@ export class Wave {
 
   // places
 
-  get width() { return this.canvas.clientWidth - NAMES_WIDTH - RIGHT; }
+  /** The wave's size on the page: where another tab is shown, the one that it had, or one that serves a picture. */
+  get size() {
+    const { clientWidth, clientHeight } = this.canvas;
+    if (clientWidth > 0) this.lastSize = { clientWidth, clientHeight };
+    return this.lastSize ?? { clientWidth: 1024, clientHeight: 220 };
+  }
+  get width() { return this.size.clientWidth - NAMES_WIDTH - RIGHT; }
   xOf(moment) { return NAMES_WIDTH + (moment - this.from) / (this.to - this.from) * this.width; }
   momentAt(x) { return this.from + (x - NAMES_WIDTH) / this.width * (this.to - this.from); }
   rows() {
-    const height = this.canvas.clientHeight, top = 40, bottom = Math.max(height - 44, top + 36), each = (bottom - top) / 3;
+    const height = this.size.clientHeight, top = 40, bottom = Math.max(height - 44, top + 36), each = (bottom - top) / 3;
     return { band: 8, top, bottom, each, axis: bottom + 4, strip: height - 14 };
   }
 
@@ -334,7 +340,7 @@ export class Wave {
 
   /** What is seen of the wave, as an SVG document. */
   svg() {
-    const { clientWidth, clientHeight } = this.canvas, pen = new SvgPen(clientWidth, clientHeight, this.canvas.getContext('2d'));
+    const { clientWidth, clientHeight } = this.size, pen = new SvgPen(clientWidth, clientHeight, this.canvas.getContext('2d'));
     pen.fillStyle = this.inks(getComputedStyle(this.canvas))('ground');
     pen.fillRect(0, 0, clientWidth, clientHeight);
     this.drawWith(pen, clientHeight);
@@ -452,12 +458,14 @@ export class Wave {
     if (eoi) { pen.fillStyle = this.ink('eoi'); pen.fillRect(x + width - eoi - .5, top + 1, eoi, 23); }
     pen.font = `600 12px ${this.font}`;
     const named = frame.byte === null ? frame.name : `$${hexadecimal(frame.byte)} ${frame.name}`, whole = frame.eoi ? `${named} EOI` : frame.fault ? `${named}, ${frame.fault}` : named;
-    const words = [whole, named, frame.name, frame.name.replace(/^(['"])(.)\1$/, '$2')];
+    // (a byte that has no name has its number alone, as everywhere)
+    const short = frame.name === `byte ${frame.byte}` ? `$${hexadecimal(frame.byte)}` : frame.name;
+    const words = [whole, named, short, short.replace(/^(['"])(.)\1$/, '$2')];
     const fits = word => pen.measureText(word).width < width - eoi - 5;
     let fitting = words.find(fits);
     if (!fitting) {
       pen.font = `600 10px ${this.font}`;
-      fitting = [frame.name, ...(frame.byte === null ? [] : [`$${hexadecimal(frame.byte)}`])].find(fits);
+      fitting = [short, ...(frame.byte === null ? [] : [`$${hexadecimal(frame.byte)}`])].find(fits);
     }
     if (!fitting) return;
     pen.fillStyle = chosen ? this.ink('ground') : this.ink('text');
