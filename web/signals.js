@@ -41,10 +41,19 @@ function namesOfDump(head) {
   return names;
 }
 
+const headOf = ({ bytes }) => new TextDecoder().decode(bytes.subarray(0, 2 ** 18));
+
 /** The names of the signals of a file, by its header; a table's first column of times is none. */
-export function signalNames({ bytes, kind }) {
-  const head = new TextDecoder().decode(bytes.subarray(0, 2 ** 18)), names = kind === 'vcd' ? namesOfDump(head) : namesOfTable(head);
+export function signalNames(source) {
+  const names = source.kind === 'vcd' ? namesOfDump(headOf(source)) : namesOfTable(headOf(source));
   return [...new Set(names.filter(Boolean))];
+}
+
+/** What `--names`, where commas part the names, calls a signal: a column with a comma in its name by its number, if no column is called by one. */
+function wordOf(source, name) {
+  if (source.kind !== 'csv' || !name.includes(',')) return name;
+  const columns = namesOfTable(headOf(source));
+  return columns.some(column => /^\d+$/.test(column)) ? name : String(columns.indexOf(name));
 }
 
 /** The name among those of a file that a signal's name means: it is written the same but for case, perhaps without its scopes. */
@@ -93,10 +102,11 @@ function numberField(value, read, act) {
 
 /** The choice of a line's signal among the names of the file. */
 function choiceOfSignal(source, line, names, again) {
-  const select = document.createElement('select'), meant = meantBy(source.names[line], names);
+  const select = document.createElement('select'), given = source.names[line], word = name => wordOf(source, name);
+  const meant = meantBy(given, names) ?? names.find(name => word(name) === given);
   select.name = LINES[line];
-  if (meant === undefined) select.add(new Option('choose …', source.names[line], true, true));
-  for (const name of names) select.add(new Option(name, name, false, name === meant));
+  if (meant === undefined) select.add(new Option('choose …', given, true, true));
+  for (const name of names) select.add(new Option(name, word(name), false, name === meant));
   select.onchange = () => { source.names[line] = select.value || source.names[line]; again(); };
   return select;
 }
