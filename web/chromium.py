@@ -173,8 +173,9 @@ class Page(Waiting):
     def type(self, text):
         self.send("Input.insertText", text=text)
 
-    def press(self, key, code=0, text=None, modifiers=0):
-        more = {"text": text} if text else {}
+    def press(self, key, code=0, text=None, modifiers=0, command=None):
+        """A key; `command` is what the browser edits by it, as its menu would."""
+        more = {**({"text": text} if text else {}), **({"commands": [command]} if command else {})}
         for kind in ("keyDown", "keyUp"):
             self.send("Input.dispatchKeyEvent", type=kind, key=key, windowsVirtualKeyCode=code, modifiers=modifiers, **(more if kind == "keyDown" else {}))
 
