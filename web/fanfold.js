@@ -43,7 +43,7 @@ export function drawn(name, attributes, ...parts) {
 /** The paper of one printer. */
 function paperOf({ sheet, right, down, height }, hasBars) {
   const folds = Array.from({ length: Math.round((height - 2 * EDGE) / SHEET_HEIGHT) + 1 }, (_, fold) => `M0 ${EDGE + fold * SHEET_HEIGHT}h${SHEET_WIDTH}`);
-  const bars = drawn('rect', { x: 2 * EDGE, y: EDGE, width: SHEET_WIDTH - 4 * EDGE, height: height - 2 * EDGE, fill: 'url(#fanfold-bars)' });
+  const bars = drawn('rect', { width: SHEET_WIDTH, height, fill: 'url(#fanfold-bars)' });
   return drawn('g', { transform: `translate(${sheet.x + right} ${SHEET_TOP + down})` },
     drawn('rect', { class: 'sheet', width: SHEET_WIDTH, height }),
     ...(hasBars ? [bars] : []),

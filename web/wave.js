@@ -2,7 +2,7 @@
 // strip below. What is drawn takes as long for a million edges as for a hundred: a column of pixels in which a line
 // turns more than once is one stroke.
 
-import { whenResized } from './basics.js';
+import { whenResized, whenSharper } from './basics.js';
 import { SvgPen } from './pen.js';
 import { ATN, CLOCK, DATA, delaysAt, edgeAt, Frames, halfOf, momentsOf } from './wire.js';
 
@@ -29,6 +29,7 @@ export class Wave {
     Object.assign(this, { begin: 0, end: 0, from: 0, to: 1, moved: false, chosen: -1, pointer: null, mark: null, pointed: null });
     // What is seen at first fits the width, so that frames have room for their names.
     whenResized(canvas, () => { if (this.edges && !this.moved) this.front(); else this.draw(); });
+    whenSharper(() => this.draw());
     for (const query of ['(prefers-color-scheme: dark)', '(forced-colors: active)']) matchMedia(query).addEventListener('change', () => this.draw());
     canvas.addEventListener('keydown', event => this.key(event));
     canvas.addEventListener('wheel', event => this.wheel(event), { passive: false });
