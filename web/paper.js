@@ -32,6 +32,7 @@ export class Paper {
     this.text = '';
     this.picture = null;
     this.places = null;        // where the sheets lie
+    this.enlarged = 1;         // how much larger the words below them are than in the picture, so that they can be read
     this.hasBars = false;      // whether the paper has green bars
     this.size = 0;             // pixels of a pica; 0: the printed width is as wide as there is room
     this.isFitted = false;     // whether it fits even where a dot has less than one of the screen's
@@ -122,10 +123,10 @@ export class Paper {
       // (its heading begins where its lines do, so that it is seen with them)
       const heading = groups[index].querySelector(':scope > text');
       heading.setAttribute('x', String(MARKS_LEFT));
-      heading.setAttribute('font-size', String(Math.max(PICA, HEADING / this.scales().down)));
+      heading.setAttribute('font-size', String(Math.max(PICA, HEADING / this.scale())));
     });
     const words = this.picture.notes && this.svg.querySelector(':scope > text');
-    if (words) words.setAttribute('transform', `translate(630 ${this.picture.notes.y + notes})`);
+    if (words) words.setAttribute('transform', `translate(630 ${this.picture.notes.y + notes}) scale(${this.enlarged})`);
     const name = JSON.stringify([sheets.map(({ sheet, right, down, height }) => [sheet.x, right, down, height]), this.hasBars]);
     if (this.back && name === this.backName) return;
     this.backName = name;
@@ -184,6 +185,8 @@ export class Paper {
     if (!this.picture || !this.element.clientWidth) return;
     const isStacked = this.picture.sheets.length > 1 && this.element.clientWidth < this.picture.width * LEAST_BESIDE;
     this.places = arrange(this.picture, isStacked);
+    this.enlarged = Math.max(HEADING / PICA / this.scale(), 1);
+    this.places = arrange(this.picture, isStacked, this.enlarged);
     const { across, down } = this.scales(), { left, width, height } = this.places;
     this.room.style.width = `${width * across}px`;
     this.room.style.height = `${height * down}px`;
@@ -282,8 +285,8 @@ export class Paper {
     parts.push(this.text.slice(at, notes.from));
     this.noteLines ??= null;
     if (this.noteLines?.text !== this.text) this.noteLines = { text: this.text, lines: this.text.slice(notes.from, notes.to).split('\n') };
-    const lines = this.noteLines.lines, y = notes.y + this.places.notes, first = Math.max(Math.floor((from - y) / PICA) - 2, 0);
-    const some = lines.slice(first, Math.max(Math.ceil((to - y) / PICA) + 2, first));
+    const lines = this.noteLines.lines, y = notes.y + this.places.notes, high = PICA * this.enlarged, first = Math.max(Math.floor((from - y) / high) - 2, 0);
+    const some = lines.slice(first, Math.max(Math.ceil((to - y) / high) + 2, first));
     if (some.length && first) some[0] = some[0].replace('dy="210"', `dy="${210 * (first + 1)}"`);
     return { frame: parts.join('') + some.join('\n') + this.text.slice(notes.to), rows };
   }
