@@ -179,6 +179,11 @@ class Page(Waiting):
         for kind in ("keyDown", "keyUp"):
             self.send("Input.dispatchKeyEvent", type=kind, key=key, windowsVirtualKeyCode=code, modifiers=modifiers, **(more if kind == "keyDown" else {}))
 
+    def edit(self, key):
+        """A key that edits: a letter, Enter, Backspace or Delete."""
+        code, text, command = {"Enter": (13, "\r", None), "Backspace": (8, None, "deleteBackward"), "Delete": (46, None, "deleteForward")}.get(key, (ord(key[0].upper()), key, None))
+        self.press(key, code, text, command=command)
+
     def complaints(self):
         """What went wrong on the page: exceptions, and what the console shows as errors."""
         found = []

@@ -1,5 +1,7 @@
-// A field for a listing of many lines. Chromium lays out all lines of a textarea anew for each key. Here they are in parts, of which
-// it lays out those that are seen or near the selection. Editing, undo, selections and searching are the browser's own.
+// A field for a listing of many lines. Chromium and WebKit lay out all lines of a textarea anew for each key. Here they are in parts,
+// of which they lay out those that are seen or near the selection. Editing, undo, selections and searching are the browser's own.
+
+import { $ } from './basics.js';
 
 const PART = 250;              // lines of a part
 const NEAR = 2;                // parts before and after the selection that are laid out
@@ -24,9 +26,12 @@ function textOf(nodes) {
   return lines.join('\n');
 }
 
-/** Whether a listing belongs into such a field, in this browser. (The text fields of others take less.) */
+/** Whether this browser edits such a field right. (Firefox joins the wrong lines where one is empty, but its textarea takes less.) */
+const hasLongField = () => /AppleWebKit/.test(navigator.userAgent) && CSS.supports('content-visibility', 'auto') && $('long-script').isContentEditable;
+
+/** Whether a listing belongs into such a field. */
 export function isForLongField(text) {
-  if (!/Chrom/.test(navigator.userAgent) || !CSS.supports('content-visibility', 'auto')) return false;
+  if (!hasLongField()) return false;
   let count = 1;
   for (let at = text.indexOf('\n'); at >= 0 && count <= LEAST; at = text.indexOf('\n', at + 1)) count++;
   return count > LEAST;
@@ -97,15 +102,18 @@ export class LongField {
     document.execCommand('delete');
   }
 
-  /** Undoes and does again what belongs to one step. */
+  /** Undoes, or does again, all steps of an edit of several parts, once the first of them is. */
   finish({ inputType }) {
     this.layOut(true);
     const command = { historyUndo: 'undo', historyRedo: 'redo' }[inputType];
-    if (command && !this.isTakingOut && this.text.includes(MARK)) {
-      this.isTakingOut = true;
+    if (!command || this.isTakingOut || !this.text.includes(MARK)) return;
+    this.isTakingOut = true;
+    // (within a command a browser does no other)
+    queueMicrotask(() => {
       for (let turn = 0; turn < 3 && this.text.includes(MARK); turn++) document.execCommand(command);
       this.isTakingOut = false;
-    }
+      this.element.dispatchEvent(new Event('input', { bubbles: true }));
+    });
   }
 
   /** Forgets the texts of parts that have changed. */
