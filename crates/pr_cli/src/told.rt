@@ -41,6 +41,11 @@ const PETCAT_NAMES: &str =
 const MAGAZINE_NAMES: &str = "in a string { begins a name of a key and } ends it, as {CLR}, \
      {5 SPACES}, {SHIFT-A} or {$A0}; [<A>] is A with the Commodore key; a count is 1 to 255";
 
+/// What is said of a magazine's listing with an unknown key.
+const MAGAZINE_KEYS: &str =
+    "in a string [< begins a key that is typed with the Commodore key and >] ends it: a letter, 1 to 8, \
+     or one of @ + - *, as in [<A>], [<5>] or [<3 A>]; a count is 1 to 255";
+
 /// What is said of a magazine's listing with a byte that its strings never have.
 const MAGAZINE_BYTES: &str = "a string of a magazine's listing has capitals, digits and signs: \
      the bytes 32 to 95; --from petcat reads small letters";
@@ -308,16 +313,20 @@ pub fn tell_listing(rt: &impl Eprint, bytes: &[u8], form: ListingForm, fault: Te
                 show_hint(rt, Some(PLAIN_TEXT));
             }
         }
-        TextFault::Listing(ListingFault::UnknownName(..)) => show_hint(rt, Some(names_in(form))),
+        TextFault::Listing(ListingFault::UnknownName(number, column)) => {
+            let line = line_numbered(bytes, number);
+            show_hint(rt, Some(names_in(form, line.get(column.saturating_sub(1)))));
+        }
         TextFault::Listing(ListingFault::BadByte(..)) => show_hint(rt, Some(bytes_in(form))),
         _ => {}
     }
 }
 
-/// What is said of a listing in a form with an unknown name.
-fn names_in(form: ListingForm) -> &'static str {
-    match form {
-        ListingForm::Magazine => MAGAZINE_NAMES,
+/// What is said of a listing in a form with an unknown name, whose brackets begin with this byte.
+fn names_in(form: ListingForm, bracket: Option<&u8>) -> &'static str {
+    match (form, bracket) {
+        (ListingForm::Magazine, Some(b'[')) => MAGAZINE_KEYS,
+        (ListingForm::Magazine, _) => MAGAZINE_NAMES,
         _ => PETCAT_NAMES,
     }
 }
