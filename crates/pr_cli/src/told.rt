@@ -9,8 +9,8 @@ use pr_explain::{
 };
 use pr_jobs::{CliFault, PictureFault, RunEnd};
 use pr_listing::{
-    ListingFault, ListingForm, TextFault, begins_with_heading, found_form, long_token_name,
-    looks_like_text, plain_form, program_byte, token_name,
+    ListingFault, ListingForm, TextFault, begins_with_heading, found_form, is_t64,
+    long_token_name, looks_like_text, plain_form, program_byte, token_name,
 };
 use pr_options::{CheckOutput, DecodeOutput, Job, PagesOutput, Task};
 use pr_recording::Heard;
@@ -28,6 +28,11 @@ const PETCAT_TEXT: &str = "this may be petcat's text: --from petcat reads it";
 /// What is said of a saved program without its load address, or that ends within a line.
 const PROGRAM_FORM: &str = "a saved program is a load address of two bytes, then lines: \
      a link and a number of two bytes each, the line's bytes and 0; a link of 0 ends it";
+
+/// What is said of a T64 file without one.
+const T64_FORM: &str =
+    "the directory of this T64 file has no BASIC program, or says wrongly where it begins or ends; \
+     load it in an emulator, and save it as name.prg";
 
 /// What is said of one that looks like a text.
 const PLAIN_TEXT: &str = "this looks like text: --from text or petcat reads one";
@@ -308,7 +313,7 @@ pub fn tell_listing(rt: &impl Eprint, bytes: &[u8], form: ListingForm, fault: Te
         TextFault::Listing(
             ListingFault::NoAddress | ListingFault::CutOff(_) | ListingFault::NoLine,
         ) => {
-            show_hint(rt, Some(PROGRAM_FORM));
+            show_hint(rt, Some(program_form(bytes)));
             if looks_like_text(bytes) {
                 show_hint(rt, Some(PLAIN_TEXT));
             }
@@ -320,6 +325,14 @@ pub fn tell_listing(rt: &impl Eprint, bytes: &[u8], form: ListingForm, fault: Te
         TextFault::Listing(ListingFault::BadByte(..)) => show_hint(rt, Some(bytes_in(form))),
         _ => {}
     }
+}
+
+/// What is said of a file without a saved program.
+fn program_form(bytes: &[u8]) -> &'static str {
+    if is_t64(bytes) {
+        return T64_FORM;
+    }
+    PROGRAM_FORM
 }
 
 /// What is said of a listing in a form with an unknown name, whose brackets begin with this byte.

@@ -12,6 +12,10 @@ const FIRST_ENTRY: usize = 64;
 /// How many bytes an entry has.
 const ENTRY: usize = 32;
 
+/// How many bytes after its end by its addresses a program of a T64 file may have: many end addresses are one or
+/// two bytes too small, and what follows the last link of a program does not count.
+const SPARE: usize = 2;
+
 /// Whether a file is a P00 file, which emulators keep for a program.
 pub fn is_p00(file: &[u8]) -> bool
     ensures { result ≡ is_p00 file.now }
@@ -116,7 +120,7 @@ fn cut_at_files(file: &[u8], start: usize, limit: usize) -> usize
     stop
 }
 
-/// Where the file of the entry at a place ends by its addresses.
+/// Where the file of the entry at a place ends at the latest, by its addresses.
 fn addressed_end(file: &[u8], place: usize) -> usize
     requires { place < 2 ^ 32 }
     ensures { result ≡ addressed_end file.now place }
@@ -124,7 +128,7 @@ fn addressed_end(file: &[u8], place: usize) -> usize
     let from = address_at(file, place + 2);
     let to = address_at(file, place + 4);
     if from < to {
-        return offset_at(file, place) + (to - from);
+        return offset_at(file, place) + (to - from) + SPARE;
     }
     file.len()
 }
