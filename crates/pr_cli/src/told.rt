@@ -9,8 +9,8 @@ use pr_explain::{
 };
 use pr_jobs::{CliFault, PictureFault, RunEnd};
 use pr_listing::{
-    ListingFault, ListingForm, TextFault, begins_with_heading, found_form, is_t64,
-    long_token_name, looks_like_text, plain_form, program_byte, token_name,
+    ListingFault, ListingForm, TextFault, begins_with_heading, found_form, is_p00,
+    is_t64, long_token_name, looks_like_text, plain_form, program_byte, token_name,
 };
 use pr_options::{CheckOutput, DecodeOutput, Job, PagesOutput, Task};
 use pr_recording::Heard;
@@ -28,6 +28,11 @@ const PETCAT_TEXT: &str = "this may be petcat's text: --from petcat reads it";
 /// What is said of a saved program without its load address, or that ends within a line.
 const PROGRAM_FORM: &str = "a saved program is a load address of two bytes, then lines: \
      a link and a number of two bytes each, the line's bytes and 0; a link of 0 ends it";
+
+/// What is said of a P00 file without one.
+const P00_FORM: &str =
+    "this is a P00 file, whose name says by its ending what follows its header of 26 bytes: \
+     .p00 to .p99 a program, .s00, .u00 and .r00 data";
 
 /// What is said of a T64 file without one.
 const T64_FORM: &str =
@@ -329,10 +334,13 @@ pub fn tell_listing(rt: &impl Eprint, bytes: &[u8], form: ListingForm, fault: Te
 
 /// What is said of a file without a saved program.
 fn program_form(bytes: &[u8]) -> &'static str {
-    if is_t64(bytes) {
-        return T64_FORM;
+    if is_p00(bytes) {
+        P00_FORM
+    } else if is_t64(bytes) {
+        T64_FORM
+    } else {
+        PROGRAM_FORM
     }
-    PROGRAM_FORM
 }
 
 /// What is said of a listing in a form with an unknown name, whose brackets begin with this byte.

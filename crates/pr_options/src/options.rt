@@ -290,6 +290,8 @@ const FOREIGN_LISTINGS: &[Ending] = &[
     (".g71", "g71"),
     (".nib", "nib"),
     (".s00", "s00"),
+    (".u00", "u00"),
+    (".r00", "r00"),
     (".tap", "tap"),
     (".crt", "crt"),
     (".lnx", "lnx"),
