@@ -10,7 +10,7 @@ ghost use Rattle.pr_cli.specs.declared.statuses.End.TheVariants as end;
 
 use crate::characters::{shapes_for, shapes_given};
 use crate::jobs::{Answer, do_job, found_job};
-use crate::notes::{drawn_by, has_more_capitals, note_capitals, note_held, note_stop};
+use crate::notes::{drawn_by, note_held, note_stop, petcat_note};
 use crate::outside::Outside;
 use crate::progress::{Progress, clear};
 use crate::refusals::{refuse, refuse_same};
@@ -18,8 +18,8 @@ use crate::shown::Shown;
 use crate::starts::started_job;
 use crate::statuses::{End, FAILED, is_answered};
 use crate::told::{
-    Listing, Subject, has_more, has_notes, listing_of, show_oddities, subject_of, tell_heard,
-    tell_listing, tell_more, tell_notes,
+    Listing, Subject, has_more, has_notes, listing_of, show_note, show_oddities, subject_of,
+    tell_heard, tell_listing, tell_more, tell_notes,
 };
 use pr_dots::Shapes;
 use pr_files::{Noting, Unsaved, save};
@@ -98,8 +98,8 @@ struct Aside<'a> {
     is_noted: bool,
     /// Nothing is said but faults and explanations.
     is_quiet: bool,
-    /// The listing is petcat's text, and its strings have more capitals than small letters.
-    has_capitals: bool,
+    /// What is to be noted of the listing of which a script was made.
+    note: Option<&'static str>,
     /// The input can be read a second time for that: it is a file by name, and no pipe or device. Any other is kept.
     is_file: bool,
     /// How many bytes have come of the input.
@@ -161,7 +161,7 @@ fn answer_named(
         is_advised: manner.is_watched && !manner.is_explained && !manner.is_quiet,
         is_noted: !manner.is_quiet && (manner.is_explained || manner.is_watched),
         is_quiet: manner.is_quiet,
-        has_capitals: false,
+        note: None,
         is_file: false,
         count: &count,
         is_shown: &is_shown,
@@ -230,7 +230,7 @@ pub fn answer_given(
         is_advised: false,
         is_noted: telling.is_explained && !telling.is_quiet,
         is_quiet: telling.is_quiet,
-        has_capitals: false,
+        note: None,
         is_file: false,
         count: &count,
         is_shown: &is_shown,
@@ -501,7 +501,7 @@ fn answer_listing<R: Read + Drop, W: Write + Drop>(
             let listing = listing_of(form, kept.as_deref());
             let aside = Aside {
                 is_file: false,
-                has_capitals: aside.is_noted && is_shouted(listing),
+                note: listing_note(listing),
                 ..aside
             };
             answer_over(rt, text.as_slice(), writer, names, listing, work, aside)
@@ -516,11 +516,11 @@ fn answer_listing<R: Read + Drop, W: Write + Drop>(
     }
 }
 
-/// Whether a listing is petcat's text, and has more capitals than small letters in its strings.
-fn is_shouted(listing: Option<Listing<'_>>) -> bool {
+/// What is to be noted of a listing by its own bytes.
+fn listing_note(listing: Option<Listing<'_>>) -> Option<&'static str> {
     match listing {
-        Some(listing) => { listing.form == ListingForm::Petcat && has_more_capitals(listing.bytes) }
-        None => false,
+        Some(listing) if listing.form == ListingForm::Petcat => petcat_note(listing.bytes),
+        _ => None,
     }
 }
 
@@ -645,9 +645,7 @@ fn tell_read<R: Read + Drop>(
             tell_more(rt, bytes.as_slice(), listing, subject, end);
         }
         if is_noted {
-            if aside.has_capitals {
-                note_capitals(rt);
-            }
+            show_note(rt, aside.note);
             tell_notes(rt, bytes.as_slice(), subject);
         }
     }

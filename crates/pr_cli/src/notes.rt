@@ -19,6 +19,25 @@ const TYPED_STRINGS: &str =
 const PETCAT_CAPITALS: &str =
     "capitals in the strings of petcat's text print graphics; --from text sends strings as they are";
 
+/// What is said of petcat's text whose heading seems to have other lines in it.
+const HEADING_RETURNS: &str =
+    "a heading of petcat's text has carriage returns in it, which do not end a line here, so what follows them is no line \
+     of the program: if it was meant to be, save the text with LF or CR LF line ends";
+
+/// What is said of a script or a magazine's listing with names of keys in square brackets.
+const SQUARE_NAMES: &str =
+    "names of keys in square brackets are printed as they are: --from magazine reads a name in braces, as {CLR}, \
+     and in [< and >] a key that is typed with the Commodore key, as [<A>]";
+
+/// The names of keys that some magazines print in square brackets.
+const KEY_NAMES: [&str; 13] = [
+    "CLR", "CLEAR", "HOME", "UP", "DOWN", "LEFT", "RIGHT", "RVS", "RVS ON", "RVS OFF", "SPACE",
+    "SPACES", "SPC",
+];
+
+/// The most bytes that stand between square brackets around the name of a key: a count, a space and a name.
+const LONGEST_NAME: usize = 11;
+
 /// What is said of a run that a BASIC error stopped.
 const STOPPED: &str = "a BASIC error stopped the run; --explain says which one, and where";
 
@@ -46,6 +65,9 @@ pub fn note_script(rt: &impl Eprint, script: &[u8], form: ListingForm) {
     if is_script(form) && is_typed(script) {
         note(rt, TYPED_STRINGS);
     }
+    if (is_script(form) || form == ListingForm::Magazine) && has_square_names(script) {
+        note(rt, SQUARE_NAMES);
+    }
     if let Some(line) = line_with_return(script) {
         let _ = rt.eprintln(format_args!(
             "print1525: note: line {line} has a remark with carriage returns in it, which do not end a line here: \
@@ -57,9 +79,15 @@ pub fn note_script(rt: &impl Eprint, script: &[u8], form: ListingForm) {
     }
 }
 
-/// Writes a note of petcat's text with more capitals than small letters in its strings.
-pub fn note_capitals(rt: &impl Eprint) {
-    note(rt, PETCAT_CAPITALS);
+/// What is to be noted of petcat's text by its own bytes, before a script is made of it.
+pub fn petcat_note(text: &[u8]) -> Option<&'static str> {
+    if has_line_in_heading(text) {
+        Some(HEADING_RETURNS)
+    } else if has_more_capitals(text) {
+        Some(PETCAT_CAPITALS)
+    } else {
+        None
+    }
 }
 
 /// Writes a note of a run of which nothing else is said.
@@ -213,6 +241,83 @@ fn has_line_behind_return(remark: &[u8]) -> bool {
     false
 }
 
+/// Whether a heading of petcat's text has a byte 13 with another line behind it, as it seems.
+fn has_line_in_heading(text: &[u8]) -> bool {
+    let mut rest = text;
+    while !rest.is_empty() {
+        let (line, more) = cut_line(rest);
+        if line.starts_with(b";") && has_line_behind_return(line) {
+            return true;
+        }
+        rest = more;
+    }
+    false
+}
+
+/// Whether a string of a script has the name of a key in square brackets. What is in a remark is no string.
+fn has_square_names(script: &[u8]) -> bool {
+    let mut rest = script;
+    while !rest.is_empty() {
+        let (line, more) = cut_line(rest);
+        let before = line.len().saturating_sub(remark_of(line).len());
+        if has_square_name(&line[..before]) {
+            return true;
+        }
+        rest = more;
+    }
+    false
+}
+
+/// Whether a string has such a name, in the part of a line before its remark.
+fn has_square_name(front: &[u8]) -> bool {
+    let mut is_quoted = false;
+    for i in 0..front.len() {
+        match front[i] {
+            b'"' => is_quoted = !is_quoted,
+            b'[' if is_quoted && begins_square_name(&front[i + 1..]) => return true,
+            _ => {}
+        }
+    }
+    false
+}
+
+/// Whether bytes begin with the name of a key and a square bracket behind it.
+fn begins_square_name(bytes: &[u8]) -> bool {
+    for (i, byte) in bytes.iter().enumerate() {
+        if *byte == b']' {
+            return is_square_name(&bytes[..i]);
+        }
+        if i == LONGEST_NAME || *byte == b'"' {
+            return false;
+        }
+    }
+    false
+}
+
+/// Whether a name between square brackets is a key's, maybe behind a count: a word, or one byte between `<` and `>`.
+fn is_square_name(name: &[u8]) -> bool {
+    if matches!(name, [b'<', _, b'>'] | [b'<', _, b' ', _, b'>']) {
+        return true;
+    }
+    let word = after_count(name);
+    for known in KEY_NAMES {
+        if word.eq_ignore_ascii_case(known.as_bytes()) {
+            return true;
+        }
+    }
+    false
+}
+
+/// What is behind the digits and spaces in front.
+fn after_count(name: &[u8]) -> &[u8] {
+    for (i, byte) in name.iter().enumerate() {
+        if !byte.is_ascii_digit() && *byte != b' ' {
+            return &name[i..];
+        }
+    }
+    name
+}
+
 /// Two lines of a script of which the later one has no greater number; each by its place, from 1, and its number.
 #[derive(Clone, Copy)]
 struct Unsorted {
@@ -272,7 +377,7 @@ fn label_of(line: &[u8]) -> Option<u64> {
 }
 
 /// Whether the strings of petcat's text have more capitals than small letters. What is between braces is a name.
-pub fn has_more_capitals(text: &[u8]) -> bool {
+fn has_more_capitals(text: &[u8]) -> bool {
     let mut capitals: usize = 0;
     let mut smalls: usize = 0;
     let mut is_quoted = false;

@@ -25,6 +25,12 @@ const SAVED_PROGRAM: &str = "this looks like a saved program: --from prg reads o
 /// What is said of a refused script whose strings have them too, or that begins with petcat's heading.
 const PETCAT_TEXT: &str = "this may be petcat's text: --from petcat reads it";
 
+/// What is said of a refused script with two bytes a letter.
+const WIDE_SCRIPT: &str = "this is text in UTF-16; save it as ASCII or UTF-8";
+
+/// What is said of a refused script with a byte 26 at the end of the refused line.
+const END_MARK: &str = "the byte 26 is an end mark of old systems; save the listing without it";
+
 /// What is said of a saved program without its load address, or that ends within a line.
 const PROGRAM_FORM: &str = "a saved program is a load address of two bytes, then lines: \
      a link and a number of two bytes each, the line's bytes and 0; a link of 0 ends it";
@@ -59,6 +65,9 @@ const MAGAZINE_KEYS: &str =
 /// What is said of a magazine's listing with a byte that its strings never have.
 const MAGAZINE_BYTES: &str = "a string of a magazine's listing has capitals, digits and signs: \
      the bytes 32 to 95; --from petcat reads small letters";
+
+/// What is said of a magazine's listing with a key in square brackets that is typed with shift.
+const MAGAZINE_SHIFT: &str = "a key that is typed with shift has a name in braces, as {SHIFT-A}";
 
 /// What is said of petcat's text with a byte that it never has.
 const PETCAT_BYTES: &str =
@@ -281,14 +290,37 @@ fn script_hint(
     form: ListingForm,
     answer: Result<RunEnd, CliFault>,
 ) -> Option<&'static str> {
-    match answer {
-        Err(CliFault::Script(_)) if is_script(form) && found_form(script) == ListingForm::Program =>
-            { Some(SAVED_PROGRAM) }
-        Err(CliFault::Script(fault))
-            if is_script(form) && may_be_petcat(script) && !is_letter(script, fault) => {
-            Some(PETCAT_TEXT)
-        }
-        _ => None,
+    let Err(CliFault::Script(fault)) = answer else {
+        return None;
+    };
+    if is_script(form) && found_form(script) == ListingForm::Program {
+        Some(SAVED_PROGRAM)
+    } else if is_wide(script) {
+        Some(WIDE_SCRIPT)
+    } else if ends_with_mark(script, fault) {
+        Some(END_MARK)
+    } else if (is_script(form) || form == ListingForm::Magazine)
+        && may_be_petcat(script)
+        && !is_letter(script, fault) {
+        Some(PETCAT_TEXT)
+    } else {
+        None
+    }
+}
+
+/// Whether a script has two bytes a letter: a mark says so in front, or two letters do.
+fn is_wide(script: &[u8]) -> bool {
+    matches!(
+        script,
+        [0xff, 0xfe, ..] | [0xfe, 0xff, ..] | [1.., 0, 1.., 0, ..] | [0, 1.., 0, 1.., ..]
+    )
+}
+
+/// Whether the refused line of a script ends with a byte 26.
+fn ends_with_mark(script: &[u8], fault: ScriptFault) -> bool {
+    match line_number(fault) {
+        Some(number) => matches!(line_numbered(script, number), [.., 26]),
+        None => false,
     }
 }
 
@@ -327,7 +359,10 @@ pub fn tell_listing(rt: &impl Eprint, bytes: &[u8], form: ListingForm, fault: Te
             let line = line_numbered(bytes, number);
             show_hint(rt, Some(names_in(form, line.get(column.saturating_sub(1)))));
         }
-        TextFault::Listing(ListingFault::BadByte(..)) => show_hint(rt, Some(bytes_in(form))),
+        TextFault::Listing(ListingFault::BadByte(number, column)) => {
+            let line = line_numbered(bytes, number);
+            show_hint(rt, Some(bytes_in(form, line, column)));
+        }
         _ => {}
     }
 }
@@ -352,10 +387,12 @@ fn names_in(form: ListingForm, bracket: Option<&u8>) -> &'static str {
     }
 }
 
-/// What is said of a listing in a form with a byte that its strings never have.
-fn bytes_in(form: ListingForm) -> &'static str {
-    match form {
-        ListingForm::Magazine => MAGAZINE_BYTES,
+/// What is said of a line of a listing in a form with a byte that its strings never have.
+fn bytes_in(form: ListingForm, line: &[u8], column: usize) -> &'static str {
+    let bytes = (line.get(column.wrapping_sub(2)), line.get(column.saturating_sub(1)));
+    match (form, bytes) {
+        (ListingForm::Magazine, (Some(b'['), Some(b's'))) => MAGAZINE_SHIFT,
+        (ListingForm::Magazine, _) => MAGAZINE_BYTES,
         _ => PETCAT_BYTES,
     }
 }
