@@ -526,7 +526,7 @@ fn listing_note(listing: Option<Listing<'_>>) -> Option<&'static str> {
 
 /// Writes what more there is to say of a listing without a text, or how to get that.
 fn explain_listing<R: Read + Drop>(
-    rt: &impl Eprint,
+    rt: &(impl Eprint + AllocGlobal),
     kept: TeeReader<R>,
     form: ListingForm,
     fault: TextFault,

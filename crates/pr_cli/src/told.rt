@@ -4,8 +4,8 @@ use crate::notes::{is_script, is_typed, note_bytes, note_script};
 use pr_basic::{ScriptFault, StatusMode, cut_line};
 use pr_capture::{Source, TraceFormat, TraceInput};
 use pr_explain::{
-    Explanation, ScriptPlace, explain_line, explain_reading, explain_script, explain_stop,
-    explain_trace, remark_on,
+    Explanation, ScriptPlace, explain_letter, explain_line, explain_reading, explain_script,
+    explain_stop, explain_trace, remark_on,
 };
 use pr_jobs::{CliFault, PictureFault, RunEnd};
 use pr_listing::{
@@ -21,6 +21,9 @@ use std::alloc::{AllocError, Global};
 
 /// What is said of a refused script that looks like a saved program.
 const SAVED_PROGRAM: &str = "this looks like a saved program: --from prg reads one";
+
+/// What is said of a saved program that has the letters of a keyword.
+const LETTERS: &str = "letters spell no keyword in a saved program: its keywords are bytes from 128 on";
 
 /// What is said of a refused script whose strings have them too, or that begins with petcat's heading.
 const PETCAT_TEXT: &str = "this may be petcat's text: --from petcat reads it";
@@ -68,6 +71,10 @@ const MAGAZINE_BYTES: &str = "a string of a magazine's listing has capitals, dig
 
 /// What is said of a magazine's listing with a key in square brackets that is typed with shift.
 const MAGAZINE_SHIFT: &str = "a key that is typed with shift has a name in braces, as {SHIFT-A}";
+
+/// Pi, as UTF-8 has it, and what is said of it in a string of a typed listing.
+const PI: &[u8] = b"\xcf\x80";
+const PI_NAME: &str = "this is pi, which is {$de} in the strings of such a listing";
 
 /// What is said of petcat's text with a byte that it never has.
 const PETCAT_BYTES: &str =
@@ -284,7 +291,8 @@ fn hint_of(
     }
 }
 
-/// What a script's text may be meant for, where it was not given in another form.
+/// What a script's text may be meant for, which was made of a listing in this form. That of a saved program begins with a
+/// digit.
 fn script_hint(
     script: &[u8],
     form: ListingForm,
@@ -293,7 +301,7 @@ fn script_hint(
     let Err(CliFault::Script(fault)) = answer else {
         return None;
     };
-    if is_script(form) && found_form(script) == ListingForm::Program {
+    if found_form(script) == ListingForm::Program {
         Some(SAVED_PROGRAM)
     } else if is_wide(script) {
         Some(WIDE_SCRIPT)
@@ -312,7 +320,7 @@ fn script_hint(
 fn is_wide(script: &[u8]) -> bool {
     matches!(
         script,
-        [0xff, 0xfe, ..] | [0xfe, 0xff, ..] | [1.., 0, 1.., 0, ..] | [0, 1.., 0, 1.., ..]
+        [0xff, 0xfe, ..] | [0xfe, 0xff, ..] | [1..=255, 0, 1..=255, 0, ..] | [0, 1..=255, 0, 1..=255, ..]
     )
 }
 
@@ -344,7 +352,12 @@ fn may_be_petcat(script: &[u8]) -> bool {
 }
 
 /// Writes what more there is to say of a listing that has no text, on standard error.
-pub fn tell_listing(rt: &impl Eprint, bytes: &[u8], form: ListingForm, fault: TextFault) {
+pub fn tell_listing(
+    rt: &(impl Eprint + AllocGlobal),
+    bytes: &[u8],
+    form: ListingForm,
+    fault: TextFault,
+) {
     let form = plain_form(form, bytes);
     match fault {
         TextFault::Listing(
@@ -360,8 +373,7 @@ pub fn tell_listing(rt: &impl Eprint, bytes: &[u8], form: ListingForm, fault: Te
             show_hint(rt, Some(names_in(form, line.get(column.saturating_sub(1)))));
         }
         TextFault::Listing(ListingFault::BadByte(number, column)) => {
-            let line = line_numbered(bytes, number);
-            show_hint(rt, Some(bytes_in(form, line, column)));
+            tell_byte(rt, form, line_numbered(bytes, number), column.saturating_sub(1));
         }
         _ => {}
     }
@@ -387,12 +399,28 @@ fn names_in(form: ListingForm, bracket: Option<&u8>) -> &'static str {
     }
 }
 
-/// What is said of a line of a listing in a form with a byte that its strings never have.
-fn bytes_in(form: ListingForm, line: &[u8], column: usize) -> &'static str {
-    let bytes = (line.get(column.wrapping_sub(2)), line.get(column.saturating_sub(1)));
-    match (form, bytes) {
-        (ListingForm::Magazine, (Some(b'['), Some(b's'))) => MAGAZINE_SHIFT,
-        (ListingForm::Magazine, _) => MAGAZINE_BYTES,
+/// Writes what more there is to say of a line of a listing in a form that has, behind so many bytes, a byte that its
+/// strings never have.
+fn tell_byte(
+    rt: &(impl Eprint + AllocGlobal),
+    form: ListingForm,
+    line: &[u8],
+    before: usize,
+) {
+    let (front, rest) = line.split_at(before.min(line.len()));
+    if rest.starts_with(PI) {
+        show_hint(rt, Some(PI_NAME));
+    } else {
+        show(rt, explain_letter(rt.alloc(), rest));
+    }
+    show_hint(rt, Some(bytes_in(form, front, rest)));
+}
+
+/// What is said of a listing in a form with a byte that its strings never have, in front of `rest`.
+fn bytes_in(form: ListingForm, front: &[u8], rest: &[u8]) -> &'static str {
+    match (form, front, rest) {
+        (ListingForm::Magazine, [.., b'['], [b's', ..]) => MAGAZINE_SHIFT,
+        (ListingForm::Magazine, _, _) => MAGAZINE_BYTES,
         _ => PETCAT_BYTES,
     }
 }
@@ -462,7 +490,8 @@ fn refusal_told(
 }
 
 /// Why a script is refused that is made of a listing, by its line with the fault: a saved program's byte that the script
-/// has as `?` has its own name in the last line, and of a typed listing it is said of which text the column is.
+/// has as `?` has its own name in the last line, its letters are no keyword with spaces, and of a typed listing it is said
+/// of which text the column is.
 fn listing_told(
     alloc: Global,
     text: String,
@@ -474,6 +503,10 @@ fn listing_told(
     match listing.form {
         ListingForm::Program if matches!(line.get(before), Some(b'?')) => {
             byte_told(alloc, text, listing.bytes, place)
+        }
+        ListingForm::Program if text.as_str().ends_with(" without spaces\n") => {
+            let front = without_last_line(text.as_str());
+            format!(in alloc; "{front}\n  {LETTERS}\n")
         }
         ListingForm::Petcat | ListingForm::Magazine => {
             format!(in alloc; "{text}  the column is of the script made of it\n")
