@@ -10,7 +10,7 @@ ghost use Rattle.pr_cli.specs.declared.statuses.End.TheVariants as end;
 
 use crate::characters::{shapes_for, shapes_given};
 use crate::jobs::{Answer, do_job, found_job};
-use crate::notes::{drawn_by, note_held, note_stop, petcat_note};
+use crate::notes::{drawn_by, note_held, note_stop, petcat_note, program_note};
 use crate::outside::Outside;
 use crate::progress::{Progress, clear};
 use crate::refusals::{refuse, refuse_same};
@@ -518,9 +518,11 @@ fn answer_listing<R: Read + Drop, W: Write + Drop>(
 
 /// What is to be noted of a listing by its own bytes.
 fn listing_note(listing: Option<Listing<'_>>) -> Option<&'static str> {
-    match listing {
-        Some(listing) if listing.form == ListingForm::Petcat => petcat_note(listing.bytes),
-        _ => None,
+    let listing = listing?;
+    match listing.form {
+        ListingForm::Petcat => petcat_note(listing.bytes),
+        ListingForm::Program => program_note(listing.bytes),
+        ListingForm::Text | ListingForm::Magazine | ListingForm::Auto => None,
     }
 }
 

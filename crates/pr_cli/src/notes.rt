@@ -2,7 +2,9 @@
 
 use pr_basic::cut_line;
 use pr_jobs::{HeldMarks, PagesEnd, shown_of};
-use pr_listing::{ListingForm, has_typed_strings, looks_like_disk, looks_saved};
+use pr_listing::{
+    ListingForm, has_typed_strings, is_t64, looks_like_disk, looks_saved, tape_files,
+};
 use pr_options::{Job, PagesOutput};
 use pr_render::Format;
 use pr_serial::Present;
@@ -37,6 +39,11 @@ const KEY_NAMES: [&str; 13] = [
 
 /// The most bytes that stand between square brackets around the name of a key: a count, a space and a name.
 const LONGEST_NAME: usize = 11;
+
+/// What is said of a T64 file with more than one program.
+const TAPE_FILES: &str =
+    "this T64 file has several programs, of which the first one is read; an emulator loads another, \
+     and saves that as name.prg";
 
 /// What is said of a run that a BASIC error stopped.
 const STOPPED: &str = "a BASIC error stopped the run; --explain says which one, and where";
@@ -85,6 +92,15 @@ pub fn petcat_note(text: &[u8]) -> Option<&'static str> {
         Some(HEADING_RETURNS)
     } else if has_more_capitals(text) {
         Some(PETCAT_CAPITALS)
+    } else {
+        None
+    }
+}
+
+/// What is to be noted of the file of a saved program by its own bytes.
+pub fn program_note(file: &[u8]) -> Option<&'static str> {
+    if is_t64(file) && tape_files(file) > 1 {
+        Some(TAPE_FILES)
     } else {
         None
     }

@@ -1,7 +1,7 @@
 //! A saved program in a file of another kind, after a header.
 
 ghost use Rattle.std.specs.Prelude.{◌≡◌, ◌≤◌, ◌<◌, ◌+◌, ◌*◌, ◌^◌, drop, slice_index_or, take, IfSome};
-ghost use Rattle.pr_listing.specs.Containers.{address_at, addressed_end, cut_at_files, entry_count, entry_program, is_p00, is_t64, is_used, nearer_end, offset_at, program_at, program_in, used_from};
+ghost use Rattle.pr_listing.specs.Containers.{address_at, addressed_end, cut_at_files, entry_count, entry_program, file_count, is_p00, is_t64, is_used, nearer_end, offset_at, program_at, program_in, tape_files, used_count, used_from};
 
 /// How many bytes are before the program in a P00 file.
 const P00_HEADER: usize = 26;
@@ -91,6 +91,32 @@ fn used_entry(file: &[u8]) -> Option<usize>
         place += ENTRY;
     }
     None
+}
+
+/// How many files the entry at a place is of: one, or none.
+#[tactic(auto, unfolding(crate::specs::Containers::file_count))]
+fn file_count(file: &[u8], place: usize) -> usize
+    ensures value { result ≡ file_count file.now place }
+    ensures small { result ≤ 1 }
+{
+    if is_used(file, place) {
+        return 1;
+    }
+    0
+}
+
+/// Returns how many files a T64 file has: the entries of its directory that are in use.
+#[tactic(auto, unfolding(crate::specs::Containers::used_count))]
+pub fn tape_files(file: &[u8]) -> usize
+    ensures { result ≡ tape_files file.now }
+{
+    let mut count = 0;
+    let mut place = FIRST_ENTRY;
+    for _number in 0..entry_count(file) {
+        count += file_count(file, place);
+        place += ENTRY;
+    }
+    count
 }
 
 /// The limit of a file of a T64 file that begins at `start`, or before the limit where the file of the entry at a
