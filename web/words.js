@@ -29,6 +29,7 @@ const WORDS = [
   [/pages prints it, bus writes its trace/, 'read it as a listing'],
   [/; --from petcat reads both as typed.*/, ''],
   [/; --from petcat reads small letters/, ''],
+  [/ \(--from magazine\)/, ''],
   [/: --from petcat reads it/, ''],
   [/--from text sends strings as they are/, 'the form “a script” sends strings as they are'],
   [/: (pages )?--from prg (reads|runs) one/, ''],

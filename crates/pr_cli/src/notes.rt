@@ -28,8 +28,8 @@ const HEADING_RETURNS: &str =
 
 /// What is said of a script or a magazine's listing with names of keys in square brackets.
 const SQUARE_NAMES: &str =
-    "names of keys in square brackets are printed as they are: --from magazine reads a name in braces, as {CLR}, \
-     and in [< and >] a key that is typed with the Commodore key, as [<A>]";
+    "names of keys in square brackets are printed as they are: a magazine's listing (--from magazine) has them in braces, \
+     as {CLR}, and in [< and >] a key that is typed with the Commodore key, as [<A>]";
 
 /// The names of keys that some magazines print in square brackets.
 const KEY_NAMES: [&str; 13] = [
