@@ -9,8 +9,8 @@ use pr_explain::{
 };
 use pr_jobs::{CliFault, PictureFault, RunEnd};
 use pr_listing::{
-    ListingFault, ListingForm, TextFault, begins_with_heading, found_form, is_p00,
-    is_t64, long_token_name, looks_like_text, plain_form, program_byte, token_name,
+    ListingFault, ListingForm, TextFault, begins_with_heading, found_form, is_p00, is_t64,
+    long_token_name, looks_like_text, plain_form, program_byte, token_name,
 };
 use pr_options::{CheckOutput, DecodeOutput, Job, PagesOutput, Task};
 use pr_recording::Heard;
@@ -23,7 +23,8 @@ use std::alloc::{AllocError, Global};
 const SAVED_PROGRAM: &str = "this looks like a saved program: --from prg reads one";
 
 /// What is said of a saved program that has the letters of a keyword.
-const LETTERS: &str = "letters spell no keyword in a saved program: its keywords are bytes from 128 on";
+const LETTERS: &str =
+    "letters spell no keyword in a saved program: its keywords are bytes from 128 on";
 
 /// What is said of a refused script whose strings have them too, or that begins with petcat's heading.
 const PETCAT_TEXT: &str = "this may be petcat's text: --from petcat reads it";
@@ -74,6 +75,7 @@ const MAGAZINE_SHIFT: &str = "a key that is typed with shift has a name in brace
 
 /// Pi, as UTF-8 has it, and what is said of it in a string of a typed listing.
 const PI: &[u8] = b"\xcf\x80";
+
 const PI_NAME: &str = "this is pi, which is {$de} in the strings of such a listing";
 
 /// What is said of petcat's text with a byte that it never has.
@@ -309,7 +311,8 @@ fn script_hint(
         Some(END_MARK)
     } else if (is_script(form) || form == ListingForm::Magazine)
         && may_be_petcat(script)
-        && !is_letter(script, fault) {
+        && !is_letter(script, fault)
+    {
         Some(PETCAT_TEXT)
     } else {
         None
@@ -320,7 +323,10 @@ fn script_hint(
 fn is_wide(script: &[u8]) -> bool {
     matches!(
         script,
-        [0xff, 0xfe, ..] | [0xfe, 0xff, ..] | [1..=255, 0, 1..=255, 0, ..] | [0, 1..=255, 0, 1..=255, ..]
+        [0xff, 0xfe, ..]
+            | [0xfe, 0xff, ..]
+            | [1..=255, 0, 1..=255, 0, ..]
+            | [0, 1..=255, 0, 1..=255, ..]
     )
 }
 
@@ -373,7 +379,12 @@ pub fn tell_listing(
             show_hint(rt, Some(names_in(form, line.get(column.saturating_sub(1)))));
         }
         TextFault::Listing(ListingFault::BadByte(number, column)) => {
-            tell_byte(rt, form, line_numbered(bytes, number), column.saturating_sub(1));
+            tell_byte(
+                rt,
+                form,
+                line_numbered(bytes, number),
+                column.saturating_sub(1),
+            );
         }
         _ => {}
     }
@@ -401,12 +412,7 @@ fn names_in(form: ListingForm, bracket: Option<&u8>) -> &'static str {
 
 /// Writes what more there is to say of a line of a listing in a form that has, behind so many bytes, a byte that its
 /// strings never have.
-fn tell_byte(
-    rt: &(impl Eprint + AllocGlobal),
-    form: ListingForm,
-    line: &[u8],
-    before: usize,
-) {
+fn tell_byte(rt: &(impl Eprint + AllocGlobal), form: ListingForm, line: &[u8], before: usize) {
     let (front, rest) = line.split_at(before.min(line.len()));
     if rest.starts_with(PI) {
         show_hint(rt, Some(PI_NAME));
