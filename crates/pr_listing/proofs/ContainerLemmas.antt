@@ -1,6 +1,7 @@
 -- Entries of a T64 file that are passed one by one.
 use Rattle.std.proofs.Common.{◌≡◌, ℕ, suc, ◌+◌, ◌-◌, ◌<◌, false, List, refl, arith}
-use Rattle.pr_listing.specs.Containers.{cut_at_files, file_count, is_used, nearer_end, used_count, used_from}
+use Rattle.pr_listing.specs.Containers.{cut_at_files, is_used, nearer_end, used_from}
+use Rattle.pr_listing.specs.Hints.{file_count, used_count}
 
 -- an entry of no file is passed
 pub used-passed : (file : List ℕ) (entry count i : ℕ) → i < count → is_used file entry ≡ false → used_from file entry (count - i) ≡ used_from file (entry + 32) (count - (i + 1))

@@ -32,19 +32,6 @@ used_from file entry zero = None
 used_from file entry (suc n) =
     if is_used file entry then Some entry else used_from file (entry + 32) n
 
--- an entry is of one file, or of none
-unfoldable pub file_count : List ℕ → ℕ → ℕ
-file_count file entry = if is_used file entry then 1 else 0
-
--- how many of n entries of 32 bytes from a place on are of a file
-unfoldable pub used_count : List ℕ → ℕ → ℕ → ℕ
-used_count file entry zero = 0
-used_count file entry (suc n) = file_count file entry + used_count file (entry + 32) n
-
--- how many files a T64 file has
-abbrev pub tape_files : List ℕ → ℕ
-tape_files file = used_count file 64 (entry_count file)
-
 -- the limit of a file that begins at `start`, or before the limit where the file of an entry begins
 abbrev pub nearer_end : List ℕ → (start entry limit : ℕ) → ℕ
 nearer_end file start entry limit =

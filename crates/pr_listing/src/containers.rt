@@ -1,7 +1,8 @@
 //! A saved program in a file of another kind, after a header.
 
 ghost use Rattle.std.specs.Prelude.{◌≡◌, ◌≤◌, ◌<◌, ◌+◌, ◌*◌, ◌^◌, drop, slice_index_or, take, IfSome};
-ghost use Rattle.pr_listing.specs.Containers.{address_at, addressed_end, cut_at_files, entry_count, entry_program, file_count, is_p00, is_t64, is_used, nearer_end, offset_at, program_at, program_in, tape_files, used_count, used_from};
+ghost use Rattle.pr_listing.specs.Containers.{address_at, addressed_end, cut_at_files, entry_count, entry_program, is_p00, is_t64, is_used, nearer_end, offset_at, program_at, program_in, used_from};
+ghost use Rattle.pr_listing.specs.Hints.{file_count, tape_files, used_count};
 
 /// How many bytes are before the program in a P00 file.
 const P00_HEADER: usize = 26;
@@ -94,7 +95,7 @@ fn used_entry(file: &[u8]) -> Option<usize>
 }
 
 /// How many files the entry at a place is of: one, or none.
-#[tactic(auto, unfolding(crate::specs::Containers::file_count))]
+#[tactic(auto, unfolding(crate::specs::Hints::file_count))]
 fn file_count(file: &[u8], place: usize) -> usize
     ensures value { result ≡ file_count file.now place }
     ensures small { result ≤ 1 }
@@ -106,7 +107,7 @@ fn file_count(file: &[u8], place: usize) -> usize
 }
 
 /// Returns how many files a T64 file has: the entries of its directory that are in use.
-#[tactic(auto, unfolding(crate::specs::Containers::used_count))]
+#[tactic(auto, unfolding(crate::specs::Hints::used_count))]
 pub fn tape_files(file: &[u8]) -> usize
     ensures { result ≡ tape_files file.now }
 {

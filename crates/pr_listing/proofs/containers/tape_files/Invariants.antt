@@ -1,5 +1,6 @@
 use Rattle.std.proofs.Common.{◌≡◌, ◌≤◌, ◌+◌, ◌-◌, ◌*◌}
-use Rattle.pr_listing.specs.Containers.{entry_count, used_count}
+use Rattle.pr_listing.specs.Containers.{entry_count}
+use Rattle.pr_listing.specs.Hints.{used_count}
 use Rattle.pr_listing.proofs.containers.tape_files.Given as goal
 
 -- the files so far, and those left, are all
