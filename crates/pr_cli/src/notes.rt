@@ -272,6 +272,9 @@ fn has_line_in_heading(text: &[u8]) -> bool {
 
 /// Whether a string of a script has the name of a key in square brackets. What is in a remark is no string.
 fn has_square_names(script: &[u8]) -> bool {
+    if !script.iter().any(|byte| *byte == b'[') {
+        return false;
+    }
     let mut rest = script;
     while !rest.is_empty() {
         let (line, more) = cut_line(rest);
