@@ -33,7 +33,7 @@ export function recordingWords(command, recording, as) {
   const { input, bounds, names, inverted, start, rate } = recording;
   const words = [command, '--from', input, '--as', as];
   if (bounds === 'guide' && command === 'decode' && as === 'list') words.push('--bounds', bounds);
-  if (names) words.push(`--names=${names.join()}`, '--from-time', String(BigInt(start)));
+  if (names) words.push(`--names=${names.join()}`, `--from-time=${BigInt(start)}`);
   if (inverted) words.push('--invert');
   if (rate) words.push('--rate', String(BigInt(rate)));
   return words;

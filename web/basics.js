@@ -34,3 +34,8 @@ export function openBox(box) {
 export function whenResized(element, act) {
   new ResizeObserver(() => requestAnimationFrame(() => act())).observe(element);
 }
+
+/** Does something whenever the screen has more or fewer dots in a pixel, as another screen has. */
+export function whenSharper(act) {
+  matchMedia(`(resolution: ${devicePixelRatio}dppx)`).addEventListener('change', () => { act(); whenSharper(act); }, { once: true });
+}

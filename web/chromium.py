@@ -173,10 +173,16 @@ class Page(Waiting):
     def type(self, text):
         self.send("Input.insertText", text=text)
 
-    def press(self, key, code=0, text=None, modifiers=0):
-        more = {"text": text} if text else {}
+    def press(self, key, code=0, text=None, modifiers=0, command=None):
+        """A key; `command` is what the browser edits by it, as its menu would."""
+        more = {**({"text": text} if text else {}), **({"commands": [command]} if command else {})}
         for kind in ("keyDown", "keyUp"):
             self.send("Input.dispatchKeyEvent", type=kind, key=key, windowsVirtualKeyCode=code, modifiers=modifiers, **(more if kind == "keyDown" else {}))
+
+    def edit(self, key):
+        """A key that edits: a letter, Enter, Backspace or Delete."""
+        code, text, command = {"Enter": (13, "\r", None), "Backspace": (8, None, "deleteBackward"), "Delete": (46, None, "deleteForward")}.get(key, (ord(key[0].upper()), key, None))
+        self.press(key, code, text, command=command)
 
     def complaints(self):
         """What went wrong on the page: exceptions, and what the console shows as errors."""

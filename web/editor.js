@@ -1,7 +1,8 @@
-// The listing: a text area with the numbers of its lines, a sign beside each for its statements' status, and notes at
+// The listing: a text field with the numbers of its lines, a sign beside each for its statements' status, and notes at
 // the place of a refusal or a stop. Only the lines that can be seen are drawn.
 
 import { whenResized } from './basics.js';
+import { isForLongField, LongField, MARK } from './longfield.js';
 
 const COLOURED = 2000;         // characters: a longer line has no colours
 
@@ -15,6 +16,15 @@ function showRows(element, rows) {
   while (element.children.length > rows.length) element.lastChild.remove();
 }
 
+/** The browser's own text field, by the names that a field for many lines has. */
+class ShortField {
+  constructor(element) { this.element = element; }
+  get text() { return this.element.value; }
+  set text(text) { this.element.value = text; }
+  get start() { return this.element.selectionStart; }
+  select(from, to = from) { this.element.setSelectionRange(from, to); }
+}
+
 export class Editor {
   /**
    * `reading` gives a listing's form, the parts of a line with their kinds, and what the part at a column says; `onLine` gets the line
@@ -25,7 +35,11 @@ export class Editor {
     this.reading = reading;
     this.chosen = -1;
     this.colours = element.querySelector('.colours');
-    this.area = element.querySelector('textarea');
+    this.short = new ShortField(element.querySelector('textarea'));
+    this.long = new LongField(element.querySelector('#long-script'));
+    this.field = this.short;   // that of them which is shown
+    this.hasSwapped = false;   // whether the field for many lines took the place of the other one by an edit
+    this.pasted = null;        // the text that has a mark for what was pasted, and the cursor's place
     this.numbers = element.querySelector('.numbers');
     this.notes = element.querySelector('.notes');
     this.starts = [0];
@@ -37,24 +51,79 @@ export class Editor {
     this.rows = new Map(); // the elements of what is drawn, by what it shows
     // (a browser lays a long listing out anew before it can be drawn: the worker prints it meanwhile)
     this.typed = -Infinity;    // when a key was pressed last
-    this.area.addEventListener('input', () => { this.typed = performance.now(); this.measure(); requestAnimationFrame(() => this.draw()); onInput(); });
-    this.area.addEventListener('scroll', () => this.draw(), { passive: true });
+    this.onInput = onInput;
+    this.onLine = onLine;
+    this.onPoint = onPoint;
+    for (const field of [this.short, this.long]) this.listen(field);
+    this.short.element.addEventListener('paste', event => this.paste(event));
     this.numbers.addEventListener('click', event => {
       const number = event.target.closest('.number');
       if (number) onLine(Number(number.textContent) - 1);
     });
-    this.area.addEventListener('keydown', event => {
+    this.numbers.addEventListener('pointermove', event => onPoint(Number(event.target.closest('.number')?.textContent ?? 0) - 1, -1));
+    this.numbers.addEventListener('pointerleave', () => onPoint(-1, -1));
+    this.measure();
+  }
+
+  /** Follows what is done in a field. */
+  listen(field) {
+    const { element } = field;
+    element.addEventListener('input', () => { if (!(field === this.long && this.long.isTakingOut)) this.typedIn(field); });
+    element.addEventListener('scroll', () => { if (field === this.field) this.draw(); }, { passive: true });
+    element.addEventListener('keydown', event => {
       if (event.key !== 'Enter' || !(event.ctrlKey || event.metaKey)) return;
       event.preventDefault();
       this.chooseOwn();
     });
-    this.onLine = onLine;
-    this.area.addEventListener('pointermove', event => this.tellUnder(event));
-    this.numbers.addEventListener('pointermove', event => onPoint(Number(event.target.closest('.number')?.textContent ?? 0) - 1, -1));
-    for (const part of [this.area, this.numbers]) part.addEventListener('pointerleave', () => onPoint(-1, -1));
-    this.onPoint = onPoint;
-    whenResized(this.area, () => this.draw());
+    element.addEventListener('pointermove', event => this.tellUnder(event));
+    element.addEventListener('pointerleave', () => this.onPoint(-1, -1));
+    whenResized(element, () => { if (field === this.field) this.draw(); });
+  }
+
+  /** The element of the field that is shown. */
+  get area() { return this.field.element; }
+
+  /** Something was typed, pasted, undone or done again: also, where the field for many lines has taken its place, in the browser's own. */
+  typedIn(field) {
+    if (field !== this.field && !(field === this.short && this.hasSwapped)) return;
+    this.typed = performance.now();
+    const isPasted = field === this.short && this.pasted && field.text.includes(MARK), { text, start } = isPasted ? this.pasted : field;
+    const isLong = field === this.long || isForLongField(text);
+    if (isLong === (this.field === this.long)) this.measure();
+    else this.swap(isLong, text, start);
+    requestAnimationFrame(() => this.draw());
+    this.onInput();
+  }
+
+  /** Shows the other field, with the cursor at a place of the text. The browser's undo leads back to the one before. */
+  swap(isLong, text, start) {
+    this.hasSwapped = isLong;
+    if (isLong) this.long.text = text;
+    this.show(isLong ? this.long : this.short);
+    this.area.focus({ preventScroll: true });
+    this.field.select(start);
     this.measure();
+    this.reveal(this.lineAt(start));
+  }
+
+  /** Puts many lines into the field for them at once: for the browser's undo a mark takes their place in its own, where it would take seconds. */
+  paste(event) {
+    const pasted = event.clipboardData.getData('text/plain').replace(/\r\n?/g, '\n'), { value, selectionStart, selectionEnd } = this.short.element;
+    const text = value.slice(0, selectionStart) + pasted + value.slice(selectionEnd);
+    if (!isForLongField(text)) return;
+    event.preventDefault();
+    this.pasted = { text, start: selectionStart + pasted.length };
+    document.execCommand('insertText', false, MARK);
+  }
+
+  /** Shows one of the fields. (A browser undoes nothing in a field that is hidden, so its own is only put aside.) */
+  show(field) {
+    const { element } = this.short, isAside = field !== this.short;
+    this.field = field;
+    this.long.element.hidden = field !== this.long;
+    element.classList.toggle('aside', isAside);
+    element.tabIndex = isAside ? -1 : 0;
+    if (isAside) element.setAttribute('aria-hidden', 'true'); else element.removeAttribute('aria-hidden');
   }
 
   /** The text as it was measured last: a browser makes a long one anew each time it is asked. */
@@ -64,16 +133,20 @@ export class Editor {
   replace(text) {
     const plain = text.replace(/\r\n?/g, '\n');
     if (plain === this.text) return;
+    const field = isForLongField(plain) ? this.long : this.short;
     // (a browser takes seconds to insert a long text so that it can be undone)
-    if (plain.length < 4000 && this.text && this.text.length < 4000) {
+    if (field === this.field && plain.length < 4000 && this.text && this.text.length < 4000) {
       const focused = /** @type {HTMLElement} */ (document.activeElement);
       this.area.focus({ preventScroll: true });
       this.area.select();
       document.execCommand(plain ? 'insertText' : 'delete', false, plain);
       if (focused && focused !== document.body) focused.focus({ preventScroll: true }); else this.area.blur();
     }
-    if (this.area.value !== plain) this.area.value = plain;
-    this.area.setSelectionRange(0, 0);
+    this.hasSwapped = false;
+    this.pasted = null;
+    this.show(field);
+    if (field.text !== plain) field.text = plain;
+    if (document.activeElement === this.area || field === this.short) field.select(0);
     this.area.scrollTo(0, 0);
     this.measure();
     this.typed = -Infinity;
@@ -82,9 +155,10 @@ export class Editor {
 
   /** Takes the text, and finds where each line begins. */
   measure() {
-    const text = this.measured = this.area.value, starts = [0];
+    const text = this.measured = this.field.text, starts = [0];
     for (let at = text.indexOf('\n'); at >= 0; at = text.indexOf('\n', at + 1)) starts.push(at + 1);
     this.starts = starts;
+    return this;
   }
 
   line(number) {
@@ -102,9 +176,14 @@ export class Editor {
     this.place = null;
     if (line === this.chosen) return this.draw();
     this.chosen = line;
+    this.reveal(line);
+    this.draw();
+  }
+
+  /** Brings a line into view. */
+  reveal(line) {
     const height = parseFloat(getComputedStyle(this.area).lineHeight), top = line * height, { scrollTop, clientHeight } = this.area;
     if (line >= 0 && (top < scrollTop || top + 2 * height > scrollTop + clientHeight)) this.area.scrollTop = top - clientHeight / 3;
-    this.draw();
   }
 
   /** Shows the character of what is chosen, or none. */
@@ -130,7 +209,7 @@ export class Editor {
   }
 
   /** The line on which the cursor is. */
-  cursorLine() { return this.lineAt(this.area.selectionStart); }
+  cursorLine() { return this.lineAt(this.field.start); }
 
   /** Chooses the line on which the cursor is. */
   chooseOwn() { this.onLine(this.cursorLine()); }
@@ -139,7 +218,8 @@ export class Editor {
   goTo(line, column) {
     const at = this.starts[line] + column;
     this.area.focus();
-    this.area.setSelectionRange(at, at);
+    this.field.select(at);
+    this.reveal(line);
   }
 
   draw() {
@@ -195,7 +275,8 @@ export class Editor {
   }
 
   /** Says what the code under the pointer does. */
-  tellUnder({ offsetX, offsetY }) {
+  tellUnder({ clientX, clientY }) {
+    const box = this.area.getBoundingClientRect(), [offsetX, offsetY] = [clientX - box.left, clientY - box.top];
     const style = getComputedStyle(this.area), number = Math.floor((offsetY + this.area.scrollTop - parseFloat(style.paddingTop)) / parseFloat(style.lineHeight));
     const line = number >= 0 && number < this.starts.length ? this.line(number) : '', row = this.colours.children[number - Math.max(Math.floor(this.area.scrollTop / parseFloat(style.lineHeight)) - 2, 0)];
     const width = row && line.length ? row.getBoundingClientRect().width / line.length : 0;

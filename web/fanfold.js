@@ -13,9 +13,10 @@ const heightOf = sheet => 2 * EDGE + SHEET_HEIGHT * Math.max(Math.ceil((sheet.he
 
 /**
  * Where the sheets lie, one below the other where `isStacked`: `{ sheets, width, height, left, notes }`. Each sheet is
- * `{ sheet, right, down, height }`, how far it lies to the right and further down than in the picture; so do the notes.
+ * `{ sheet, right, down, height }`, how far it lies to the right and further down than in the picture; so do the notes, which are
+ * `enlarged` times as high.
  */
-export function arrange(picture, isStacked) {
+export function arrange(picture, isStacked, enlarged = 1) {
   const [first] = picture.sheets, placed = [];
   let bottom = SHEET_TOP;
   for (const sheet of picture.sheets) {
@@ -25,7 +26,7 @@ export function arrange(picture, isStacked) {
   }
   if (!placed.length) return { sheets: placed, left: 0, width: picture.width, height: picture.height, notes: 0 };
   const under = picture.height - SHEET_TOP - Math.max(...picture.sheets.map(sheet => sheet.height)), width = isStacked || placed.length === 1 ? SHEET_WIDTH + 2 * EDGE : picture.width;
-  return { sheets: placed, left: width === picture.width ? 0 : first.x - EDGE, width, height: bottom + under, notes: bottom + under - picture.height };
+  return { sheets: placed, left: width === picture.width ? 0 : first.x - EDGE, width, height: bottom + under * enlarged, notes: bottom + under - picture.height };
 }
 
 /** The sheet at a place of the desk, or undefined. */
@@ -43,7 +44,7 @@ export function drawn(name, attributes, ...parts) {
 /** The paper of one printer. */
 function paperOf({ sheet, right, down, height }, hasBars) {
   const folds = Array.from({ length: Math.round((height - 2 * EDGE) / SHEET_HEIGHT) + 1 }, (_, fold) => `M0 ${EDGE + fold * SHEET_HEIGHT}h${SHEET_WIDTH}`);
-  const bars = drawn('rect', { x: 2 * EDGE, y: EDGE, width: SHEET_WIDTH - 4 * EDGE, height: height - 2 * EDGE, fill: 'url(#fanfold-bars)' });
+  const bars = drawn('rect', { width: SHEET_WIDTH, height, fill: 'url(#fanfold-bars)' });
   return drawn('g', { transform: `translate(${sheet.x + right} ${SHEET_TOP + down})` },
     drawn('rect', { class: 'sheet', width: SHEET_WIDTH, height }),
     ...(hasBars ? [bars] : []),

@@ -44,12 +44,12 @@ function takeOrAsk(bytes, name, kind) {
 
 /** Shows a file as what it seems to be. */
 export async function takeFile(file) {
-  const turn = ++taken, { source } = state, before = editor.area.value;
+  const turn = ++taken, { source } = state, before = editor.text;
   taking++;
   try {
     const bytes = new Uint8Array(await file.arrayBuffer()), why = refusalOf(bytes, file.name), kind = why ? '' : await kindOf(bytes, file.name);
     // By now a later file was dropped, something was typed, or the file on show was put away.
-    if (turn !== taken || source !== state.source || before !== editor.area.value) return;
+    if (turn !== taken || source !== state.source || before !== editor.text) return;
     tellOnce('file', why);
     if (!why) await takeOrAsk(bytes, file.name, kind);
   } catch (error) {
@@ -69,10 +69,10 @@ function tellNoProgram(bytes, name, why) {
 /** Shows a saved program as petcat writes it; as the script that the module makes of it, where that would be another program. */
 async function takeProgram(bytes, name) {
   if (!ready) return tellOnce('file', `${name} cannot be read before the page is ready.`);
-  const listing = petcatOf(bytes), turn = taken, before = editor.area.value;
+  const listing = petcatOf(bytes), turn = taken, before = editor.text;
   let answer;
   try { answer = await ask('isSame', { program: bytes, listing: encode(listing ?? ''), form: 'petcat' }); } catch (error) { return tellFailed(error); }
-  if (turn !== taken || before !== editor.area.value) return;   // another file was dropped, or more was typed
+  if (turn !== taken || before !== editor.text) return;   // another file was dropped, or more was typed
   if (answer.code) return tellNoProgram(bytes, name, answer.words ? inPageWords(answer.words) : 'out of memory');
   leaveSource();
   keepEarlier();

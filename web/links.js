@@ -4,7 +4,8 @@
 import { $, button } from './basics.js';
 import { ask, counted, editor, LINES_LIMIT, paper, readers, state, tellBriefly, tellFailed, tellOnce, wanted, wave } from './page.js';
 import { bytesOfLine } from './reading.js';
-import { byteWords, tellChosen } from './telling.js';
+import { tellChosen } from './telling.js';
+import { byteWords } from './wave.js';
 
 const POINTED_EDGES = 300000;      // of a longer trace nothing is found while the pointer moves
 const POINTED_AFTER = 70;          // milliseconds until what is pointed at is looked for

@@ -7,7 +7,7 @@
 // `answer` is the program `print1525` over memory: the words of its command line, an input and a file of characters in, its exit
 // status, its output and its lines for people out, and with status 1 (a BASIC error stopped the run) the number of the error and
 // 100, and its statement. Scripts, recordings and texts are Uint8Arrays; a string in their place is taken as UTF-8, and anything
-// else throws a TypeError that names the setting. The other methods are for what a text does not serve; they
+// else, also a setting that a call has not, throws a TypeError that names it. The other methods are for what a text does not serve; they
 // take and give numbers, with
 //
 //     code        0 done, 2 refused, 3 out of memory
@@ -185,6 +185,22 @@ export const loadPrint1525 = (() => {
 
   const LARGEST = 2n ** 64n - 1n;
 
+  // The settings of each call.
+  const RECORDING = ['bytes', 'source', 'names', 'inverted', 'start', 'rate'];
+  const SETTINGS = {
+    answer: ['words', 'explained', 'input', 'characters'], names: ['words'], listing: ['bytes', 'form'],
+    print: ['inputs', 'format', 'device', 'sheet', 'characters'], edges: RECORDING, edgeDelays: RECORDING, readingRows: [...RECORDING, 'detail'],
+    intervals: RECORDING, bounds: [], statementLines: ['script'], scriptFault: ['script'],
+  };
+
+  // A call that takes its own settings alone.
+  const withOwn = (call, make, settings) => (asked = WITHOUT) => {
+    if (asked === null || typeof asked !== 'object') wrong('the settings', 'an object');
+    const other = Object.keys(asked).find(name => !settings.includes(name));
+    if (other !== undefined) throw new TypeError(`print1525: ${other} is no setting of ${call}, which has ${settings.join(', ') || 'none'}`);
+    return make(asked);
+  };
+
   // The words of a command line as one text, with the program's name in front.
   const lineOf = words => encode(['print1525', ...wordsOf(words)].join('\0'));
 
@@ -196,7 +212,7 @@ export const loadPrint1525 = (() => {
   }
 
   // The arguments that say what a recording is.
-  function recording({ bytes, source = 0, names = ['ATN', 'CLOCK', 'DATA'], inverted = false, start = 0, rate = 0 } = WITHOUT) {
+  function recording({ bytes, source = 0, names = ['ATN', 'CLOCK', 'DATA'], inverted = false, start = 0, rate = 0 }) {
     if (!Array.isArray(names) || names.length !== 3) wrong('names', 'three names');
     return [
       bytesOf('bytes', bytes), numberOf('source', source, 0, 4), ...names.map((name, line) => bytesOf(`names[${line}]`, name)), flagOf('inverted', inverted),
@@ -247,11 +263,11 @@ export const loadPrint1525 = (() => {
     const numbers = (memory, at, length) => ({ numbers: numbersIn(memory, at, length) });
     const text = (memory, at, length) => ({ text: new Uint8Array(memory, at, length).slice() });
 
-    return {
+    const calls = {
       // What the program does with the words of a command line, with `input` in the place of the file that they name or of standard
       // input, and `characters` in that of the file of characters: its exit status, what it writes, and its lines for people, which
       // say more where it is `explained`. Of a refusal `fault`, `place` and `column` are numbers, each 0 where it has none.
-      answer({ words, explained = false, input = NOTHING, characters = NOTHING } = WITHOUT) {
+      answer({ words, explained = false, input = NOTHING, characters = NOTHING }) {
         const given = bytesOf('input', input), key = wordsOf(words).join(' '), room = Math.min(Math.max(WIDER * given.length, rooms.get(key) || 0), KEPT / 4);
         const [[status, fault, place, column], output, messages] = texts('print1525_answer', [lineOf(words), flagOf('explained', explained), ANY_STATUS, given, bytesOf('characters', characters)], Math.max(room, ROOM), 4);
         if (rooms.size > 100) rooms.clear();
@@ -260,14 +276,14 @@ export const loadPrint1525 = (() => {
       },
       // The names of the files that words name, or null: that which is read, that which is written and that of characters; and what is
       // said where the input comes from a terminal. With another status than 0 words ask for no task, as `answer` says.
-      names({ words } = WITHOUT) {
+      names({ words }) {
         const [[status], output, messages] = texts('print1525_names', [lineOf(words)], ROOM, 4);
         const parts = new TextDecoder().decode(output).split('\0');
         return { status, names: [0, 1, 2].map(index => (parts[index] ? parts[index].slice(1) : null)), messages };
       },
       // The text of the script that a listing says: itself (form 0), that of a saved program (1), of
       // petcat's text (2), of a magazine's listing (3) or of what its first bytes show (4).
-      listing({ bytes, form = 0 } = WITHOUT) {
+      listing({ bytes, form = 0 }) {
         const given = bytesOf('bytes', bytes);
         // Beside a fault the length is its column.
         return numbered('print1525_listing', [given, numberOf('form', form, 0, 4)], Math.max(ROOM, WIDER * given.length), (memory, at, length, code) => (
@@ -275,7 +291,7 @@ export const loadPrint1525 = (() => {
       },
       // The pages of what a printer hears: 0 to 255 a byte, 256 and 257 the selection of the graphic/upper case or the lower/upper
       // case set. `format` is 0 the page text, 1 lines, 2 SVG, 3 PNG, 4 PDF; `device` and `sheet` show a part, where it can.
-      print({ inputs, format = 0, device = 0, sheet = 0, characters = NOTHING } = WITHOUT) {
+      print({ inputs, format = 0, device = 0, sheet = 0, characters = NOTHING }) {
         const given = heard(inputs), room = Math.max(ROOM, Math.min(WIDER * given.length, KEPT / 4));
         const printer = device === 0 ? 0 : numberOf('device', device, 4, 5);
         const part = [numberOf('format', format, 0, 4), printer, BigInt(numberOf('sheet', sheet, 0, LARGEST))];
@@ -302,5 +318,6 @@ export const loadPrint1525 = (() => {
       // Where the first fault of a script is: line, column, the BASIC line's number and 1, and the width of what is there; or no number.
       scriptFault: ({ script }) => numbered('print1525_script_fault', [bytesOf('script', script)], 4, numbers),
     };
+    return Object.fromEntries(Object.entries(calls).map(([name, make]) => [name, withOwn(name, make, SETTINGS[name])]));
   };
 })();

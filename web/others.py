@@ -16,7 +16,7 @@ import urllib.request
 
 from chromium import Failed, Waiting, inside
 
-KEYS = {"Enter": "\ue007", "Escape": "\ue00c", "ArrowLeft": "\ue012", "ArrowRight": "\ue014", "ArrowUp": "\ue013", "ArrowDown": "\ue015", "Tab": "\ue004"}
+KEYS = {"Enter": "\ue007", "Escape": "\ue00c", "ArrowLeft": "\ue012", "ArrowRight": "\ue014", "ArrowUp": "\ue013", "ArrowDown": "\ue015", "Tab": "\ue004", "Backspace": "\ue003", "Delete": "\ue017"}
 
 
 def free_port():
@@ -47,6 +47,10 @@ THEME = """
 
 
 class Themed(Waiting):
+    def edit(self, key):
+        """A key that edits: a letter, Enter, Backspace or Delete."""
+        self.press(key)
+
     """A page of a browser whose protocol has no themes."""
 
     def theme(self, name):

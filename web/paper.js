@@ -3,7 +3,7 @@
 
 import { DOT, LETTER_HEIGHT, markAt, MARKS_LEFT, MARKS_TOP, SHEET_TOP, sheetsOf, STEP } from './sheets.js';
 import { arrange, drawn, fanfold, SHEET_HEIGHT, sheetAt } from './fanfold.js';
-import { whenResized } from './basics.js';
+import { whenResized, whenSharper } from './basics.js';
 import { HIGHEST } from './reader.js';
 
 const PICA = 210;              // units of the picture
@@ -14,7 +14,8 @@ const WHOLE = 60000;           // characters: a shorter picture is in the page a
 const LEAST_BESIDE = 1 / DOT;  // pixels of a unit: sheets whose dots were smaller beside each other lie one below the other
 const LOSS = .75;              // dots of less than a pixel become a whole number of the screen's dots, unless they become smaller than this
 const ROUND_FROM = 3;          // dots of so many of the screen's, or fewer, are squares
-const SMALLER = .985;          // what leaves some air beside dots that are no whole number of the screen's
+const MARGIN = 10;             // pixels of the paper beside the printed width, where that fits the window
+const HEADING = 12;            // pixels: the least height of the words above and below the sheets
 const AROUND = 0.5;            // of a long picture, the rows of so much of the window's height are in the page above and below it
 
 export class Paper {
@@ -31,13 +32,17 @@ export class Paper {
     this.text = '';
     this.picture = null;
     this.places = null;        // where the sheets lie
+    this.enlarged = 1;         // how much larger the words below them are than in the picture, so that they can be read
     this.hasBars = false;      // whether the paper has green bars
     this.size = 0;             // pixels of a pica; 0: the printed width is as wide as there is room
+    this.isFitted = false;     // whether it fits even where a dot has less than one of the screen's
     this.found = [];
     this.pointed = [];         // the marks that belong to what is pointed at
     this.focused = '';
     element.addEventListener('scroll', () => this.drawPart(), { passive: true });
-    whenResized(element, () => { this.lay(); if (this.picture && !this.size) this.showDots(); });
+    const again = () => { this.lay(); if (this.picture && !this.size) this.showDots(); };
+    whenResized(element, again);
+    whenSharper(again);
     element.addEventListener('wheel', event => {
       if (!event.ctrlKey && !event.metaKey) return;
       event.preventDefault();
@@ -113,9 +118,15 @@ export class Paper {
   /** Puts the sheets and the notes where they lie, and the paper below them. */
   placeSheets() {
     const { sheets, notes } = this.places, groups = [...this.svg.querySelectorAll(':scope > g[transform]')];
-    sheets.forEach(({ sheet, right, down }, index) => groups[index].setAttribute('transform', `translate(${sheet.x + right} ${SHEET_TOP + down})`));
+    sheets.forEach(({ sheet, right, down }, index) => {
+      groups[index].setAttribute('transform', `translate(${sheet.x + right} ${SHEET_TOP + down})`);
+      // (its heading begins where its lines do, so that it is seen with them)
+      const heading = groups[index].querySelector(':scope > text');
+      heading.setAttribute('x', String(MARKS_LEFT));
+      heading.setAttribute('font-size', String(Math.max(PICA, HEADING / this.scale())));
+    });
     const words = this.picture.notes && this.svg.querySelector(':scope > text');
-    if (words) words.setAttribute('transform', `translate(630 ${this.picture.notes.y + notes})`);
+    if (words) words.setAttribute('transform', `translate(630 ${this.picture.notes.y + notes}) scale(${this.enlarged})`);
     const name = JSON.stringify([sheets.map(({ sheet, right, down, height }) => [sheet.x, right, down, height]), this.hasBars]);
     if (this.back && name === this.backName) return;
     this.backName = name;
@@ -124,13 +135,16 @@ export class Paper {
   }
 
   /** The screen's dots that a dot of the printer has across where the printed width fits the window. */
-  fitting() { return this.element.clientWidth * (devicePixelRatio || 1) / DOTS_ACROSS; }
+  fitting() { return (this.element.clientWidth - 2 * MARGIN) * (devicePixelRatio || 1) / DOTS_ACROSS; }
 
-  /** The pixels of a unit, across and down. A dot has a whole number of the screen's dots, so that each is as sharp as the others, unless it would be too small. */
+  /**
+   * The pixels of a unit, across and down. A dot has a whole number of the screen's dots, so that each is as sharp as the others, unless it
+   * would be too small; and one at least, since reverse letters cannot be read else, unless somebody wants the printed width to fit.
+   */
   scales() {
-    const ratio = devicePixelRatio || 1, wanted = this.size ? this.size / PICA * DOT * ratio : this.fitting();
-    const whole = this.size ? Math.round(wanted) : Math.floor(wanted), isWhole = whole >= 1 && (whole >= ratio || whole / wanted >= LOSS);
-    const across = isWhole ? whole / ratio / DOT : wanted * (this.size ? 1 : SMALLER) / ratio / DOT, down = isWhole ? whole / ratio / DOT_DOWN : across;
+    const ratio = devicePixelRatio || 1, wanted = this.size ? this.size / PICA * DOT * ratio : this.fitting(), least = this.size || this.isFitted ? 0 : 1;
+    const whole = Math.max(this.size ? Math.round(wanted) : Math.floor(wanted), least), isWhole = whole >= 1 && (whole >= ratio || whole / wanted >= LOSS);
+    const across = (isWhole ? whole : wanted) / ratio / DOT, down = isWhole ? whole / ratio / DOT_DOWN : across;
     return { across: Math.min(across, HIGHEST / this.places.height), down: Math.min(down, HIGHEST / this.places.height) };
   }
 
@@ -163,7 +177,7 @@ export class Paper {
 
   showDots() {
     const first = this.places?.sheets[0];
-    if (first) this.element.scrollLeft = (first.sheet.x + MARKS_LEFT - this.places.left) * this.scale() - Math.max(this.element.clientWidth - DOTS_ACROSS * DOT * this.scale(), 0) / 2;
+    if (first) this.element.scrollLeft = (first.sheet.x + MARKS_LEFT - this.places.left) * this.scale() - Math.max(this.element.clientWidth - DOTS_ACROSS * DOT * this.scale(), 2 * MARGIN) / 2;
   }
 
   /** Gives the picture its size, and its sheets their places. */
@@ -171,6 +185,8 @@ export class Paper {
     if (!this.picture || !this.element.clientWidth) return;
     const isStacked = this.picture.sheets.length > 1 && this.element.clientWidth < this.picture.width * LEAST_BESIDE;
     this.places = arrange(this.picture, isStacked);
+    this.enlarged = Math.max(HEADING / PICA / this.scale(), 1);
+    this.places = arrange(this.picture, isStacked, this.enlarged);
     const { across, down } = this.scales(), { left, width, height } = this.places;
     this.room.style.width = `${width * across}px`;
     this.room.style.height = `${height * down}px`;
@@ -184,7 +200,8 @@ export class Paper {
   showSpan(left, top, width, height) {
     const { across, down } = this.scales(), dots = Math.round(across * DOT * (devicePixelRatio || 1) * 10) / 10;
     // (round dots of a few of the screen's dots are grey where they meet)
-    this.svg.classList.toggle('square', dots >= 1 && dots <= ROUND_FROM);
+    this.svg.classList.toggle('square', dots <= ROUND_FROM);
+    this.svg.classList.toggle('whole', dots === Math.round(dots));
     for (const layer of [this.back, this.svg]) {
       layer.setAttribute('viewBox', `${left} ${top} ${width} ${height}`);
       Object.assign(layer.style, { top: `${top * down}px`, width: `${width * across}px`, height: `${height * down}px` });
@@ -196,6 +213,7 @@ export class Paper {
     const box = this.element.getBoundingClientRect(), before = this.scales(), ratio = devicePixelRatio || 1;
     const left = (x ?? box.left + box.width / 2) - box.left, top = (y ?? box.top + box.height / 2) - box.top;
     const right = (this.element.scrollLeft + left) / before.across, down = (this.element.scrollTop + top) / before.down;
+    this.isFitted = false;
     this.size = Math.min(Math.max((x !== null && this.size || before.across * PICA) * factor, 2), 120);
     // (a button makes a dot larger or smaller by one dot of the screen at least)
     const dots = before.across * DOT * ratio, step = PICA / DOT / ratio;
@@ -207,6 +225,7 @@ export class Paper {
 
   fit() {
     this.size = 0;
+    this.isFitted = true;
     this.lay();
     if (this.picture) this.showDots();
   }
@@ -266,8 +285,8 @@ export class Paper {
     parts.push(this.text.slice(at, notes.from));
     this.noteLines ??= null;
     if (this.noteLines?.text !== this.text) this.noteLines = { text: this.text, lines: this.text.slice(notes.from, notes.to).split('\n') };
-    const lines = this.noteLines.lines, y = notes.y + this.places.notes, first = Math.max(Math.floor((from - y) / PICA) - 2, 0);
-    const some = lines.slice(first, Math.max(Math.ceil((to - y) / PICA) + 2, first));
+    const lines = this.noteLines.lines, y = notes.y + this.places.notes, high = PICA * this.enlarged, first = Math.max(Math.floor((from - y) / high) - 2, 0);
+    const some = lines.slice(first, Math.max(Math.ceil((to - y) / high) + 2, first));
     if (some.length && first) some[0] = some[0].replace('dy="210"', `dy="${210 * (first + 1)}"`);
     return { frame: parts.join('') + some.join('\n') + this.text.slice(notes.to), rows };
   }

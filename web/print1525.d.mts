@@ -1,4 +1,4 @@
-/** Bytes: a string is taken for them as UTF-8. Anything that a setting does not take throws a TypeError with its name. */
+/** Bytes: a string is taken for them as UTF-8. Anything that a setting does not take, and any setting that a call has not, throws a TypeError with its name. */
 export type Bytes = string | Uint8Array;
 
 /** What the program does: `input` is in the place of the file that the words name or of standard input, `characters` in that of the file of characters. */

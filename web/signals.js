@@ -78,15 +78,17 @@ function inputOf(type, value, act) {
 
 const UNITS = { us: 1, µs: 1, ms: 1e3, s: 1e6 }, PREFIXES = { k: 1e3, m: 1e6, g: 1e9 };
 
-/** The microseconds that a text says, as `200`, `5ms` or `2 s`; undefined where it says none. */
+/** The microseconds that a text says, as `200`, `5ms` or `2 s`, with a minus before the recording's own moment 0; undefined where it says none. */
 export function timeOf(text) {
-  const [, number, unit = 'us'] = /^(\d+(?:\.\d+)?)\s*(us|µs|ms|s)?$/.exec(text.trim()) ?? [];
-  return number && Math.floor(Number(number) * UNITS[unit]);
+  const [, sign, number, unit = 'us'] = /^([-\u2212]?)\s*(\d+(?:\.\d+)?)\s*(us|µs|ms|s)?$/.exec(text.trim()) ?? [];
+  if (number === undefined) return undefined;
+  const time = Math.floor(Number(number) * UNITS[unit]);
+  return sign && time ? -time : time;
 }
 
-/** The samples in a second that a text says, as `4M`, `12.5 MHz`, `500kS/s` or `4e6`, or 0 for none; undefined where it says nothing. */
+/** The samples in a second that a text says, as `4M`, `12.5 MHz`, `500kS/s` or `4e6`, or 0 for `none`; undefined where it says nothing. */
 export function rateOf(text) {
-  if (!text.trim()) return 0;
+  if (/^(none)?$/i.test(text.trim())) return 0;
   const [, number, prefix = ''] = /^(\d+(?:\.\d+)?(?:e\d+)?)\s*([kmg]?)\s*(?:hz|s\/s|sa\/s|sps)?$/i.exec(text.trim()) ?? [];
   return number && Math.round(Number(number) * (PREFIXES[prefix.toLowerCase()] ?? 1));
 }
@@ -124,12 +126,12 @@ export function signalFields(source, again) {
   });
   fields.append(labelled('inverted levels', inputOf('checkbox', source.inverted, input => { source.inverted = input.checked; again(); }), true));
   const start = numberField(`${source.start} µs`, timeOf, time => { source.start = time; again(); });
-  start.title = 'A time of the recording, as 200 µs, 5 ms or 2 s';
+  start.title = 'A time of the recording, as 200 µs, 5 ms or 2 s; with a minus it counts back from the recording\'s own moment 0';
   fields.append(labelled('starts at', start));
   // (a table with times of its own has no use for it)
   if (source.kind !== 'csv') return fields;
-  const rate = numberField(source.rate || '', rateOf, number => { source.rate = number; again(); });
-  rate.title = 'As 4M, 12.5 MHz or 500kS/s';
+  const rate = numberField(source.rate || 'none', rateOf, number => { source.rate = number; again(); });
+  rate.title = 'As 4M, 12.5 MHz or 500kS/s; or none, where the file says it';
   fields.append(labelled('samples a second, of a table without times', rate));
   return fields;
 }

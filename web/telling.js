@@ -1,7 +1,7 @@
 // What a recording or a run's trace says, beside the wave: the facts, the intervals, and what is chosen.
 
 import { Frames, intervalsOf, measureBy, turnsOf } from './wire.js';
-import { hexadecimal, spaced } from './wave.js';
+import { nameOf, spaced } from './wave.js';
 import { $, all, button, encode } from './basics.js';
 import { ask, AUTOMATIC, counted, editor, fillReader, nextText, print, readers, restartWorker, state, tellFailed, wanted, wave } from './page.js';
 import { followsPointer, framePointed, leavePointed } from './links.js';
@@ -186,15 +186,12 @@ export function tellUnder(under) {
   } else line.textContent = moment;
 }
 
-/** A byte as it is named everywhere: its number, and its name if it has one. */
-export const byteWords = (byte, name = byte > 32 && byte < 127 ? `'${String.fromCharCode(byte)}'` : `byte ${byte}`) => `$${hexadecimal(byte)} ${name}`;
-
 /** Shows a frame's byte, its moments and its intervals. */
 export function tellChosen(index, more = '') {
   const frame = wave.frames.get(index), line = $('chosen');
   line.textContent = '';
   if (!frame) return;
-  const says = frame.byte === null ? frame.name : `${byteWords(frame.byte, frame.name)}${frame.eoi ? ', end-or-identify' : ''}`;
+  const says = `${nameOf(frame)}${frame.eoi ? ', end-or-identify' : ''}`;
   const strong = document.createElement('strong');
   strong.textContent = says;
   const end = Number.isFinite(frame.end) ? ` to ${spaced(frame.end)}` : '', fault = frame.fault ? `, ${frame.fault}` : '';

@@ -28,7 +28,7 @@ declare module 'node:fs' {
   export function readlinkSync(name: string): string;
   export function readSync(file: number, room: Uint8Array): number;
   export function realpathSync(name: string): string;
-  export function renameSync(name: string, next: string): void;
+  export function renameSync(name: string | URL, next: string | URL): void;
   export function rmSync(name: string | URL, options: { force: boolean }): void;
   export function statSync(name: string, how: { bigint: true }): { ino: bigint; dev: bigint; isFile(): boolean };
   export function writeFileSync(name: URL, bytes: Uint8Array): void;

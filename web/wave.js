@@ -2,21 +2,25 @@
 // strip below. What is drawn takes as long for a million edges as for a hundred: a column of pixels in which a line
 // turns more than once is one stroke.
 
-import { whenResized } from './basics.js';
+import { whenResized, whenSharper } from './basics.js';
 import { SvgPen } from './pen.js';
 import { ATN, CLOCK, DATA, delaysAt, edgeAt, Frames, halfOf, momentsOf } from './wire.js';
 
 const WIRES = [{ name: 'ATN', bit: ATN }, { name: 'CLOCK', bit: CLOCK }, { name: 'DATA', bit: DATA }];
 const NAMES_WIDTH = 58, RIGHT = 10;
-const LEAST_WIDTH = 28;        // pixels: what a letter between its marks needs
 const BIT_WIDTH = 26;          // pixels: what the number and the value of a bit need
-const NAME_WIDTH = 64;         // pixels: what the name of a frame needs
 
 /** A number with thin spaces between its thousands. */
 export const spaced = number => String(number).replace(/\B(?=(\d{3})+$)/g, '\u2009');
 
 /** A byte in two hexadecimal digits. */
 export const hexadecimal = byte => byte.toString(16).toUpperCase().padStart(2, '0');
+
+/** A byte as it is named everywhere: its number, and its name if it has one. */
+export const byteWords = (byte, name = byte > 32 && byte < 127 ? `'${String.fromCharCode(byte)}'` : `byte ${byte}`) => `$${hexadecimal(byte)} ${name}`;
+
+/** What a frame is called: its byte, or how many bits it has. */
+export const nameOf = ({ byte, name }) => (byte === null ? name : byteWords(byte, name));
 
 export class Wave {
   /** @type {HTMLCanvasElement} */ canvas;
@@ -29,6 +33,7 @@ export class Wave {
     Object.assign(this, { begin: 0, end: 0, from: 0, to: 1, moved: false, chosen: -1, pointer: null, mark: null, pointed: null });
     // What is seen at first fits the width, so that frames have room for their names.
     whenResized(canvas, () => { if (this.edges && !this.moved) this.front(); else this.draw(); });
+    whenSharper(() => this.draw());
     for (const query of ['(prefers-color-scheme: dark)', '(forced-colors: active)']) matchMedia(query).addEventListener('change', () => this.draw());
     canvas.addEventListener('keydown', event => this.key(event));
     canvas.addEventListener('wheel', event => this.wheel(event), { passive: false });
@@ -53,13 +58,20 @@ export class Wave {
     else this.draw();
   }
 
+  /** The pixels that a frame needs for its name. */
+  nameWidth(frame) {
+    const pen = this.canvas.getContext('2d');
+    pen.font = `600 12px ${getComputedStyle(this.canvas).fontFamily}`;
+    return pen.measureText(nameOf(frame)).width + 14;
+  }
+
   /** The beginning of a long wave, or all of a short one. */
   front() {
-    // The shortest of the first frames has room for its name.
-    const firsts = Array.from({ length: Math.min(this.frames.length, 10) }, (_, index) => this.frames.get(index));
-    const lengths = firsts.filter(({ end, byte }) => byte !== null && Number.isFinite(end)).map(({ look, end }) => end - look);
+    // Each of the first frames has room for its name.
+    const firsts = Array.from({ length: Math.min(this.frames.length, 10) }, (_, index) => this.frames.get(index)).filter(({ byte, end }) => byte !== null && Number.isFinite(end));
+    const pixel = Math.min(...firsts.map(frame => (frame.end - frame.look) / this.nameWidth(frame)));
     this.moved = false;
-    this.see(this.begin, Math.min(this.begin + Math.min(...lengths) * Math.max(this.width / NAME_WIDTH, 1), this.end), false);
+    this.see(this.begin, Math.min(this.begin + pixel * Math.max(this.width, 64), this.end), false);
   }
 
   all() { this.see(this.begin, this.end); }
@@ -93,8 +105,8 @@ export class Wave {
     if (frame) {
       const end = Number.isFinite(frame.end) ? frame.end : frame.look + 1000, long = end - frame.look;
       // (where the frame is too narrow for its name, or wider than what is seen)
-      const seen = this.to - this.from, around = long * Math.max(this.width / NAME_WIDTH - 1, 3) / 2;
-      if (seen > long * Math.max(this.width / LEAST_WIDTH, 4) || seen < long * 1.2) this.see(frame.look - around, end + around);
+      const seen = this.to - this.from, around = long * Math.max(this.width / this.nameWidth(frame) - 1, 1) / 2;
+      if (seen > long * Math.max((this.width + 1) / this.nameWidth(frame), 2) || seen < long * 1.2) this.see(frame.look - around, end + around);
       else if (frame.look < this.from || end > this.to) this.see(frame.look + (long - this.to + this.from) / 2, frame.look + (long + this.to - this.from) / 2);
     }
     this.draw();
@@ -332,7 +344,7 @@ export class Wave {
     this.drawStrip(places);
     pen.restore();
     pen.fillStyle = this.ink('muted');
-    pen.font = `600 11px ${this.font}`;
+    pen.font = `600 12px ${this.font}`;
     pen.textAlign = 'right';
     pen.textBaseline = 'middle';
     WIRES.forEach(({ name }, number) => pen.fillText(name, NAMES_WIDTH - 10, places.top + (number + .5) * places.each + 1));
@@ -368,7 +380,7 @@ export class Wave {
     const pen = this.pen, rough = (this.to - this.from) / Math.max(this.width / 110, 1);
     const power = 10 ** Math.floor(Math.log10(rough)), step = Math.max([1, 2, 5, 10].find(n => n * power >= rough) * power, 1);
     const [unit, per] = step >= 1e6 ? ['s', 1e6] : step >= 1e3 ? ['ms', 1e3] : ['µs', 1];
-    pen.font = `11px ${this.font}`;
+    pen.font = `12px ${this.font}`;
     pen.textBaseline = 'top';
     // (counted: to a moment of some 2^64 a step adds nothing)
     for (let n = 0, first = Math.ceil(this.from / step); n <= (this.to - this.from) / step && (first + n) * step <= this.to; n++) {
@@ -457,16 +469,9 @@ export class Wave {
     pen.stroke();
     if (eoi) { pen.fillStyle = this.ink('eoi'); pen.fillRect(x + width - eoi - .5, top + 1, eoi, 23); }
     pen.font = `600 12px ${this.font}`;
-    const named = frame.byte === null ? frame.name : `$${hexadecimal(frame.byte)} ${frame.name}`, whole = frame.eoi ? `${named} EOI` : frame.fault ? `${named}, ${frame.fault}` : named;
-    // (a byte that has no name has its number alone, as everywhere)
-    const short = frame.name === `byte ${frame.byte}` ? `$${hexadecimal(frame.byte)}` : frame.name;
-    const words = [whole, named, short, short.replace(/^(['"])(.)\1$/, '$2')];
-    const fits = word => pen.measureText(word).width < width - eoi - 5;
-    let fitting = words.find(fits);
-    if (!fitting) {
-      pen.font = `600 10px ${this.font}`;
-      fitting = [short, ...(frame.byte === null ? [] : [`$${hexadecimal(frame.byte)}`])].find(fits);
-    }
+    // (a frame has its whole name, or none where there is no room for it)
+    const named = nameOf(frame), more = frame.eoi ? ' EOI' : frame.fault ? `, ${frame.fault}` : '';
+    const fitting = [named + more, named].find(words => pen.measureText(words).width < width - eoi - 5);
     if (!fitting) return;
     pen.fillStyle = chosen ? this.ink('ground') : this.ink('text');
     pen.fillText(fitting, x + (width - eoi) / 2, top + 13);
@@ -476,7 +481,7 @@ export class Wave {
   drawBits({ top, each }) {
     const pen = this.pen, { times } = this.turns[1], begin = Math.max(this.frames.indexAt(this.from), 0), end = this.frames.indexAt(this.to);
     if (end - begin > this.width / 8 / BIT_WIDTH + 2) return;
-    pen.font = `600 11px ${this.font}`;
+    pen.font = `600 12px ${this.font}`;
     pen.textAlign = 'center';
     pen.textBaseline = 'middle';
     for (let index = begin; index <= end; index++) {

@@ -200,9 +200,20 @@ function inOrder(times) {
 /** Says how far a long job is: a part of all of it, from 0 to 1, and what is done next. */
 const tellProgress = (done, words) => postMessage({ number, progress: { done, words } });
 
+/**
+ * The microsecond at which a recording starts, from its first sample, as calls with numbers have it. Where it is to start before the
+ * recording's own moment 0, the program's readings say when that is: their last one is as much earlier.
+ */
+function startOf(ask, readings) {
+  if (!(ask.start < 0)) return ask.start;
+  const lastOf = bytes => Number([...latin(bytes.subarray(-8000)).matchAll(/^ +(\d+) /gm)].pop()?.[1] ?? NaN);
+  const whole = answer(recordingWords('decode', { ...ask, start: 0 }, 'list'), ask.bytes).output, start = lastOf(whole) - lastOf(readings);
+  return Number.isFinite(start) ? start : 0;
+}
+
 /** Keeps a recording with its readings, and gives its edges and what is said of it; `ask` has its bytes and their format. */
 function keepWire(ask, said, verdict) {
-  const { detail, ...given } = recordingNumbers(ask);
+  const { detail, ...given } = recordingNumbers({ ...ask, start: startOf(ask, said.output) });
   tellProgress(.2, 'reading its edges');
   const all = print1525.edges(given), count = inOrder(all.times);
   tellProgress(.33, 'finding its delays');
