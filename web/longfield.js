@@ -7,7 +7,7 @@ const PART = 250;              // lines of a part
 const NEAR = 2;                // parts before and after the selection that are laid out
 const LEAST = 2000;            // lines: a shorter listing is in a textarea
 
-export const MARK = '\ue000';   // a character that no listing has
+export const MARK = '\ufdd0';   // a character that no text has: Unicode leaves it to programs
 
 const isPart = node => node.nodeName === 'DIV';
 
