@@ -233,7 +233,7 @@ level_fields sep e = level_byte e.levels.atn ∷ sep ∷ level_byte e.levels.clo
 
 -- the columns of the names that are written
 abbrev columns : Columns
-columns = record { atn = 1; clock = 2; line = 3; has_other_first = false }
+columns = record { atn = 1; clock = 2; line = 3; has_other_first = false; are_rated = false }
 
 -- and the layout
 abbrev layout : Separator → TimeUnit → Layout

@@ -29,7 +29,7 @@ use Rattle.pr_capture.specs.declared.times.Instant.{Instant}
 use Rattle.pr_capture.specs.declared.fault.CaptureFault.TheVariants.{BadLevel, Floating, NoTime, Unknown}
 use Rattle.pr_capture.specs.declared.fault.Wire.{Wire}
 use Rattle.pr_capture.specs.declared.fault.Wire.TheVariants.{Atn, Clock, Data}
-use Rattle.pr_capture.specs.Csv.{behind_point, cell_level, csv_contents, field_at, fields_of, instant_of_number, instant_of_row, is_foreign, is_inner, is_silent, level_of, level_or, moment_at, moment_next, moment_of, row_contents, row_of, sample_by, sample_of}
+use Rattle.pr_capture.specs.Csv.{behind_point, cell_level, csv_contents, field_at, fields_of, has_number, instant_of_number, instant_of_row, is_foreign, is_inner, is_silent, level_of, level_or, moment_at, moment_next, moment_of, row_contents, row_of, sample_by, sample_of}
 use Rattle.pr_capture.specs.CsvReads.{ReadsMore, SkipsRows, TakesRepeats}
 use Rattle.pr_capture.specs.Gathers.{AllHave}
 use Rattle.pr_capture.specs.CsvSteps.{are_behind, contents_from, decimals_len, digits_ahead, field_len, is_plain, line_number, row_at, row_if, tail_at, tail_behind, tail_by, with_len, HasLevels, HasReadTable, IsFront, IsPlainTime, IsRepeat, IsRowOf, IsTimeAhead, KnowsLevels, PlainComesFirst, TimeComesFirst}
@@ -305,7 +305,8 @@ sample-behind c inverted n t f g fs h = by c.has_other_first (c.atn == 0) (c.clo
         ap (λ v. made v (field_at c.clock (f ∷ fs)) (field_at c.line (f ∷ fs))) (column-behind c.atn f g fs hp)
         ∙ (ap (λ v. made (field_at c.atn (g ∷ fs)) v (field_at c.line (f ∷ fs))) (column-behind c.clock f g fs hq)
         ∙ ap (λ v. made (field_at c.atn (g ∷ fs)) (field_at c.clock (g ∷ fs)) v) (column-behind c.line f g fs hr)) in
-        rw ho same
+        let later : Bool = c.are_rated && has_number c 1 fs in
+        rw ho (ap (λ v. if later then Err (NoTime n) else v) same)
     by true p q r ho hp hq hr = absurd (let no : false ≡ true = rw ho at h in cc)
     by false true q r ho hp hq hr = absurd (let no : false ≡ true = rw (ho, hp) at h in cc)
     by false false true r ho hp hq hr = absurd (let no : false ≡ true = rw (ho, hp, hq) at h in cc)

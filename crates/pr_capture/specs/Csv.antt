@@ -5,6 +5,7 @@ use Rattle.std.specs.List.{list_all}
 use Rattle.std.specs.Str.{bytes_eq}
 use Rattle.pr_wire.specs.declared.Edge.{Edge}
 use Rattle.pr_wire.specs.Levels.{edge_at}
+use Rattle.pr_base.specs.Digits.{is_digit}
 use Rattle.pr_base.specs.Lines.{lines_of, onto_first}
 use Rattle.pr_capture.specs.declared.csv.Columns.{Columns}
 use Rattle.pr_capture.specs.declared.csv.Scale.{Scale}
@@ -22,7 +23,7 @@ use Rattle.pr_capture.specs.declared.signals.Signals.{Signals}
 use Rattle.pr_capture.specs.Recording.{◌>>=◌, ended, first_some, is_framing, is_named, level_in, refused, second_name, shared, unless, with_samples, without_front, CaptureContents}
 use Rattle.pr_capture.specs.Words.{is_space}
 use Rattle.pr_capture.specs.Numbers.{behind_word, onward}
-use Rattle.pr_capture.specs.TableTimes.{bare_unit, count_in, from_start, has_numbers, instant_in, is_counting, is_timing, no_remarks, rate_known, remarked, sample_in, scale_of, start_of, time_at_rate, time_or, time_unit}
+use Rattle.pr_capture.specs.TableTimes.{bare_unit, behind_plus_minus, count_in, from_start, has_numbers, instant_in, is_counting, is_timing, no_remarks, rate_known, remarked, sample_in, scale_of, start_of, time_at_rate, time_or, time_unit}
 
 -- Lines and fields.
 
@@ -135,7 +136,11 @@ columns_in s number place fs =
     column_in number Clock (clock_name s fs) place fs >>= λ clock.
     column_in number Data s.line.now place fs >>= λ line.
     unless (shared number (clock == atn) (line == atn || line == clock))
-    (Ok (record { atn = atn; clock = clock; line = line; has_other_first = is_other place atn clock line }))
+    (Ok (record { atn = atn; clock = clock; line = line; has_other_first = is_other place atn clock line; are_rated = false }))
+
+-- the same where the rows' times come of a rate
+abbrev pub rated : Columns → Columns
+rated c = record c { are_rated = true }
 
 -- Before the names.
 
@@ -210,10 +215,10 @@ rate_alone false rate = rate
 abbrev pub layout_beside : Signals → Remarks → (number separator : ℕ) → (numbers : Bool) → (fields : List (List ℕ)) → Result Layout CaptureFault
 layout_beside s r number sep true fs =
     columns_by s r.behind number 1 (drop 1 fs) >>= λ c.
-    rate_or number (rate_alone (has_times c 1 (drop 1 fs)) (rate_known r)) >>= λ rate. Ok (record { columns = c; separator = sep; scale = Numbered 1 rate })
+    rate_or number (rate_alone (has_times c 1 (drop 1 fs)) (rate_known r)) >>= λ rate. Ok (record { columns = rated c; separator = sep; scale = Numbered 1 rate })
 layout_beside s r number sep false fs =
     columns_by s r.alone number 0 fs >>= λ c.
-    rate_or number (rate_alone (has_times c 1 (drop 1 fs)) (rate_beside r (field_at 0 fs))) >>= λ rate. Ok (record { columns = c; separator = sep; scale = Counted rate })
+    rate_or number (rate_alone (has_times c 1 (drop 1 fs)) (rate_beside r (field_at 0 fs))) >>= λ rate. Ok (record { columns = rated c; separator = sep; scale = Counted rate })
 
 -- or with times in its first column, by their unit
 abbrev pub layout_by : Signals → Remarks → (number separator : ℕ) → (unit : Option ℕ) → (fields : List (List ℕ)) → Result Layout CaptureFault
@@ -273,9 +278,30 @@ abbrev pub has_level : (first : Option (List ℕ)) → Bool
 has_level None = false
 has_level (Some f) = is_level (without_front f)
 
--- a first column that is none of the three has no level in this row: it has times or numbers that its name does not say
+-- a field begins as a number does: with a digit, after a sign or not, and after a point, a comma or neither
+abbrev pub begins_digit : List ℕ → Bool
+begins_digit [] = false
+begins_digit (b ∷ bs) = is_digit b
+
+abbrev pub behind_mark : List ℕ → List ℕ
+behind_mark [] = []
+behind_mark (b ∷ bs) = if b == 46 || b == 44 then bs else b ∷ bs
+
+abbrev pub begins_number : List ℕ → Bool
+begins_number l = begins_digit (behind_mark (behind_plus_minus l))
+
+-- and is no level: 2, 0.001, -5 V, 12:30:45
+abbrev pub is_number : List ℕ → Bool
+is_number l = begins_number l && not (is_level l)
+
+-- one of these columns, of which the first has this place, has such a number, and is none of the three
+abbrev pub has_number : Columns → (place : ℕ) → (fields : List (List ℕ)) → Bool
+has_number c place [] = false
+has_number c place (f ∷ fs) = (is_number (without_front f) && not (is_line_at c place)) || has_number c (place + 1) fs
+
+-- a row has times or numbers that no name says: a first column that is none of the three has no level, or at a rate a later one has a number
 abbrev pub is_foreign : Columns → (fields : List (List ℕ)) → Bool
-is_foreign c fields = c.has_other_first && not (has_level (field_at 0 fields))
+is_foreign c fields = (c.has_other_first && not (has_level (field_at 0 fields))) || (c.are_rated && has_number c 1 (drop 1 fields))
 
 -- the sample of the three columns, with its time
 abbrev pub sample_by : Columns → (inverted : Bool) → (number : ℕ) → (fields : List (List ℕ)) → (time : ℕ)

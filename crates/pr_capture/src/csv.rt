@@ -6,7 +6,7 @@
 
 ghost use Rattle.std.specs.Prelude.{◌≡◌, ◌+◌, ◌^◌, ◌<◌, ◌≤◌, ◌∷◌, [], false, true, None, Err, IfErr, IfOk, Ok, drop, length, option_copied, take, IfSome, Some};
 ghost use Rattle.std.specs.List.{list_all, prefix_len};
-ghost use Rattle.pr_capture.specs.Csv.{are_logic, behind_colon, behind_point, cell_level, channels_in, clock_name, column_in, columns_by, columns_called, columns_or, column_of, columns_in, field_at, fields_of, first_moment, has_level, has_numeral, has_times, is_archive, is_foreign, is_in_front, is_inner, is_level, is_line_at, is_level_letter, is_other, is_separator, is_silent, is_twice, is_wide, layout_beside, layout_by, layout_of, level_of, level_or, moment_at, moment_next, moment_of, noted, opened, place_meant, rate_beside, row_of, sample_by, sample_of, separator_behind, separator_of, separator_or, separator_said, with_channels, with_separator, without_space, without_zeros};
+ghost use Rattle.pr_capture.specs.Csv.{are_logic, begins_digit, behind_colon, behind_mark, behind_point, cell_level, channels_in, clock_name, column_in, columns_by, columns_called, columns_or, column_of, columns_in, field_at, fields_of, first_moment, has_level, has_number, has_numeral, has_times, is_archive, is_foreign, is_in_front, is_inner, is_level, is_line_at, is_level_letter, is_number, is_other, is_separator, is_silent, is_twice, is_wide, layout_beside, layout_by, layout_of, level_of, level_or, moment_at, moment_next, moment_of, noted, opened, place_meant, rate_beside, rated, row_of, sample_by, sample_of, separator_behind, separator_of, separator_or, separator_said, with_channels, with_separator, without_space, without_zeros};
 ghost use Rattle.pr_capture.specs.CsvReads.{EndsText, FaultsIn, ReadsMore, RefusesTable, SkipsRows, TakesRepeats};
 ghost use Rattle.pr_capture.specs.CsvSteps.{field_len, fields_left, line_number, moment_after, with_len, AreTimed, AnswersEnd, HasNoRows, HasReadTable, HoldsMore, IsRowOf, NamesAreRefused, NamesLeadTo, ReadsLine};
 ghost use Rattle.pr_capture.specs.TableTimes.{time_at_rate};
@@ -19,8 +19,10 @@ use crate::numbers::{behind_first, behind_word, first_of};
 use crate::remarks::{Remarks, has_numbers, is_counting, is_timing, scale_of, time_unit};
 use crate::signals::{Signals, are_framing, is_named, is_space, level_in, shared, without_front};
 use crate::times::{
-    Instant, count_in, from_start, instant_in, sample_in, start_of, time_at_rate, time_or,
+    Instant, behind_plus_minus, count_in, from_start, instant_in, sample_in, start_of,
+    time_at_rate, time_or,
 };
+use pr_base::is_digit;
 use pr_wire::{Edge, Levels};
 use std::alloc::Global;
 
@@ -32,6 +34,8 @@ pub struct Columns {
     pub line: usize,
     /// Whether the first column is none of these, and has neither times nor numbers by its name: it has levels too.
     pub has_other_first: bool,
+    /// Whether the rows' times come of a rate: then no later column has other numbers than levels.
+    pub are_rated: bool,
 }
 
 /// What the rows' times are.
@@ -352,7 +356,21 @@ fn columns_in(
         clock,
         line,
         has_other_first: is_other(place, atn, clock, line),
+        are_rated: false,
     })
+}
+
+/// The same columns, where the rows' times come of a rate.
+fn rated(columns: Columns) -> Columns
+    ensures { result ≡ rated columns }
+{
+    Columns {
+        atn: columns.atn,
+        clock: columns.clock,
+        line: columns.line,
+        has_other_first: columns.has_other_first,
+        are_rated: true,
+    }
 }
 
 /// What follows the first colon.
@@ -526,7 +544,7 @@ fn layout_beside(
         Scale::Counted(rate)
     };
     Ok(Layout {
-        columns,
+        columns: rated(columns),
         separator,
         scale,
     })
@@ -685,11 +703,64 @@ fn has_level(first: Option<&[u8]>) -> bool
     }
 }
 
-/// Whether a first column that is none of the three lines' has no level in this row.
+/// Whether a digit is in front.
+fn begins_digit(text: &[u8]) -> bool
+    ensures { result ≡ begins_digit text.now }
+{
+    match text {
+        [b, ..] => is_digit(*b),
+        [] => false,
+    }
+}
+
+/// What follows a point or a comma, if one is in front.
+fn behind_mark(text: &[u8]) -> &[u8]
+    ensures { result.now ≡ behind_mark text.now }
+{
+    match text {
+        [] => &[],
+        [b, rest @ ..] => { if *b == b'.' || *b == b',' { rest } else { text } }
+    }
+}
+
+/// Whether a field begins as a number does, and is no level.
+fn is_number(field: &[u8]) -> bool
+    ensures { result ≡ is_number field.now }
+{
+    begins_digit(behind_mark(behind_plus_minus(field))) && !is_level(field)
+}
+
+/// Whether one of these columns, of which the first has this place, has such a number, and is none of the three lines'.
+fn has_number(columns: Columns, place: usize, separator: u8, fields: Option<&[u8]>) -> bool
+    requires { place + length (fields_left separator (option_copied fields)) < 2 ^ 64 }
+    ensures { result ≡ has_number columns place (fields_left separator (option_copied fields.entry)) }
+{
+    let mut here = place;
+    let mut left = fields;
+    while let Some(line) = left {
+        let (field, more) = split_field(separator, line);
+        if is_number(without_front(field)) && !is_line_at(columns, here) {
+            return true;
+        }
+        here += 1;
+        left = more;
+    }
+    false
+}
+
+/// Whether a row has times or numbers that no name says: a first column that is none of the three lines' has no level
+/// in it, or at a rate a later one has a number.
 fn is_foreign(layout: Layout, line: &[u8]) -> bool
     ensures { result ≡ is_foreign layout.columns (fields_of layout.separator false line.now) }
 {
-    layout.columns.has_other_first && !has_level(field_at(layout.separator, line, 0))
+    if layout.columns.has_other_first && !has_level(field_at(layout.separator, line, 0)) {
+        return true;
+    }
+    if !layout.columns.are_rated {
+        return false;
+    }
+    let (_, later) = split_field(layout.separator, line);
+    has_number(layout.columns, 1, layout.separator, later)
 }
 
 /// The sample of the three lines' columns, which has this time.

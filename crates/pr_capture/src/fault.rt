@@ -25,7 +25,7 @@ pub enum CaptureFault {
     NoSignal(usize, Wire),
     /// The first column of a table is not one of times in a known unit: it has other counts by its name, no rate of
     /// samples is known, or a later column has times or counts by its name; or, in a row at a rate, it has a cell that is
-    /// no level, and its name does not say of what.
+    /// no level, and its name does not say of what, or a later column has a number that is no level.
     #[error("line {0}: no time")]
     NoTime(usize),
     /// A word that can not be here.

@@ -9,7 +9,8 @@ use crate::names::{
     push_table_names, separator_of,
 };
 use crate::tables::{
-    begins_number, has_rate, other_said, push_other_said, push_times_rule, separator_at,
+    begins_number, has_rate, names_before, other_said, push_other_said, push_row_rule,
+    push_times_rule, separator_at,
 };
 use crate::texts::{Cut, line_with, without_end};
 use crate::words::begins_listing;
@@ -168,10 +169,16 @@ fn push_table_fault(
             push_columns(text, line, separator, wire, input.signals)?;
             push_skipped(text, bytes, line)
         }
-        CaptureFault::NoTime(_) => {
-            let is_rated = has_rate(bytes, input, number);
-            push_times_rule(text, line, separator.unwrap_or(b','), input, is_rated)
-        }
+        CaptureFault::NoTime(_) => match names_before(bytes, number) {
+            Some(names) => {
+                let separator = separator_at(bytes, names, number).unwrap_or(b',');
+                push_row_rule(text, names, line, separator, input)
+            }
+            None => {
+                let is_rated = has_rate(bytes, input, number);
+                push_times_rule(text, line, separator.unwrap_or(b','), input, is_rated)
+            }
+        },
         CaptureFault::BadLevel(_) if has_fractions(separator.unwrap_or(b','), line) => {
             write!(text, "  {VOLTS}\n")
         }

@@ -260,6 +260,59 @@ pub fn push_later_columns(
     )
 }
 
+/// Adds which columns behind the first one have numbers in a row at a rate that are no levels, and are none of the
+/// signals, by the line of the names.
+pub fn push_later_numbers(
+    text: &mut String,
+    separator: u8,
+    names: &[u8],
+    row: &[u8],
+    signals: Signals<'_>,
+) -> Result<(), NoMemory> {
+    write!(text, "  at a rate a later column has numbers that are no levels")?;
+    let (_, mut names) = split_field(separator, names);
+    let (_, mut rest) = split_field(separator, row);
+    let mut place: usize = 1;
+    let mut count: usize = 0;
+    while !rest.is_empty() {
+        let (name, later) = split_field(separator, names);
+        let (cell, more) = split_field(separator, rest);
+        names = later;
+        rest = more;
+        place = place.wrapping_add(1);
+        let name = unframed(name);
+        if is_other_number(unframed(cell)) && !is_signal(name, signals) {
+            let sign = if count == 0 { " (" } else { "; " };
+            write!(text, "{sign}column {place}, {}", Cut(name))?;
+            count = count.wrapping_add(1);
+        }
+    }
+    let end = if count == 0 { "" } else { ")" };
+    write!(
+        text,
+        "{end}: move it to the front and name this column: Time [us], Sample; if it has neither, leave it out\n"
+    )
+}
+
+/// Whether a cell begins with a digit, after a sign or a point or not, and is no level.
+fn is_other_number(cell: &[u8]) -> bool {
+    let number = match cell {
+        [b'-' | b'+', rest @ ..] => rest,
+        _ => cell,
+    };
+    matches!(number, [b'0'..=b'9', ..] | [b'.' | b',', b'0'..=b'9', ..]) && !is_level(cell)
+}
+
+/// Whether a cell is a level, known or not, which may have a point and zeros behind it.
+pub fn is_level(cell: &[u8]) -> bool {
+    match cell {
+        [level, rest @ ..] if b"01LlHhXxZz".contains(level) => {
+            matches!(rest, [] | [b'.', ..]) && !rest.iter().any(|byte| matches!(*byte, b'1'..=b'9'))
+        }
+        _ => false,
+    }
+}
+
 /// Whether a name begins with a word for time.
 fn begins_time(name: &[u8]) -> bool {
     begins_with(name, b"time") || begins_with(name, b"elapsed") || begins_with(name, b"delta")

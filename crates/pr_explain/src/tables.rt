@@ -1,8 +1,8 @@
 //! What separates the fields of a table, and which of its columns has the times.
 
 use crate::names::{
-    begins_with, first_field, has_others, has_times_behind, is_signal, push_later_columns,
-    separator_of,
+    begins_with, first_field, has_others, has_times_behind, is_level, is_signal, push_later_columns,
+    push_later_numbers, separator_of,
 };
 use crate::texts::unframed;
 use pr_capture::TraceInput;
@@ -119,8 +119,56 @@ fn has_digit(bytes: &[u8]) -> bool {
     false
 }
 
-/// Adds what a table has that is refused since it has no times: by this line, of its names or a row whose first cell is
-/// no level, and by whether a rate is given.
+/// The line before that of this number which has the names of a table's columns: the first that is no remark and does
+/// not say a rate or what separates fields. None where that line has them itself.
+pub fn names_before(bytes: &[u8], number: usize) -> Option<&[u8]> {
+    let mut at: usize = 0;
+    for line in bytes.split(|byte| *byte == b'\n') {
+        at = at.wrapping_add(1);
+        if at >= number {
+            break;
+        }
+        if !is_in_front(line) {
+            return Some(line);
+        }
+    }
+    None
+}
+
+/// Whether a line comes before that of the names.
+fn is_in_front(line: &[u8]) -> bool {
+    matches!(unframed(line), [] | [b';' | b'#', ..])
+        || begins_with(line, b"META samplerate")
+        || separator_in(line).is_some()
+}
+
+/// Whether the first column of a table is one of the signals or has numbers of samples, by its name.
+fn is_lawful(name: &[u8], input: TraceInput<'_>) -> bool {
+    is_signal(name, input.signals) || begins_with(name, b"sample") || begins_with(name, b"index")
+}
+
+/// Adds what a row of a table at a rate has, after this line of names, that is refused since it may have times: a first
+/// cell that is no level, or a later one that is a number.
+pub fn push_row_rule(
+    text: &mut String,
+    names: &[u8],
+    row: &[u8],
+    separator: u8,
+    input: TraceInput<'_>,
+) -> Result<(), NoMemory> {
+    let cell = first_field(separator, row);
+    if is_level(cell) || is_lawful(first_field(separator, names), input) {
+        return push_later_numbers(text, separator, names, row, input.signals);
+    }
+    write!(
+        text,
+        "  this first column has no levels, and its name is none of times: name this column: Time [us], \
+         Sample; or leave it out if it has neither\n"
+    )
+}
+
+/// Adds what a table has that is refused since it has no times: by this line, of its names, and by whether a rate is
+/// given.
 pub fn push_times_rule(
     text: &mut String,
     line: &[u8],
@@ -130,8 +178,7 @@ pub fn push_times_rule(
 ) -> Result<(), NoMemory> {
     let name = first_field(separator, line);
     let signals = input.signals;
-    let is_first = is_signal(name, signals) || begins_with(name, b"sample");
-    if is_rated && is_first && has_others(separator, line, signals) {
+    if is_rated && is_lawful(name, input) && has_others(separator, line, signals) {
         return push_later_columns(text, separator, line, signals);
     }
     let rule = if is_signal(name, signals) && !has_times_behind(separator, line) {
@@ -145,10 +192,7 @@ pub fn push_times_rule(
 
 /// The same where no first column is one of a signal.
 fn rule_of_times(separator: u8, line: &[u8], name: &[u8]) -> &'static str {
-    if begins_number(name) {
-        "this first column has no levels, and its name is none of times: name this column: Time [us], \
-         Sample; or move it behind the signals if it is neither"
-    } else if has_times_behind(separator, line) {
+    if has_times_behind(separator, line) {
         "a later column has times: move it to the front, and name it with its unit, such as Time [us]"
     } else if begins_with(name, b"sample") {
         "these are numbers of samples: give the sample rate with --rate, such as --rate 4M, or in a remark \
