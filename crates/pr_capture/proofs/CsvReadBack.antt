@@ -237,7 +237,7 @@ columns = record { atn = 1; clock = 2; line = 3; has_other_first = false; are_ra
 
 -- and the layout
 abbrev layout : Separator → TimeUnit → Layout
-layout p u = record { columns = columns; separator = separator_byte p; scale = Timed (place_of_unit u) }
+layout p u = record { columns = columns; separator = separator_byte p; scale = Timed (place_of_unit u); times = 0 }
 
 -- a moment of a table that starts at 0: none was given yet, or one was
 abbrev moment : (start : Option ℕ) → (before : ℕ) → Moment

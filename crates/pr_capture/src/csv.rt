@@ -6,7 +6,7 @@
 
 ghost use Rattle.std.specs.Prelude.{◌≡◌, ◌+◌, ◌^◌, ◌<◌, ◌≤◌, ◌∷◌, [], false, true, None, Err, IfErr, IfOk, Ok, drop, length, option_copied, take, IfSome, Some};
 ghost use Rattle.std.specs.List.{list_all, prefix_len};
-ghost use Rattle.pr_capture.specs.Csv.{are_logic, begins_digit, behind_colon, behind_mark, behind_point, cell_level, channels_in, clock_name, column_in, columns_by, columns_called, columns_or, column_of, columns_in, field_at, fields_of, first_moment, has_level, has_number, has_numeral, has_times, is_archive, is_foreign, is_in_front, is_inner, is_level, is_line_at, is_level_letter, is_number, is_other, is_separator, is_silent, is_twice, is_wide, layout_beside, layout_by, layout_of, level_of, level_or, moment_at, moment_next, moment_of, noted, opened, place_meant, rate_beside, rated, row_of, sample_by, sample_of, separator_behind, separator_of, separator_or, separator_said, with_channels, with_separator, without_space, without_zeros};
+ghost use Rattle.pr_capture.specs.Csv.{are_logic, begins_digit, behind_colon, behind_mark, behind_point, cell_level, channels_in, clock_name, column_in, columns_by, columns_called, columns_or, column_of, columns_in, field_at, fields_of, first_moment, has_level, has_number, has_numeral, has_times, instant_of_number, instant_of_row, is_archive, is_foreign, is_in_front, is_inner, is_level, is_line_at, is_level_letter, is_number, is_other, is_separator, is_silent, is_twice, is_wide, last_of, layout_beside, layout_by, layout_last, layout_of, level_of, level_or, moment_at, moment_next, moment_of, noted, opened, place_meant, rate_beside, rated, row_of, sample_by, sample_of, separator_behind, separator_of, separator_or, separator_said, with_channels, with_separator, without_space, without_zeros};
 ghost use Rattle.pr_capture.specs.CsvReads.{EndsText, FaultsIn, ReadsMore, RefusesTable, SkipsRows, TakesRepeats};
 ghost use Rattle.pr_capture.specs.CsvSteps.{field_len, fields_left, line_number, moment_after, with_len, AreTimed, AnswersEnd, HasNoRows, HasReadTable, HoldsMore, IsRowOf, NamesAreRefused, NamesLeadTo, ReadsLine};
 ghost use Rattle.pr_capture.specs.TableTimes.{time_at_rate};
@@ -41,9 +41,9 @@ pub struct Columns {
 /// What the rows' times are.
 #[derive(Clone, Copy)]
 pub enum Scale {
-    /// Each row begins with its time, in this unit: how many decimals it is of a second.
+    /// Each row has its time, in this unit: how many decimals it is of a second.
     Timed(u8),
-    /// Each row begins with the number of its sample, `step` times, and a second has `rate` samples.
+    /// Each row has the number of its sample, `step` times, and a second has `rate` samples.
     Numbered { step: u64, rate: u64 },
     /// A row is a sample, and a second has this many.
     Counted(u64),
@@ -56,6 +56,8 @@ pub struct Layout {
     /// The byte that separates fields.
     pub separator: u8,
     pub scale: Scale,
+    /// The place of the times or numbers, from 0.
+    pub times: usize,
 }
 
 /// Where the next row is in time.
@@ -507,8 +509,64 @@ fn rate_beside(remarks: Remarks, first: Option<&[u8]>) -> Option<u64>
     }
 }
 
-/// How a table without times is read, whose first column has the numbers of samples, or which has a row a
-/// sample.
+/// The last of these fields; nothing where there is none.
+fn last_of(separator: u8, fields: Option<&[u8]>) -> &[u8]
+    requires { length (fields_left separator (option_copied fields)) < 2 ^ 64 }
+    ensures { result.now ≡ last_of [] (fields_left separator (option_copied fields.entry)) }
+{
+    let mut last: &[u8] = &[];
+    let mut left = fields;
+    while let Some(line) = left {
+        let (field, more) = split_field(separator, line);
+        last = field;
+        left = more;
+    }
+    last
+}
+
+/// How many fields these are.
+fn count_of(separator: u8, fields: Option<&[u8]>) -> usize
+    requires { length (fields_left separator (option_copied fields)) < 2 ^ 64 }
+    ensures { result ≡ length (fields_left separator (option_copied fields.entry)) }
+{
+    let mut count = 0;
+    let mut left = fields;
+    while let Some(line) = left {
+        let (_, more) = split_field(separator, line);
+        count += 1;
+        left = more;
+    }
+    count
+}
+
+/// How a table is read whose last column has the times, by its name; None where its name is none of times, or one of
+/// the three lines has it.
+fn layout_last(remarks: Remarks, columns: Columns, separator: u8, line: &[u8]) -> Option<Layout>
+    requires { length (fields_of separator false line.now) < 2 ^ 64 }
+    ensures { result ≡ layout_last remarks separator columns (fields_of separator false line.now) }
+{
+    let name = last_of(separator, Some(line));
+    let unit = time_unit(remarks.bare_unit(), name)?;
+    let times = count_of(separator, Some(line)).saturating_sub(1);
+    if is_line_at(columns, times) {
+        return None;
+    }
+    Some(Layout {
+        columns: Columns {
+            atn: columns.atn,
+            clock: columns.clock,
+            line: columns.line,
+            has_other_first: false,
+            are_rated: columns.are_rated,
+        },
+        separator,
+        scale: scale_of(remarks, unit, Some(name)),
+        times,
+    })
+}
+
+/// How a table is read whose first column has no times: it has the numbers of samples, or the last one has the times, or
+/// a row is a sample.
 fn layout_beside(
     signals: &Signals<'_>,
     remarks: Remarks,
@@ -528,6 +586,11 @@ fn layout_beside(
     } else {
         columns_by(signals, remarks.alone, number, 0, separator, Some(line))?
     };
+    if !has_numbers {
+        if let Some(layout) = layout_last(remarks, columns, separator, line) {
+            return Ok(layout);
+        }
+    }
     let rate = if has_times(columns, 1, separator, more) {
         None
     } else if has_numbers {
@@ -547,6 +610,7 @@ fn layout_beside(
         columns: rated(columns),
         separator,
         scale,
+        times: 0,
     })
 }
 
@@ -573,6 +637,7 @@ fn layout_by(
                 columns,
                 separator,
                 scale: scale_of(remarks, unit, field_at(separator, line, 0)),
+                times: 0,
             })
         }
         None => {
@@ -820,6 +885,20 @@ fn with_rows(count: u64, rows: usize) -> Option<u64>
     count.checked_add(u64::try_from(rows).ok()?)
 }
 
+/// The time that a row's field of times spells.
+fn instant_of_row(separator: u8, unit: u8, time: Option<&[u8]>) -> Option<Instant>
+    ensures { result ≡ instant_of_row separator unit (option_copied time.entry) }
+{
+    instant_in(separator, unit, without_front(time?))
+}
+
+/// That of the sample whose number, multiplied by `step`, it spells.
+fn instant_of_number(step: u64, rate: u64, time: Option<&[u8]>) -> Option<Instant>
+    ensures { result ≡ instant_of_number step rate (option_copied time.entry) }
+{
+    sample_in(step, rate, without_front(time?))
+}
+
 impl Moment {
     /// That of the first row.
     fn first() -> Moment
@@ -887,19 +966,16 @@ impl Moment {
 
     /// That of a row.
     fn of_row(self, layout: Layout, number: usize, line: &[u8]) -> Result<Moment, CaptureFault>
-        ensures { result ≡ moment_of layout.scale layout.separator number self (fields_of layout.separator false line.now) }
+        ensures { result ≡ moment_of layout.scale layout.separator number self (field_at layout.times (fields_of layout.separator false line.now)) }
     {
         match layout.scale {
             Scale::Timed(unit) => {
-                let (time, _) = split_field(layout.separator, line);
-                self.at(
-                    number,
-                    instant_in(layout.separator, unit, without_front(time)),
-                )
+                let time = field_at(layout.separator, line, layout.times);
+                self.at(number, instant_of_row(layout.separator, unit, time))
             }
             Scale::Numbered { step, rate } => {
-                let (sample, _) = split_field(layout.separator, line);
-                self.at(number, sample_in(step, rate, without_front(sample)))
+                let sample = field_at(layout.separator, line, layout.times);
+                self.at(number, instant_of_number(step, rate, sample))
             }
             Scale::Counted(rate) => self.next(number, rate),
         }

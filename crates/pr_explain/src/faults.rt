@@ -300,7 +300,7 @@ fn rule_of_dumps(fault: CaptureFault) -> &'static str {
 fn rule_of_tables(fault: CaptureFault) -> &'static str {
     match fault {
         CaptureFault::BadTime(_) => {
-            "expected a time first, such as 0.000125, -2 or 5e-05 (0,000125 where ; or a tab separates), in \
+            "expected a time, such as 0.000125, -2 or 5e-05 (0,000125 where ; or a tab separates), in \
              the unit of its column and below 2^64 microseconds; sample numbers are digits, and times after sigrok-cli's remark of a rate are \
              multiples of one sample's"
         }

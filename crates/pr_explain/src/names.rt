@@ -269,7 +269,10 @@ pub fn push_later_numbers(
     row: &[u8],
     signals: Signals<'_>,
 ) -> Result<(), NoMemory> {
-    write!(text, "  at a rate a later column has numbers that are no levels")?;
+    write!(
+        text,
+        "  at a rate a later column has numbers that are no levels"
+    )?;
     let (_, mut names) = split_field(separator, names);
     let (_, mut rest) = split_field(separator, row);
     let mut place: usize = 1;

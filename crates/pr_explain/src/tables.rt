@@ -1,8 +1,8 @@
 //! What separates the fields of a table, and which of its columns has the times.
 
 use crate::names::{
-    begins_with, first_field, has_others, has_times_behind, is_level, is_signal, push_later_columns,
-    push_later_numbers, separator_of,
+    begins_with, first_field, has_others, has_times_behind, is_level, is_signal,
+    push_later_columns, push_later_numbers, separator_of,
 };
 use crate::texts::unframed;
 use pr_capture::TraceInput;
@@ -183,7 +183,7 @@ pub fn push_times_rule(
     }
     let rule = if is_signal(name, signals) && !has_times_behind(separator, line) {
         "the first column is a signal: --rate gives the distance of the samples, such as --rate 4M, or a \
-         remark such as ; Samplerate: 4 MHz; a column of times would be the first"
+         remark such as ; Samplerate: 4 MHz; a column of times would be the first or the last"
     } else {
         rule_of_times(separator, line, name)
     };
