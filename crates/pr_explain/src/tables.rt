@@ -136,7 +136,7 @@ pub fn names_before(bytes: &[u8], number: usize) -> Option<&[u8]> {
 }
 
 /// Whether a line comes before that of the names.
-fn is_in_front(line: &[u8]) -> bool {
+pub fn is_in_front(line: &[u8]) -> bool {
     matches!(unframed(line), [] | [b';' | b'#', ..])
         || begins_with(line, b"META samplerate")
         || separator_in(line).is_some()
@@ -217,7 +217,7 @@ pub fn begins_number(cell: &[u8]) -> bool {
 }
 
 /// Whether a column has a word for time as its name, without a unit.
-fn is_time_alone(name: &[u8]) -> bool {
+pub fn is_time_alone(name: &[u8]) -> bool {
     name.eq_ignore_ascii_case(b"time")
         || name.eq_ignore_ascii_case(b"timestamp")
         || name.eq_ignore_ascii_case(b"t")
