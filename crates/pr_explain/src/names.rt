@@ -200,6 +200,43 @@ pub fn has_times_behind(separator: u8, line: &[u8]) -> bool {
     false
 }
 
+/// Whether a table has a column that this name means, by the line of its names: one that is called so, or, where it is a number, one
+/// with this number, from 0. Columns of times in front do not count.
+pub fn has_column(separator: u8, line: &[u8], name: &[u8]) -> bool {
+    let (first, later) = split_field(separator, line);
+    let mut rest = if is_front(unframed(first)) {
+        later
+    } else {
+        line
+    };
+    let mut left = number_of(name);
+    while !rest.is_empty() {
+        let (field, more) = split_field(separator, rest);
+        rest = more;
+        if left == Some(0) || unframed(field).eq_ignore_ascii_case(name) {
+            return true;
+        }
+        left = match left {
+            Some(number) => number.checked_sub(1),
+            None => None,
+        };
+    }
+    false
+}
+
+/// Whether a first column has times or numbers of samples by its name, as it seems.
+fn is_front(name: &[u8]) -> bool {
+    begins_time(name) || begins_with(name, b"sample") || begins_with(name, b"index")
+}
+
+/// The number that a name is, if it is one.
+fn number_of(name: &[u8]) -> Option<usize> {
+    match str::from_utf8(name) {
+        Ok(name) => name.parse().ok(),
+        Err(_) => None,
+    }
+}
+
 /// Whether a column is called as one of the signals, in capitals or not.
 pub fn is_signal(name: &[u8], signals: Signals<'_>) -> bool {
     name.eq_ignore_ascii_case(signals.atn)
@@ -332,11 +369,29 @@ pub fn first_field(separator: u8, line: &[u8]) -> &[u8] {
     unframed(field)
 }
 
-/// Whether a field behind the first one has a point between digits, as volts have.
-pub fn has_fractions(separator: u8, line: &[u8]) -> bool {
+/// Whether a field behind the first one is 5, or has a point between digits, as volts have.
+pub fn has_volts(separator: u8, line: &[u8]) -> bool {
     let (_, fields) = split_field(separator, line);
-    for (i, byte) in fields.iter().enumerate() {
-        if *byte == b'.' && 0 < i && begins_fraction(&fields[i - 1..]) {
+    let mut rest = fields;
+    while !rest.is_empty() {
+        let (field, more) = split_field(separator, rest);
+        rest = more;
+        if is_volts(unframed(field)) {
+            return true;
+        }
+    }
+    false
+}
+
+/// Whether a cell is 5, or has a point between digits, as volts have.
+pub fn is_volts(cell: &[u8]) -> bool {
+    cell == b"5".as_slice() || has_fraction(cell)
+}
+
+/// Whether a cell has a point between digits.
+fn has_fraction(cell: &[u8]) -> bool {
+    for (i, byte) in cell.iter().enumerate() {
+        if *byte == b'.' && 0 < i && begins_fraction(&cell[i - 1..]) {
             return true;
         }
     }

@@ -5,7 +5,7 @@ use crate::names::{
     push_later_columns, push_later_numbers, separator_of,
 };
 use crate::texts::unframed;
-use pr_capture::TraceInput;
+use pr_capture::{TraceInput, read_rate};
 use pr_wire::NoMemory;
 
 /// A line that says what separates fields, as `sep=;` does.
@@ -80,7 +80,7 @@ pub fn push_other_said(text: &mut String, said: Said) -> Result<(), NoMemory> {
 }
 
 /// Whether a table that is refused in the line of this number has a rate, by an option or, as it seems, by a remark.
-pub fn has_rate(bytes: &[u8], input: TraceInput<'_>, number: usize) -> bool {
+fn has_rate(bytes: &[u8], input: TraceInput<'_>, number: usize) -> bool {
     input.rate.is_some() || has_rate_remark(bytes, number)
 }
 
@@ -167,17 +167,90 @@ pub fn push_row_rule(
     )
 }
 
-/// Adds what a table has that is refused since it has no times: by this line, of its names, and by whether a rate is
-/// given.
+/// Whether remarks before the line of this number give sample rates that differ, or one that is not read beside another.
+pub fn have_two_rates(bytes: &[u8], number: usize) -> bool {
+    let mut known = None;
+    let mut at: usize = 0;
+    for line in bytes.split(|byte| *byte == b'\n') {
+        at = at.wrapping_add(1);
+        if at >= number {
+            break;
+        }
+        if let Some(text) = behind_rate_word(line) {
+            let rate = rate_of(text);
+            if known.is_some() && known != rate {
+                return true;
+            }
+            known = rate;
+        }
+    }
+    false
+}
+
+/// What a remark of a sample rate has behind its words; None where a line is none.
+fn behind_rate_word(line: &[u8]) -> Option<&[u8]> {
+    match behind_letters(line, b"METAsamplerate") {
+        Some(rest) => Some(rest),
+        None => behind_letters(line, b"samplerate"),
+    }
+}
+
+/// What follows a word of letters with which a line begins, but for signs and blanks.
+fn behind_letters<'l>(line: &'l [u8], word: &[u8]) -> Option<&'l [u8]> {
+    let mut count: usize = 0;
+    for (i, byte) in line.iter().enumerate() {
+        if byte.is_ascii_alphanumeric() {
+            if count >= word.len() || !byte.eq_ignore_ascii_case(&word[count]) {
+                return None;
+            }
+            count = count.wrapping_add(1);
+            if count >= word.len() {
+                return Some(&line[i + 1..]);
+            }
+        }
+    }
+    None
+}
+
+/// The rate that a remark gives behind its words.
+fn rate_of(text: &[u8]) -> Option<u64> {
+    let start = text
+        .iter()
+        .position(|byte| !matches!(*byte, b' ' | b'\t' | b':' | b'='))?;
+    match str::from_utf8(unframed(&text[start..])) {
+        Ok(rate) => read_rate(rate),
+        Err(_) => None,
+    }
+}
+
+/// Adds that remarks give rates that differ.
+fn push_two_rates(text: &mut String) -> Result<(), NoMemory> {
+    write!(
+        text,
+        "  the remarks give sample rates that differ, so none of them counts: --rate gives one in their place, such as --rate 4M\n"
+    )
+}
+
+/// Whether a table without times is to have a rate, by the name of its first column and its later ones.
+fn wants_rate(separator: u8, line: &[u8], name: &[u8]) -> bool {
+    !begins_with(name, b"delta") && !has_times_behind(separator, line)
+}
+
+/// Adds what a table has that is refused since it has no times: by this line, of its names, which has this number.
 pub fn push_times_rule(
     text: &mut String,
+    bytes: &[u8],
+    number: usize,
     line: &[u8],
     separator: u8,
     input: TraceInput<'_>,
-    is_rated: bool,
 ) -> Result<(), NoMemory> {
     let name = first_field(separator, line);
     let signals = input.signals;
+    let is_rated = has_rate(bytes, input, number);
+    if input.rate.is_none() && wants_rate(separator, line, name) && have_two_rates(bytes, number) {
+        return push_two_rates(text);
+    }
     if is_rated && is_lawful(name, input) && has_others(separator, line, signals) {
         return push_later_columns(text, separator, line, signals);
     }
