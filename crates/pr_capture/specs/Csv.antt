@@ -256,9 +256,16 @@ unit_in bare (Some name) = time_unit bare name
 abbrev pub layout_in : Signals → Remarks → (number separator : ℕ) → (fields : List (List ℕ)) → Result Layout CaptureFault
 layout_in s r number sep fs = layout_by s r number sep (unit_in (bare_unit r) (field_at 0 fs)) fs
 
+-- a byte 13 with more after it, as where it ends each line: here it ends none, so all rows would be names
+abbrev pub has_return : (line : List ℕ) → Bool
+has_return [] = false
+has_return (b ∷ bs) = if b == 13 then not (list_all is_framing bs) else has_return bs
+
 -- the layout that a line names
 abbrev pub layout_of : Signals → Remarks → (number : ℕ) → (line : List ℕ) → Result Layout CaptureFault
-layout_of s r number line = layout_in s r number (separator_or r.separator line) (fields_of (separator_or r.separator line) false line)
+layout_of s r number line =
+    if has_return line then Err (NoSignal number Atn)
+    else layout_in s r number (separator_or r.separator line) (fields_of (separator_or r.separator line) false line)
 
 -- Rows.
 
