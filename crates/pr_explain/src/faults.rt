@@ -43,8 +43,8 @@ const UNITS: &str =
 
 /// What a message says of a row whose cells have decimals in place of levels.
 const VOLTS: &str =
-    "expected level 0, 1, L or H: these look like volts; export digital channels, or let the analyzer \
-     compare with a threshold";
+    "expected level 0, 1, L or H: these look like volts; export digital channels, let the analyzer \
+     compare with a threshold, or give one with --threshold";
 
 /// What a message says of a table whose lines have byte 13 alone at their ends.
 const RETURNS: &str =
