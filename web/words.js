@@ -18,6 +18,7 @@ const WORDS = [
   [/--from-time US starts the trace at microsecond US of the recording/, '“starts at” begins the trace at a microsecond of the recording'],
   [/sample rate with --rate, such as --rate 4M,/, 'sample rate in “samples a second”,'],
   [/--rate gives the distance of the samples, such as --rate 4M,/, '“samples a second” gives the distance of the samples,'],
+  [/--rate gives one in their place, such as --rate 4M/, '“samples a second” gives one in their place'],
   [/without --rate/, 'without a rate'],
   [/the sample rate \(--rate, or the line that gives it\)/, 'the sample rate (“samples a second”, or the line that gives it)'],
   [/--from-time/, '“starts at”'],

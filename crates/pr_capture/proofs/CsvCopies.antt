@@ -12,7 +12,7 @@ use Rattle.pr_capture.specs.declared.csv.Row.{Row}
 use Rattle.pr_capture.specs.declared.csv.RowPlace.TheVariants.{Rows}
 use Rattle.pr_capture.specs.declared.csv.Scale.TheVariants.{Counted}
 use Rattle.pr_capture.specs.declared.signals.Signals.{Signals}
-use Rattle.pr_capture.specs.Csv.{fields_of, moment_of, sample_of}
+use Rattle.pr_capture.specs.Csv.{field_at, fields_of, moment_of, sample_of}
 use Rattle.pr_capture.specs.CsvReads.{HasSkipped, SkipsRows}
 use Rattle.pr_capture.specs.CsvSteps.{copies, moment_after, moment_beyond, row_at, AreTimed, HasReadTable, IsRepeat, IsRun, KnowsLevels}
 use Rattle.pr_capture.specs.TableTimes.{time_at_rate}
@@ -92,7 +92,7 @@ again inverted y rate number i m k bytes row is r timed before =
     let fields : List (List ℕ) = fields_of y.separator false r.line in
     let t : ℕ = k.count * 1000000 / rate in
     let late : nat_lt t k.before ≡ false = grind (arith, common_steps) in
-    let next : moment_of y.scale y.separator i k fields ≡ Ok (moment_beyond rate k) = rw (is, timed, late) refl in
+    let next : moment_of y.scale y.separator i k (field_at y.times fields) ≡ Ok (moment_beyond rate k) = rw (is, timed, late) refl in
     let sample : sample_of y.columns inverted i fields t ≡ Ok (record { time = t; levels = row.sample.levels }) =
     row-levels y inverted number m fields row r.reads i t in
     record { line = r.line; ends = r.ends; inner = r.inner; loud = r.loud; reads = rw (next, sample) refl }

@@ -1,7 +1,7 @@
 -- A table that holds samples is read back as these samples.
 use Rattle.std.proofs.Common.{◌≡◌, ℕ, zero, suc, ◌+◌, ◌-◌, ◌*◌, ◌/◌, ◌%◌, ◌<◌, ◌≤◌, ◌==◌, Bool, true, false, List, [], ◌∷◌, ◌++◌, length, take, refl, ap, sym, subst, ◌∙◌, arith, append_assoc, append-nil, length-append, nat_lt, Option, Some, None, inl, inr, lit<}
 use Rattle.std.proofs.Math.Seq.{take-append_seam}
-use Rattle.std.specs.Prelude.{◌⊎◌, codes, if◌then◌else◌, is_some, nat_le, Ok}
+use Rattle.std.specs.Prelude.{◌⊎◌, codes, if◌then◌else◌, is_some, nat_le, Result, Ok, Err}
 use Rattle.std.specs.List.{list_all}
 use Rattle.std.proofs.lemmas.Grind.{common_steps}
 use Rattle.std.proofs.lemmas.List.{take_all}
@@ -14,9 +14,11 @@ use Rattle.pr_capture.specs.declared.csv.Columns.{Columns}
 use Rattle.pr_capture.specs.declared.csv.Layout.{Layout}
 use Rattle.pr_capture.specs.declared.csv.Moment.{Moment}
 use Rattle.pr_capture.specs.declared.csv.Scale.TheVariants.{Timed}
+use Rattle.pr_capture.specs.declared.fault.CaptureFault.{CaptureFault}
+use Rattle.pr_capture.specs.declared.fault.CaptureFault.TheVariants.{NoSignal}
 use Rattle.pr_capture.specs.declared.fault.Wire.TheVariants.{Atn, Clock, Data}
 use Rattle.pr_capture.specs.declared.signals.Signals.{Signals}
-use Rattle.pr_capture.specs.Csv.{clock_name, column_in, column_of, csv_contents, fields_of, first_contents, first_moment, is_in_front, is_inner, is_silent, layout_by, layout_in, layout_of, moment_at, opened, row_contents, row_of, sample_of, separator_of}
+use Rattle.pr_capture.specs.Csv.{clock_name, column_in, column_of, csv_contents, fields_of, first_contents, first_moment, has_return, is_in_front, is_inner, is_silent, layout_by, layout_in, layout_of, moment_at, opened, row_contents, row_of, sample_of, separator_of}
 use Rattle.pr_capture.specs.Numbers.{number_from, number_of_first, onward, with_zeros}
 use Rattle.pr_capture.specs.TableTimes.{bare_unit, instant_in, micros_of, no_remarks, start_of, time_unit}
 use Rattle.pr_capture.specs.CsvLaws.{InOrder, csv_names, csv_of, csv_row, csv_rows, digits_of, level_byte, separator_byte, time_field, time_name, Separator, TimeUnit}
@@ -233,11 +235,11 @@ level_fields sep e = level_byte e.levels.atn ∷ sep ∷ level_byte e.levels.clo
 
 -- the columns of the names that are written
 abbrev columns : Columns
-columns = record { atn = 1; clock = 2; line = 3; has_other_first = false }
+columns = record { atn = 1; clock = 2; line = 3; has_other_first = false; are_rated = false }
 
 -- and the layout
 abbrev layout : Separator → TimeUnit → Layout
-layout p u = record { columns = columns; separator = separator_byte p; scale = Timed (place_of_unit u) }
+layout p u = record { columns = columns; separator = separator_byte p; scale = Timed (place_of_unit u); times = 0 }
 
 -- a moment of a table that starts at 0: none was given yet, or one was
 abbrev moment : (start : Option ℕ) → (before : ℕ) → Moment
@@ -360,26 +362,27 @@ pub record NamesAre (p : Separator) (u : TimeUnit) : Type 0 where
   pub inner : list_all is_inner (csv_names (separator_byte p) u) ≡ true
   pub loud : is_in_front (csv_names (separator_byte p) u) ≡ false
   pub opens : opened (csv_names (separator_byte p) u) ≡ Ok (csv_names (separator_byte p) u)
+  pub whole : has_return (csv_names (separator_byte p) u) ≡ false
   pub separator : separator_of (csv_names (separator_byte p) u) ≡ separator_byte p
   pub fields : fields_of (separator_byte p) false (csv_names (separator_byte p) u)
       ≡ time_name u ∷ codes "ATN" ∷ codes "CLOCK" ∷ codes "DATA" ∷ []
 
 names-are : (p : Separator) (u : TimeUnit) → NamesAre p u
-names-are Comma Seconds = record { inner = refl; loud = refl; opens = refl; separator = refl; fields = refl }
-names-are Comma Milliseconds = record { inner = refl; loud = refl; opens = refl; separator = refl; fields = refl }
-names-are Comma Microseconds = record { inner = refl; loud = refl; opens = refl; separator = refl; fields = refl }
-names-are Comma Nanoseconds = record { inner = refl; loud = refl; opens = refl; separator = refl; fields = refl }
-names-are Comma Picoseconds = record { inner = refl; loud = refl; opens = refl; separator = refl; fields = refl }
-names-are Semicolon Seconds = record { inner = refl; loud = refl; opens = refl; separator = refl; fields = refl }
-names-are Semicolon Milliseconds = record { inner = refl; loud = refl; opens = refl; separator = refl; fields = refl }
-names-are Semicolon Microseconds = record { inner = refl; loud = refl; opens = refl; separator = refl; fields = refl }
-names-are Semicolon Nanoseconds = record { inner = refl; loud = refl; opens = refl; separator = refl; fields = refl }
-names-are Semicolon Picoseconds = record { inner = refl; loud = refl; opens = refl; separator = refl; fields = refl }
-names-are Tab Seconds = record { inner = refl; loud = refl; opens = refl; separator = refl; fields = refl }
-names-are Tab Milliseconds = record { inner = refl; loud = refl; opens = refl; separator = refl; fields = refl }
-names-are Tab Microseconds = record { inner = refl; loud = refl; opens = refl; separator = refl; fields = refl }
-names-are Tab Nanoseconds = record { inner = refl; loud = refl; opens = refl; separator = refl; fields = refl }
-names-are Tab Picoseconds = record { inner = refl; loud = refl; opens = refl; separator = refl; fields = refl }
+names-are Comma Seconds = record { inner = refl; loud = refl; opens = refl; whole = refl; separator = refl; fields = refl }
+names-are Comma Milliseconds = record { inner = refl; loud = refl; opens = refl; whole = refl; separator = refl; fields = refl }
+names-are Comma Microseconds = record { inner = refl; loud = refl; opens = refl; whole = refl; separator = refl; fields = refl }
+names-are Comma Nanoseconds = record { inner = refl; loud = refl; opens = refl; whole = refl; separator = refl; fields = refl }
+names-are Comma Picoseconds = record { inner = refl; loud = refl; opens = refl; whole = refl; separator = refl; fields = refl }
+names-are Semicolon Seconds = record { inner = refl; loud = refl; opens = refl; whole = refl; separator = refl; fields = refl }
+names-are Semicolon Milliseconds = record { inner = refl; loud = refl; opens = refl; whole = refl; separator = refl; fields = refl }
+names-are Semicolon Microseconds = record { inner = refl; loud = refl; opens = refl; whole = refl; separator = refl; fields = refl }
+names-are Semicolon Nanoseconds = record { inner = refl; loud = refl; opens = refl; whole = refl; separator = refl; fields = refl }
+names-are Semicolon Picoseconds = record { inner = refl; loud = refl; opens = refl; whole = refl; separator = refl; fields = refl }
+names-are Tab Seconds = record { inner = refl; loud = refl; opens = refl; whole = refl; separator = refl; fields = refl }
+names-are Tab Milliseconds = record { inner = refl; loud = refl; opens = refl; whole = refl; separator = refl; fields = refl }
+names-are Tab Microseconds = record { inner = refl; loud = refl; opens = refl; whole = refl; separator = refl; fields = refl }
+names-are Tab Nanoseconds = record { inner = refl; loud = refl; opens = refl; whole = refl; separator = refl; fields = refl }
+names-are Tab Picoseconds = record { inner = refl; loud = refl; opens = refl; whole = refl; separator = refl; fields = refl }
 
 unit-read : (bare : Option ℕ) (u : TimeUnit) → time_unit bare (time_name u) ≡ Some (place_of_unit u)
 unit-read bare Seconds = refl
@@ -398,10 +401,12 @@ names-read p u s rate h =
     let clock : column_in 1 Clock (clock_name s fs) 1 fs ≡ Ok 2 =
     ap (λ v. column_in 1 Clock (if is_some (column_of v 0 fs) then v else second_name s) 1 fs) h.clock in
     let line : column_in 1 Data s.line.now 1 fs ≡ Ok 3 = ap (λ v. column_in 1 Data v 1 fs) h.line in
-    ap (λ b. layout_in s (no_remarks rate) 1 b (fields_of b false (csv_names sep u))) n.separator
+    let read : ℕ → Result Layout CaptureFault = λ b. layout_in s (no_remarks rate) 1 b (fields_of b false (csv_names sep u)) in
+    ap (λ b. if b then Err (NoSignal 1 Atn) else read (separator_of (csv_names sep u))) n.whole
+    ∙ (ap read n.separator
     ∙ (ap (layout_in s (no_remarks rate) 1 sep) n.fields
     ∙ (ap (λ o. layout_by s (no_remarks rate) 1 sep o (time_name u ∷ fs)) (unit-read (bare_unit (no_remarks rate)) u)
-    ∙ rw (atn, clock, line) refl))
+    ∙ rw (atn, clock, line) refl)))
 
 -- the first line names the columns
 first-line : (p : Separator) (u : TimeUnit) (s : Signals) (rate : Option ℕ) (ls : List (List ℕ)) → IsAsWritten s

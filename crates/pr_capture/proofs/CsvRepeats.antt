@@ -29,7 +29,7 @@ use Rattle.pr_capture.specs.declared.times.Instant.{Instant}
 use Rattle.pr_capture.specs.declared.fault.CaptureFault.TheVariants.{BadLevel, Floating, NoTime, Unknown}
 use Rattle.pr_capture.specs.declared.fault.Wire.{Wire}
 use Rattle.pr_capture.specs.declared.fault.Wire.TheVariants.{Atn, Clock, Data}
-use Rattle.pr_capture.specs.Csv.{behind_point, cell_level, csv_contents, field_at, fields_of, instant_of_number, instant_of_row, is_foreign, is_inner, is_silent, level_of, level_or, moment_at, moment_next, moment_of, row_contents, row_of, sample_by, sample_of}
+use Rattle.pr_capture.specs.Csv.{behind_point, cell_level, csv_contents, field_at, fields_of, has_number, instant_of_number, instant_of_row, is_foreign, is_inner, is_silent, level_of, level_or, moment_at, moment_next, moment_of, row_contents, row_of, sample_by, sample_of}
 use Rattle.pr_capture.specs.CsvReads.{ReadsMore, SkipsRows, TakesRepeats}
 use Rattle.pr_capture.specs.Gathers.{AllHave}
 use Rattle.pr_capture.specs.CsvSteps.{are_behind, contents_from, decimals_len, digits_ahead, field_len, is_plain, line_number, row_at, row_if, tail_at, tail_behind, tail_by, with_len, HasLevels, HasReadTable, IsFront, IsPlainTime, IsRepeat, IsRowOf, IsTimeAhead, KnowsLevels, PlainComesFirst, TimeComesFirst}
@@ -211,7 +211,7 @@ sample-anywhere c inverted n m t u fields e h = by (is_foreign c fields) refl
 -- a row that was read has the levels of its sample
 pub row-levels : (y : Layout) (inverted : Bool) (number : ℕ) (m : Moment) (fields : List (List ℕ)) (row : Row) → row_of y inverted number m fields ≡ Ok row
     → (n t : ℕ) → sample_of y.columns inverted n fields t ≡ Ok (record { time = t; levels = row.sample.levels })
-row-levels y inverted number m fields row h n t = by (moment_of y.scale y.separator number m fields) refl h
+row-levels y inverted number m fields row h n t = by (moment_of y.scale y.separator number m (field_at y.times fields)) refl h
   where
     in-row : (next : Moment) (v : Result Edge CaptureFault) → sample_of y.columns inverted number fields next.before ≡ v
         → (v >>= λ e. Ok (record { sample = e; moment = next })) ≡ Ok row
@@ -223,7 +223,7 @@ row-levels y inverted number m fields row h n t = by (moment_of y.scale y.separa
         let P : Row → Type 0 = λ r. sample_of y.columns inverted n fields t ≡ Ok (record { time = t; levels = r.sample.levels }) in
         subst P is (sample-anywhere y.columns inverted number n next.before t fields s e)
 
-    by : (v : Result Moment CaptureFault) → moment_of y.scale y.separator number m fields ≡ v → row_of y inverted number m fields ≡ Ok row
+    by : (v : Result Moment CaptureFault) → moment_of y.scale y.separator number m (field_at y.times fields) ≡ v → row_of y inverted number m fields ≡ Ok row
         → sample_of y.columns inverted n fields t ≡ Ok (record { time = t; levels = row.sample.levels })
     by (Err f) e k = absurd (let o : Err f ≡ Ok row = rw e at k in cc)
     by (Ok next) e k =
@@ -305,7 +305,8 @@ sample-behind c inverted n t f g fs h = by c.has_other_first (c.atn == 0) (c.clo
         ap (λ v. made v (field_at c.clock (f ∷ fs)) (field_at c.line (f ∷ fs))) (column-behind c.atn f g fs hp)
         ∙ (ap (λ v. made (field_at c.atn (g ∷ fs)) v (field_at c.line (f ∷ fs))) (column-behind c.clock f g fs hq)
         ∙ ap (λ v. made (field_at c.atn (g ∷ fs)) (field_at c.clock (g ∷ fs)) v) (column-behind c.line f g fs hr)) in
-        rw ho same
+        let later : Bool = c.are_rated && has_number c 1 fs in
+        rw ho (ap (λ v. if later then Err (NoTime n) else v) same)
     by true p q r ho hp hq hr = absurd (let no : false ≡ true = rw ho at h in cc)
     by false true q r ho hp hq hr = absurd (let no : false ≡ true = rw (ho, hp) at h in cc)
     by false false true r ho hp hq hr = absurd (let no : false ≡ true = rw (ho, hp, hq) at h in cc)
@@ -313,11 +314,11 @@ sample-behind c inverted n t f g fs h = by c.has_other_first (c.atn == 0) (c.clo
 
 -- rows with times or numbers
 plain-levels : (inverted : Bool) (y : Layout) (line : List ℕ) (from : ℕ) (e : Edge) → ((front : List ℕ) → IsFront y.scale front → (list_all is_plain front ≡ true) × (0 < length front))
-    → ((tail : List ℕ) → PlainComesFirst y.separator tail → TimeComesFirst y.scale y.separator tail) → are_behind y.columns ≡ true → is_plain y.separator ≡ false
+    → ((tail : List ℕ) → PlainComesFirst y.separator y.times tail → TimeComesFirst y.scale y.separator y.times tail) → y.times ≡ 0 → are_behind y.columns ≡ true → is_plain y.separator ≡ false
     → from ≡ field_len y.separator false line → from < length line → list_all is_inner line ≡ true
     → ((number time : ℕ) → sample_of y.columns inverted number (fields_of y.separator false line) time ≡ Ok (record { time = time; levels = e.levels }))
     → HasLevels inverted y (drop from line) e.levels
-plain-levels inverted y line from e plain comes behind other at less inner reads =
+plain-levels inverted y line from e plain comes ahead behind other at less inner reads =
     let sep : ℕ = y.separator in
     let more : List ℕ = drop (from + 1) line in
     let ends : field_len sep false line < length line = omega (arith, at, less) in
@@ -330,7 +331,7 @@ plain-levels inverted y line from e plain comes behind other at less inner reads
     subst P (sym tail) record {
       inner = ap (list_all is_inner) (sym tail) ∙ inner-rest from line inner;
       loud = λ front f. front-loud front (sep ∷ more) (plain front f).0 (plain front f).1;
-      first = comes (sep ∷ more) (λ front p. ap (field_at 0) (first front p));
+      first = comes (sep ∷ more) (λ front p. ap (λ j. field_at j (fields_of sep false (front ++ sep ∷ more))) ahead ∙ ap (field_at 0) (first front p));
       reads = λ number time front f.
           ap (λ v. sample_of y.columns inverted number v time) (first front (plain front f).0)
           ∙ (sample-behind y.columns inverted number time front (take from line) (fields_of sep false more) behind
@@ -344,19 +345,21 @@ pub tail-levels : (inverted : Bool) (y : Layout) (line : List ℕ) (from : ℕ) 
 tail-levels inverted y line from e at inner loud reads = by y.scale refl at
   where
     behind : ((front : List ℕ) → IsFront y.scale front → (list_all is_plain front ≡ true) × (0 < length front))
-        → ((tail : List ℕ) → PlainComesFirst y.separator tail → TimeComesFirst y.scale y.separator tail)
-        → (a b d : Bool) → are_behind y.columns ≡ a → is_plain y.separator ≡ b → nat_lt (field_len y.separator false line) (length line) ≡ d
-        → tail_behind y.columns y.separator line ≡ Some from → HasLevels inverted y (drop from line) e.levels
-    behind plain comes true false true ha hb hd k =
-        let o : Some (field_len y.separator false line) ≡ Some from = rw (ha, hb, hd) at k in
+        → ((tail : List ℕ) → PlainComesFirst y.separator y.times tail → TimeComesFirst y.scale y.separator y.times tail)
+        → (z a b d : Bool) → (y.times == 0) ≡ z → are_behind y.columns ≡ a → is_plain y.separator ≡ b → nat_lt (field_len y.separator false line) (length line) ≡ d
+        → tail_behind y.times y.columns y.separator line ≡ Some from → HasLevels inverted y (drop from line) e.levels
+    behind plain comes true true false true hz ha hb hd k =
+        let o : Some (field_len y.separator false line) ≡ Some from = rw (hz, ha, hb, hd) at k in
+        let ahead : y.times ≡ 0 = grind (arith, common_steps) in
         let j : from ≡ field_len y.separator false line = cc in
         let less : field_len y.separator false line < length line = grind (arith, common_steps) in
-        plain-levels inverted y line from e plain comes ha hb j (omega (arith, j, less)) inner reads
-    behind plain comes false b d ha hb hd k = absurd (let o : None ≡ Some from = rw ha at k in cc)
-    behind plain comes true true d ha hb hd k = absurd (let o : None ≡ Some from = rw (ha, hb) at k in cc)
-    behind plain comes true false false ha hb hd k = absurd (let o : None ≡ Some from = rw (ha, hb, hd) at k in cc)
+        plain-levels inverted y line from e plain comes ahead ha hb j (omega (arith, j, less)) inner reads
+    behind plain comes false a b d hz ha hb hd k = absurd (let o : None ≡ Some from = rw hz at k in cc)
+    behind plain comes true false b d hz ha hb hd k = absurd (let o : None ≡ Some from = rw (hz, ha) at k in cc)
+    behind plain comes true true true d hz ha hb hd k = absurd (let o : None ≡ Some from = rw (hz, ha, hb) at k in cc)
+    behind plain comes true true false false hz ha hb hd k = absurd (let o : None ≡ Some from = rw (hz, ha, hb, hd) at k in cc)
 
-    by : (scale : Scale) → y.scale ≡ scale → tail_by scale y.columns y.separator line ≡ Some from → HasLevels inverted y (drop from line) e.levels
+    by : (scale : Scale) → y.scale ≡ scale → tail_by scale y.times y.columns y.separator line ≡ Some from → HasLevels inverted y (drop from line) e.levels
     by (Counted rate) is k =
         let none-before : 0 ≡ from = cc in
         let P : ℕ → Type 0 = λ j. HasLevels inverted y (drop j line) e.levels in
@@ -367,9 +370,9 @@ tail-levels inverted y line from e at inner loud reads = by y.scale refl at
           reads = λ number time front f. (let none : front ≡ [] = rw is at f in rw none (reads number time));
         }
     by (Numbered step rate) is k =
-        behind (λ front f. rw is at f) (λ tail p. rw is p) (are_behind y.columns) (is_plain y.separator) (nat_lt (field_len y.separator false line) (length line)) refl refl refl k
+        behind (λ front f. rw is at f) (λ tail p. rw is p) (y.times == 0) (are_behind y.columns) (is_plain y.separator) (nat_lt (field_len y.separator false line) (length line)) refl refl refl refl k
     by (Timed unit) is k =
-        behind (λ front f. rw is at f) (λ tail p. rw is p) (are_behind y.columns) (is_plain y.separator) (nat_lt (field_len y.separator false line) (length line)) refl refl refl k
+        behind (λ front f. rw is at f) (λ tail p. rw is p) (y.times == 0) (are_behind y.columns) (is_plain y.separator) (nat_lt (field_len y.separator false line) (length line)) refl refl refl refl k
 
 -- so it is of a line that has ended
 pub row-known : (inverted : Bool) (p : RowPlace) (y : Layout) (m : Moment) (line : List ℕ) (sample : Option Edge) (e : Edge) (from : ℕ) → p ≡ Rows y m → sample ≡ Some e → tail_at y line ≡ Some from
@@ -381,7 +384,7 @@ row-known inverted p y m line sample e from place some at inner row =
 
 -- a row that goes on as the last one is read by what is in front
 row-read : (inverted : Bool) (y : Layout) (number : ℕ) (m next : Moment) (block front tail bytes : List ℕ) (levels : Levels) → HasLevels inverted y tail levels → IsFront y.scale front
-    → list_all is_inner front ≡ true → moment_of y.scale y.separator number m (fields_of y.separator false (front ++ tail)) ≡ Ok next → bytes ≡ (front ++ tail) ++ 10 ∷ []
+    → list_all is_inner front ≡ true → moment_of y.scale y.separator number m (field_at y.times (fields_of y.separator false (front ++ tail))) ≡ Ok next → bytes ≡ (front ++ tail) ++ 10 ∷ []
     → IsRepeat inverted y number m bytes (row_at next levels)
 row-read inverted y number m next block front tail bytes levels h is inner reads ends = record {
   line = front ++ tail;
@@ -400,7 +403,7 @@ repeated-counted inverted y number rate len m next block tail levels is h reads 
 
 -- and in one with times or numbers
 repeated-plain : (inverted : Bool) (y : Layout) (number n len : ℕ) (m next : Moment) (block tail : List ℕ) (levels : Levels) → IsFront y.scale (take n block) → HasLevels inverted y tail levels
-    → list_all is_plain (take n block) ≡ true → moment_of y.scale y.separator number m (fields_of y.separator false (take n block ++ tail)) ≡ Ok next
+    → list_all is_plain (take n block) ≡ true → moment_of y.scale y.separator number m (field_at y.times (fields_of y.separator false (take n block ++ tail))) ≡ Ok next
     → take (length tail + 1) (drop n block) ≡ tail ++ 10 ∷ [] → len ≡ n + length tail + 1 → IsRepeat inverted y number m (take len block) (row_at next levels)
 repeated-plain inverted y number n len m next block tail levels front h plain reads ends l =
     let in-parts : len ≡ n + (length tail + 1) = omega (arith, l) in
@@ -413,8 +416,8 @@ pub repeated-timed : (inverted : Bool) (y : Layout) (number unit n len : ℕ) (m
     → take (length tail + 1) (drop n block) ≡ tail ++ 10 ∷ [] → len ≡ n + length tail + 1 → IsRepeat inverted y number m (take len block) (row_at next levels)
 repeated-timed inverted y number unit n len m next block tail whole decimals i levels is h plain spelled reads ends l =
     let front : List ℕ = take n block in
-    let first : PlainComesFirst y.separator tail = rw is at h.first in
-    let timed : moment_of (Timed unit) y.separator number m (fields_of y.separator false (front ++ tail)) ≡ Ok next =
+    let first : PlainComesFirst y.separator y.times tail = rw is at h.first in
+    let timed : moment_of (Timed unit) y.separator number m (field_at y.times (fields_of y.separator false (front ++ tail))) ≡ Ok next =
     ap (λ o. moment_at number m (instant_of_row y.separator unit o)) (first front plain.plain) ∙ (ap (moment_at number m) (plain.reads y.separator unit i spelled) ∙ reads) in
     repeated-plain inverted y number n len m next block tail levels (rw is (plain.plain, plain.some)) h plain.plain (rw is timed) ends l
 
@@ -448,10 +451,10 @@ repeated-numbered inverted y number step rate count len m next block tail i leve
     let front : List ℕ = digits_in block in
     let digits : list_all is_digit front ≡ true = all-front is_digit block in
     let plain : list_all is_plain front ≡ true = all-of is_digit is_plain digit-is-plain front digits in
-    let first : PlainComesFirst y.separator tail = rw is at h.first in
+    let first : PlainComesFirst y.separator y.times tail = rw is at h.first in
     let sample : sample_in step rate (without_front front) ≡ Some i =
     ap (λ o. instant_of false (onward (onward o (times_in step)) (time_at_rate rate))) (digits-counted front digits some ∙ counted) ∙ spelled in
-    let timed : moment_of (Numbered step rate) y.separator number m (fields_of y.separator false (front ++ tail)) ≡ Ok next =
+    let timed : moment_of (Numbered step rate) y.separator number m (field_at y.times (fields_of y.separator false (front ++ tail))) ≡ Ok next =
     ap (λ o. moment_at number m (instant_of_number step rate o)) (first front plain) ∙ (ap (moment_at number m) sample ∙ reads) in
     repeated-plain inverted y number (prefix_len is_digit block) len m next block tail levels (rw is (plain, some)) h plain (rw is timed) ends l
 

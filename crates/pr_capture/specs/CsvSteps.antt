@@ -107,20 +107,20 @@ IsFront (Numbered step rate) front = (list_all is_plain front ≡ true) × (0 < 
 IsFront (Counted rate) front = front ≡ []
 
 -- the first field of rows that go on so is their time or number
-abbrev pub PlainComesFirst : (separator : ℕ) → (tail : List ℕ) → Type 0
-PlainComesFirst sep tail =
-    (front : List ℕ) → list_all is_plain front ≡ true → field_at 0 (fields_of sep false (front ++ tail)) ≡ Some front
+abbrev pub PlainComesFirst : (separator times : ℕ) → (tail : List ℕ) → Type 0
+PlainComesFirst sep times tail =
+    (front : List ℕ) → list_all is_plain front ≡ true → field_at times (fields_of sep false (front ++ tail)) ≡ Some front
 
-abbrev pub TimeComesFirst : Scale → (separator : ℕ) → (tail : List ℕ) → Type 0
-TimeComesFirst (Timed unit) sep tail = PlainComesFirst sep tail
-TimeComesFirst (Numbered step rate) sep tail = PlainComesFirst sep tail
-TimeComesFirst (Counted rate) sep tail = Unit {0}
+abbrev pub TimeComesFirst : Scale → (separator times : ℕ) → (tail : List ℕ) → Type 0
+TimeComesFirst (Timed unit) sep times tail = PlainComesFirst sep times tail
+TimeComesFirst (Numbered step rate) sep times tail = PlainComesFirst sep times tail
+TimeComesFirst (Counted rate) sep times tail = Unit {0}
 
 -- a row has these levels whose bytes after its time are these, whatever its time is
 pub record HasLevels (inverted : Bool) (y : Layout) (tail : List ℕ) (levels : Levels) : Type 0 where
   pub inner : list_all is_inner tail ≡ true
   pub loud : (front : List ℕ) → IsFront y.scale front → is_silent (front ++ tail) ≡ false
-  pub first : TimeComesFirst y.scale y.separator tail
+  pub first : TimeComesFirst y.scale y.separator y.times tail
   pub reads : (number time : ℕ) (front : List ℕ) → IsFront y.scale front
       → sample_of y.columns inverted number (fields_of y.separator false (front ++ tail)) time
       ≡ Ok (record { time = time; levels = levels })
@@ -146,19 +146,19 @@ IsRowOf inverted (Rows y m) line (Some e) = (is_silent line ≡ false) × ((numb
 abbrev pub are_behind : Columns → Bool
 are_behind c = not c.has_other_first && not (c.atn == 0) && not (c.clock == 0) && not (c.line == 0)
 
--- where the bytes of a row begin that have its levels, whatever its time is
-abbrev pub tail_behind : Columns → (separator : ℕ) → (line : List ℕ) → Option ℕ
-tail_behind c sep line =
-    if are_behind c && not (is_plain sep) && nat_lt (field_len sep false line) (length line)
+-- where the bytes of a row begin that have its levels, whatever its time is, which comes first
+abbrev pub tail_behind : (times : ℕ) → Columns → (separator : ℕ) → (line : List ℕ) → Option ℕ
+tail_behind times c sep line =
+    if times == 0 && are_behind c && not (is_plain sep) && nat_lt (field_len sep false line) (length line)
     then Some (field_len sep false line) else None
 
-abbrev pub tail_by : Scale → Columns → (separator : ℕ) → (line : List ℕ) → Option ℕ
-tail_by (Timed unit) c sep line = tail_behind c sep line
-tail_by (Numbered step rate) c sep line = tail_behind c sep line
-tail_by (Counted rate) c sep line = Some 0
+abbrev pub tail_by : Scale → (times : ℕ) → Columns → (separator : ℕ) → (line : List ℕ) → Option ℕ
+tail_by (Timed unit) times c sep line = tail_behind times c sep line
+tail_by (Numbered step rate) times c sep line = tail_behind times c sep line
+tail_by (Counted rate) times c sep line = Some 0
 
 abbrev pub tail_at : Layout → (line : List ℕ) → Option ℕ
-tail_at y line = tail_by y.scale y.columns y.separator line
+tail_at y line = tail_by y.scale y.times y.columns y.separator line
 
 -- the row of a moment and levels
 abbrev pub row_at : Moment → Levels → Row

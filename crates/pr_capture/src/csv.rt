@@ -6,7 +6,7 @@
 
 ghost use Rattle.std.specs.Prelude.{◌≡◌, ◌+◌, ◌^◌, ◌<◌, ◌≤◌, ◌∷◌, [], false, true, None, Err, IfErr, IfOk, Ok, drop, length, option_copied, take, IfSome, Some};
 ghost use Rattle.std.specs.List.{list_all, prefix_len};
-ghost use Rattle.pr_capture.specs.Csv.{are_logic, behind_colon, behind_point, cell_level, channels_in, clock_name, column_in, columns_by, columns_called, columns_or, column_of, columns_in, field_at, fields_of, first_moment, has_level, has_numeral, has_times, is_archive, is_foreign, is_in_front, is_inner, is_level, is_line_at, is_level_letter, is_other, is_separator, is_silent, is_twice, is_wide, layout_beside, layout_by, layout_of, level_of, level_or, moment_at, moment_next, moment_of, noted, opened, place_meant, rate_beside, row_of, sample_by, sample_of, separator_behind, separator_of, separator_or, separator_said, with_channels, with_separator, without_space, without_zeros};
+ghost use Rattle.pr_capture.specs.Csv.{are_logic, begins_digit, behind_colon, behind_mark, behind_point, cell_level, channels_in, clock_name, column_in, columns_by, columns_called, columns_or, column_of, columns_in, field_at, fields_of, first_moment, has_level, has_number, has_numeral, has_return, has_times, instant_of_number, instant_of_row, is_archive, is_foreign, is_in_front, is_inner, is_level, is_line_at, is_level_letter, is_number, is_other, is_separator, is_silent, is_twice, is_wide, last_of, layout_beside, layout_by, layout_last, layout_of, level_of, level_or, moment_at, moment_next, moment_of, noted, opened, place_meant, rate_beside, rated, row_of, sample_by, sample_of, separator_behind, separator_of, separator_or, separator_said, with_channels, with_separator, without_space, without_zeros};
 ghost use Rattle.pr_capture.specs.CsvReads.{EndsText, FaultsIn, ReadsMore, RefusesTable, SkipsRows, TakesRepeats};
 ghost use Rattle.pr_capture.specs.CsvSteps.{field_len, fields_left, line_number, moment_after, with_len, AreTimed, AnswersEnd, HasNoRows, HasReadTable, HoldsMore, IsRowOf, NamesAreRefused, NamesLeadTo, ReadsLine};
 ghost use Rattle.pr_capture.specs.TableTimes.{time_at_rate};
@@ -19,8 +19,10 @@ use crate::numbers::{behind_first, behind_word, first_of};
 use crate::remarks::{Remarks, has_numbers, is_counting, is_timing, scale_of, time_unit};
 use crate::signals::{Signals, are_framing, is_named, is_space, level_in, shared, without_front};
 use crate::times::{
-    Instant, count_in, from_start, instant_in, sample_in, start_of, time_at_rate, time_or,
+    Instant, behind_plus_minus, count_in, from_start, instant_in, sample_in, start_of,
+    time_at_rate, time_or,
 };
+use pr_base::is_digit;
 use pr_wire::{Edge, Levels};
 use std::alloc::Global;
 
@@ -32,14 +34,16 @@ pub struct Columns {
     pub line: usize,
     /// Whether the first column is none of these, and has neither times nor numbers by its name: it has levels too.
     pub has_other_first: bool,
+    /// Whether the rows' times come of a rate: then no later column has other numbers than levels.
+    pub are_rated: bool,
 }
 
 /// What the rows' times are.
 #[derive(Clone, Copy)]
 pub enum Scale {
-    /// Each row begins with its time, in this unit: how many decimals it is of a second.
+    /// Each row has its time, in this unit: how many decimals it is of a second.
     Timed(u8),
-    /// Each row begins with the number of its sample, `step` times, and a second has `rate` samples.
+    /// Each row has the number of its sample, `step` times, and a second has `rate` samples.
     Numbered { step: u64, rate: u64 },
     /// A row is a sample, and a second has this many.
     Counted(u64),
@@ -52,6 +56,8 @@ pub struct Layout {
     /// The byte that separates fields.
     pub separator: u8,
     pub scale: Scale,
+    /// The place of the times or numbers, from 0.
+    pub times: usize,
 }
 
 /// Where the next row is in time.
@@ -352,7 +358,21 @@ fn columns_in(
         clock,
         line,
         has_other_first: is_other(place, atn, clock, line),
+        are_rated: false,
     })
+}
+
+/// The same columns, where the rows' times come of a rate.
+fn rated(columns: Columns) -> Columns
+    ensures { result ≡ rated columns }
+{
+    Columns {
+        atn: columns.atn,
+        clock: columns.clock,
+        line: columns.line,
+        has_other_first: columns.has_other_first,
+        are_rated: true,
+    }
 }
 
 /// What follows the first colon.
@@ -489,8 +509,64 @@ fn rate_beside(remarks: Remarks, first: Option<&[u8]>) -> Option<u64>
     }
 }
 
-/// How a table without times is read, whose first column has the numbers of samples, or which has a row a
-/// sample.
+/// The last of these fields; nothing where there is none.
+fn last_of(separator: u8, fields: Option<&[u8]>) -> &[u8]
+    requires { length (fields_left separator (option_copied fields)) < 2 ^ 64 }
+    ensures { result.now ≡ last_of [] (fields_left separator (option_copied fields.entry)) }
+{
+    let mut last: &[u8] = &[];
+    let mut left = fields;
+    while let Some(line) = left {
+        let (field, more) = split_field(separator, line);
+        last = field;
+        left = more;
+    }
+    last
+}
+
+/// How many fields these are.
+fn count_of(separator: u8, fields: Option<&[u8]>) -> usize
+    requires { length (fields_left separator (option_copied fields)) < 2 ^ 64 }
+    ensures { result ≡ length (fields_left separator (option_copied fields.entry)) }
+{
+    let mut count = 0;
+    let mut left = fields;
+    while let Some(line) = left {
+        let (_, more) = split_field(separator, line);
+        count += 1;
+        left = more;
+    }
+    count
+}
+
+/// How a table is read whose last column has the times, by its name; None where its name is none of times, or one of
+/// the three lines has it.
+fn layout_last(remarks: Remarks, columns: Columns, separator: u8, line: &[u8]) -> Option<Layout>
+    requires { length (fields_of separator false line.now) < 2 ^ 64 }
+    ensures { result ≡ layout_last remarks separator columns (fields_of separator false line.now) }
+{
+    let name = last_of(separator, Some(line));
+    let unit = time_unit(remarks.bare_unit(), name)?;
+    let times = count_of(separator, Some(line)).saturating_sub(1);
+    if is_line_at(columns, times) {
+        return None;
+    }
+    Some(Layout {
+        columns: Columns {
+            atn: columns.atn,
+            clock: columns.clock,
+            line: columns.line,
+            has_other_first: false,
+            are_rated: columns.are_rated,
+        },
+        separator,
+        scale: scale_of(remarks, unit, Some(name)),
+        times,
+    })
+}
+
+/// How a table is read whose first column has no times: it has the numbers of samples, or the last one has the times, or
+/// a row is a sample.
 fn layout_beside(
     signals: &Signals<'_>,
     remarks: Remarks,
@@ -510,6 +586,11 @@ fn layout_beside(
     } else {
         columns_by(signals, remarks.alone, number, 0, separator, Some(line))?
     };
+    if !has_numbers {
+        if let Some(layout) = layout_last(remarks, columns, separator, line) {
+            return Ok(layout);
+        }
+    }
     let rate = if has_times(columns, 1, separator, more) {
         None
     } else if has_numbers {
@@ -526,9 +607,10 @@ fn layout_beside(
         Scale::Counted(rate)
     };
     Ok(Layout {
-        columns,
+        columns: rated(columns),
         separator,
         scale,
+        times: 0,
     })
 }
 
@@ -555,6 +637,7 @@ fn layout_by(
                 columns,
                 separator,
                 scale: scale_of(remarks, unit, field_at(separator, line, 0)),
+                times: 0,
             })
         }
         None => {
@@ -562,6 +645,18 @@ fn layout_by(
             layout_beside(signals, remarks, number, separator, numbers, line, more)
         }
     }
+}
+
+/// Whether a line has a byte 13 with more after it, which ends no line here.
+fn has_return(line: &[u8]) -> bool
+    ensures { result ≡ has_return line.now }
+{
+    for (i, b) in line.iter().enumerate() {
+        if *b == b'\r' {
+            return !are_framing(&line[i + 1..]);
+        }
+    }
+    false
 }
 
 /// How a table is read, by the line of its names.
@@ -574,6 +669,9 @@ fn layout_of(
     requires { length line.now + 1 < 2 ^ 64 }
     ensures { result ≡ layout_of signals.now remarks number line.now }
 {
+    if has_return(line) {
+        return Err(CaptureFault::NoSignal(number, Wire::Atn));
+    }
     let separator = separator_or(remarks.separator, line);
     let (first, more) = split_field(separator, line);
     let unit = time_unit(remarks.bare_unit(), first);
@@ -685,11 +783,64 @@ fn has_level(first: Option<&[u8]>) -> bool
     }
 }
 
-/// Whether a first column that is none of the three lines' has no level in this row.
+/// Whether a digit is in front.
+fn begins_digit(text: &[u8]) -> bool
+    ensures { result ≡ begins_digit text.now }
+{
+    match text {
+        [b, ..] => is_digit(*b),
+        [] => false,
+    }
+}
+
+/// What follows a point or a comma, if one is in front.
+fn behind_mark(text: &[u8]) -> &[u8]
+    ensures { result.now ≡ behind_mark text.now }
+{
+    match text {
+        [] => &[],
+        [b, rest @ ..] => { if *b == b'.' || *b == b',' { rest } else { text } }
+    }
+}
+
+/// Whether a field begins as a number does, and is no level.
+fn is_number(field: &[u8]) -> bool
+    ensures { result ≡ is_number field.now }
+{
+    begins_digit(behind_mark(behind_plus_minus(field))) && !is_level(field)
+}
+
+/// Whether one of these columns, of which the first has this place, has such a number, and is none of the three lines'.
+fn has_number(columns: Columns, place: usize, separator: u8, fields: Option<&[u8]>) -> bool
+    requires { place + length (fields_left separator (option_copied fields)) < 2 ^ 64 }
+    ensures { result ≡ has_number columns place (fields_left separator (option_copied fields.entry)) }
+{
+    let mut here = place;
+    let mut left = fields;
+    while let Some(line) = left {
+        let (field, more) = split_field(separator, line);
+        if is_number(without_front(field)) && !is_line_at(columns, here) {
+            return true;
+        }
+        here += 1;
+        left = more;
+    }
+    false
+}
+
+/// Whether a row has times or numbers that no name says: a first column that is none of the three lines' has no level
+/// in it, or at a rate a later one has a number.
 fn is_foreign(layout: Layout, line: &[u8]) -> bool
     ensures { result ≡ is_foreign layout.columns (fields_of layout.separator false line.now) }
 {
-    layout.columns.has_other_first && !has_level(field_at(layout.separator, line, 0))
+    if layout.columns.has_other_first && !has_level(field_at(layout.separator, line, 0)) {
+        return true;
+    }
+    if !layout.columns.are_rated {
+        return false;
+    }
+    let (_, later) = split_field(layout.separator, line);
+    has_number(layout.columns, 1, layout.separator, later)
 }
 
 /// The sample of the three lines' columns, which has this time.
@@ -747,6 +898,20 @@ fn with_rows(count: u64, rows: usize) -> Option<u64>
     ensures { IfSome result (λ n. n ≡ count + rows) }
 {
     count.checked_add(u64::try_from(rows).ok()?)
+}
+
+/// The time that a row's field of times spells.
+fn instant_of_row(separator: u8, unit: u8, time: Option<&[u8]>) -> Option<Instant>
+    ensures { result ≡ instant_of_row separator unit (option_copied time.entry) }
+{
+    instant_in(separator, unit, without_front(time?))
+}
+
+/// That of the sample whose number, multiplied by `step`, it spells.
+fn instant_of_number(step: u64, rate: u64, time: Option<&[u8]>) -> Option<Instant>
+    ensures { result ≡ instant_of_number step rate (option_copied time.entry) }
+{
+    sample_in(step, rate, without_front(time?))
 }
 
 impl Moment {
@@ -816,19 +981,16 @@ impl Moment {
 
     /// That of a row.
     fn of_row(self, layout: Layout, number: usize, line: &[u8]) -> Result<Moment, CaptureFault>
-        ensures { result ≡ moment_of layout.scale layout.separator number self (fields_of layout.separator false line.now) }
+        ensures { result ≡ moment_of layout.scale layout.separator number self (field_at layout.times (fields_of layout.separator false line.now)) }
     {
         match layout.scale {
             Scale::Timed(unit) => {
-                let (time, _) = split_field(layout.separator, line);
-                self.at(
-                    number,
-                    instant_in(layout.separator, unit, without_front(time)),
-                )
+                let time = field_at(layout.separator, line, layout.times);
+                self.at(number, instant_of_row(layout.separator, unit, time))
             }
             Scale::Numbered { step, rate } => {
-                let (sample, _) = split_field(layout.separator, line);
-                self.at(number, sample_in(step, rate, without_front(sample)))
+                let sample = field_at(layout.separator, line, layout.times);
+                self.at(number, instant_of_number(step, rate, sample))
             }
             Scale::Counted(rate) => self.next(number, rate),
         }

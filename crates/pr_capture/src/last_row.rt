@@ -65,7 +65,7 @@ fn are_behind(columns: Columns) -> bool
     !columns.has_other_first && columns.atn > 0 && columns.clock > 0 && columns.line > 0
 }
 
-/// Where the bytes of a row begin that have its levels, whatever its time is.
+/// Where the bytes of a row begin that have its levels, whatever its time is, which comes first.
 fn tail_at(layout: Layout, line: &[u8]) -> Option<usize>
     ensures { result ≡ tail_at layout line.now }
 {
@@ -73,7 +73,11 @@ fn tail_at(layout: Layout, line: &[u8]) -> Option<usize>
         Scale::Counted(_) => Some(0),
         Scale::Numbered { .. } | Scale::Timed(_) => {
             let len = field_len(layout.separator, line);
-            if are_behind(layout.columns) && !is_plain(layout.separator) && len < line.len() {
+            if layout.times == 0
+                && are_behind(layout.columns)
+                && !is_plain(layout.separator)
+                && len < line.len()
+            {
                 Some(len)
             } else {
                 None

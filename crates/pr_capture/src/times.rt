@@ -30,7 +30,7 @@ pub struct Exponent {
 }
 
 /// Whether a minus is in front.
-fn is_minus(text: &[u8]) -> bool
+pub fn is_minus(text: &[u8]) -> bool
     ensures { result ≡ is_minus text.now }
 {
     match text {
@@ -50,7 +50,7 @@ pub fn behind_plus_minus(text: &[u8]) -> &[u8]
 }
 
 /// An exponent of up to 255 places.
-fn few_places(is_negative: bool, number: Option<u64>) -> Option<Exponent>
+pub fn few_places(is_negative: bool, number: Option<u64>) -> Option<Exponent>
     ensures { result ≡ few_places is_negative number }
 {
     let places = u8::try_from(number?).ok()?;
@@ -79,7 +79,7 @@ fn places_in(is_negative: bool, text: &[u8]) -> Option<Exponent>
 }
 
 /// The exponent after the digits of a number, if nothing else is there.
-pub fn exponent_in(text: &[u8]) -> Option<Exponent>
+fn exponent_in(text: &[u8]) -> Option<Exponent>
     ensures { result ≡ exponent_in text.now }
 {
     match text {

@@ -18,8 +18,8 @@ use crate::shown::Shown;
 use crate::starts::started_job;
 use crate::statuses::{End, FAILED, is_answered};
 use crate::told::{
-    Listing, Subject, has_more, has_notes, listing_of, show_note, show_oddities, subject_of,
-    tell_heard, tell_listing, tell_more, tell_notes,
+    Listing, Subject, has_more, has_notes, is_notable, listing_of, show_note, show_oddities,
+    subject_of, tell_heard, tell_listing, tell_more, tell_notes,
 };
 use pr_dots::Shapes;
 use pr_files::{Noting, Unsaved, save};
@@ -44,6 +44,9 @@ const FOR_A_FILE: &str = "PNG and PDF are not written to a terminal: -o FILE wri
 
 /// How many bytes of a recording show its format, at most.
 const FIRST: usize = 4096;
+
+/// How many bytes of a recording that is a file are read again for notes, at most.
+const NOTED: u64 = 1 << 20;
 
 /// The names of a task's files; None of standard input and of standard output.
 #[derive(Clone, Copy)]
@@ -633,12 +636,17 @@ fn tell_read<R: Read + Drop>(
     answer: Result<Answer, CliFault>,
     aside: Aside<'_>,
 ) {
-    let is_noted = aside.is_noted && answer.is_ok() && has_notes(subject);
+    let is_noted = aside.is_noted && has_answer(subject, answer);
     if !aside.is_explained && !is_noted {
         return;
     }
+    let count = if aside.is_explained || has_notes(subject) {
+        aside.count.get()
+    } else {
+        aside.count.get().min(NOTED)
+    };
     let bytes = match names.input {
-        Some(name) if aside.is_file => rt.again(name, aside.count.get()),
+        Some(name) if aside.is_file => rt.again(name, count),
         _ => kept.into_bytes(),
     };
     if let Some(bytes) = bytes {
@@ -650,6 +658,14 @@ fn tell_read<R: Read + Drop>(
             show_note(rt, aside.note);
             tell_notes(rt, bytes.as_slice(), subject);
         }
+    }
+}
+
+/// Whether a job was done, or refused with a fault of which there may be notes.
+fn has_answer(subject: Subject<'_>, answer: Result<Answer, CliFault>) -> bool {
+    match answer {
+        Ok(_) => is_notable(subject, None),
+        Err(fault) => is_notable(subject, Some(fault)),
     }
 }
 

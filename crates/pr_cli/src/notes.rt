@@ -1,6 +1,8 @@
 //! Notes: what is lawful and probably not what was meant, a line each on standard error.
 
 use pr_basic::cut_line;
+use pr_capture::TraceInput;
+use pr_explain::unit_meant;
 use pr_jobs::{HeldMarks, PagesEnd, shown_of};
 use pr_listing::{
     ListingForm, has_typed_strings, is_t64, looks_like_disk, looks_saved, tape_files,
@@ -187,6 +189,16 @@ pub fn note_bytes(rt: &impl Eprint, bytes: &[u8]) {
         note(rt, SAVED_BYTES);
     } else if looks_like_disk(bytes) {
         note(rt, DISK_BYTES);
+    }
+}
+
+/// Notes in which unit the times of a table may be, where they are read in another and no byte comes.
+pub fn note_unit(rt: &(impl Eprint + AllocGlobal), table: &[u8], input: TraceInput<'_>) {
+    if let Ok(Some(unit)) = unit_meant(rt.alloc(), table, input) {
+        let (word, sign) = (unit.word, unit.sign);
+        let _ = rt.eprintln(format_args!(
+            "print1525: note: the times may be {word}: name the column Time [{sign}]"
+        ));
     }
 }
 

@@ -1,6 +1,6 @@
 //! What more there is to say of a job's input, on standard error.
 
-use crate::notes::{is_script, is_typed, note_bytes, note_script};
+use crate::notes::{is_script, is_typed, note_bytes, note_script, note_unit};
 use pr_basic::{ScriptFault, StatusMode, cut_line};
 use pr_capture::{Source, TraceFormat, TraceInput};
 use pr_explain::{
@@ -183,17 +183,28 @@ pub fn tell_more(
 }
 
 /// Writes what is to be noted of an input whose job is answered.
-pub fn tell_notes(rt: &impl Eprint, bytes: &[u8], subject: Subject<'_>) {
+pub fn tell_notes(rt: &(impl Eprint + AllocGlobal), bytes: &[u8], subject: Subject<'_>) {
     match subject {
         Subject::Script(job) => note_script(rt, bytes, job.form),
         Subject::Bytes => note_bytes(rt, bytes),
-        Subject::Trace(_) | Subject::Recording(_) => {}
+        Subject::Trace(input) | Subject::Recording(input) => note_unit(rt, bytes, input),
     }
 }
 
-/// Whether notes can be of an input: those of a trace or a recording are not of its bytes.
+/// Whether an input is kept for notes: of a trace or a recording there are some only where it is a file, or is kept for
+/// an explanation.
 pub fn has_notes(subject: Subject<'_>) -> bool {
     matches!(subject, Subject::Script(_) | Subject::Bytes)
+}
+
+/// Whether there may be notes of an input whose job has this fault, or none: of a trace also where its edges are refused.
+pub fn is_notable(subject: Subject<'_>, fault: Option<CliFault>) -> bool {
+    match (subject, fault) {
+        (Subject::Script(_) | Subject::Bytes, None) => true,
+        (Subject::Trace(input), None | Some(CliFault::Wave(_)))
+        | (Subject::Recording(input), None) => input.source == Source::Csv,
+        _ => false,
+    }
 }
 
 /// Whether more can be said of a job's fault than its one line.

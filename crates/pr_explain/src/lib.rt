@@ -17,7 +17,7 @@
 //!   first that is not allowed, and `input` reads a trace in any format as `check` reads it ([`read_input`]).
 //! - The words: `trace_text` and `states` of edges; `faults`, `tables` and `names` of a line that cannot be
 //!   read, what it should have, and which signals a recording has, by `declared` those of a dump;
-//!   `context` and `words` of the
+//!   `units` finds the unit that a table's times may be in; `context` and `words` of the
 //!   statement around a place of a script, and of the word that is there. The place's line and its
 //!   lexeme are those of pr_basic's `line_at` and `lexeme_at`. `texts` has times, levels and
 //!   escaped bytes.
@@ -42,6 +42,7 @@ mod tables;
 mod texts;
 mod trace_text;
 mod traces;
+mod units;
 mod words;
 
 pub use edges::EdgePlace;
@@ -52,6 +53,7 @@ pub use rows::{Miss, Row, rows_behind, rows_from};
 pub use scripts::{ScriptPlace, explain_letter, explain_line, explain_script};
 pub use stops::{StopCause, StopPlace, explain_stop};
 pub use traces::{ReadingPlace, TracePlace, explain_reading, explain_trace};
+pub use units::{TimeUnit, unit_meant};
 
 /// What there is to say of a refusal, or of an error. Where nothing is refused the place is none
 /// and the text empty, instead of an `Option` around both.

@@ -419,7 +419,7 @@ const FROM_TIME_HELP: &str = "The time of the recording at which the trace\n\
 const FROM_TIME_VALUES: &str = "microseconds below 2^64, as in 1500, 5ms, 2s or -500";
 
 const RATE_HELP: &str = "The samples in a second of a table that has no\n\
-     times: a number, also with k, M, G (12.5M), or\n\
+     times, such as 4e6, 4M, 4MHz, 4MS/s or 500k, or\n\
      none (its remarks say it)";
 
 const RATE_VALUES: &str = "samples in a second, as in 4M, 500k or 1000000, or none";
