@@ -39,6 +39,8 @@ use Rattle.pr_jobs.specs.Report.{AnswersReport, IsReportFault, WritesNoReport}
 use Rattle.pr_jobs.specs.Report as check
 use Rattle.pr_jobs.specs.Raw.{AnswersRaw, IsRawFault}
 use Rattle.pr_recording.specs.declared.byte_log.Heard.{Heard}
+use Rattle.pr_recording.specs.declared.bytes.Overheard.{Overheard}
+use Rattle.pr_recording.specs.declared.pages.Reprinted.{Reprinted}
 use Rattle.pr_recording.specs.declared.wording.Wording.TheVariants.{Lines}
 use Rattle.pr_recording.specs.Bytes.{AnswersBytes, HasReadBytes}
 use Rattle.pr_recording.specs.Checked.{AnswersJson}
@@ -110,13 +112,19 @@ IsDone answers (Ok (answer.Ended Done)) = answers (Ok tt)
 IsDone answers (Ok _) = ⊥
 IsDone answers (Err fault) = answers (Err fault)
 
--- the same with a printer's bytes in a recording, and with what is odd about it
-abbrev pub IsOverheard : (Result (Heard × Oddities) CliFault → Type 0) → Result Answer CliFault → Type 0
-IsOverheard answers (Ok (answer.Overheard heard odd)) = answers (Ok (heard, odd))
+-- the same with what is said of a recording of which a printer's bytes are written
+abbrev pub IsOverheard : (Result Overheard CliFault → Type 0) → Result Answer CliFault → Type 0
+IsOverheard answers (Ok (answer.Overheard said)) = answers (Ok said)
 IsOverheard answers (Ok _) = ⊥
 IsOverheard answers (Err fault) = answers (Err fault)
 
--- the same with what is odd about a recording whose pages or JSON do not say it
+-- the same with what is said of one whose pages are written
+abbrev pub IsReprinted : (Result Reprinted CliFault → Type 0) → Result Answer CliFault → Type 0
+IsReprinted answers (Ok (answer.Reprinted said)) = answers (Ok said)
+IsReprinted answers (Ok _) = ⊥
+IsReprinted answers (Err fault) = answers (Err fault)
+
+-- the same with what is odd about a recording whose JSON does not say it
 abbrev pub IsRemarked : (Result Oddities CliFault → Type 0) → Result Answer CliFault → Type 0
 IsRemarked answers (Ok (answer.Remarked odd)) = answers (Ok odd)
 IsRemarked answers (Ok _) = ⊥
@@ -151,7 +159,7 @@ AnswersRecording shapes input reading.Json text old new result =
 AnswersRecording shapes input (reading.Bytes device) text old new result =
     IsOverheard (AnswersBytes input device text old new) result
 AnswersRecording shapes input (reading.Pages f) text old new result =
-    IsRemarked (reprint.AnswersPages shapes input f text old new) result
+    IsReprinted (reprint.AnswersPages shapes input f text old new) result
 
 -- the answer of a job, by the input's bytes and by what the writer held before and after; for a run
 -- they are the bytes of a script text, also where the listing has another form; the format of a
@@ -252,7 +260,7 @@ IsJobFault (Raw lower f) fault = IsRawFault fault
 -- a recording has been read to its end, unless it has a fault
 abbrev pub ReadsRecording : DecodeOutput → Option (List ℕ) → Result Answer CliFault → Type 0
 ReadsRecording (reading.Bytes device) left result = IsOverheard (HasReadBytes left) result
-ReadsRecording (reading.Pages f) left result = IsRemarked (reprint.ReadsPages left) result
+ReadsRecording (reading.Pages f) left result = IsReprinted (reprint.ReadsPages left) result
 ReadsRecording reading.Json left result = IsRemarked (λ answer. decode.ReadsAll left (without_odd answer)) result
 ReadsRecording _ left result = IsDone (decode.ReadsAll left) result
 

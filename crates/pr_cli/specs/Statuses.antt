@@ -16,7 +16,7 @@ use Rattle.pr_jobs.specs.declared.run.Ending.TheVariants.{Done, Stopped}
 use Rattle.pr_jobs.specs.declared.run.RunEnd.{RunEnd}
 use Rattle.pr_jobs.specs.declared.run.RunEnd.TheVariants as run
 use Rattle.pr_cli.specs.declared.jobs.Answer.{Answer}
-use Rattle.pr_cli.specs.declared.jobs.Answer.TheVariants.{Ended, Ran, Printed, Heard, Overheard, Remarked}
+use Rattle.pr_cli.specs.declared.jobs.Answer.TheVariants.{Ended, Ran, Printed, Heard, Overheard, Reprinted, Remarked}
 use Rattle.pr_cli.specs.declared.statuses.End.{End}
 use Rattle.pr_cli.specs.declared.statuses.End.TheVariants as end
 
@@ -36,7 +36,8 @@ answer_end (Ended ending) = ending_end ending
 answer_end (Ran ran) = run_ended ran
 answer_end (Printed pages) = run_ended pages.run
 answer_end (Heard ran heard) = run_ended ran
-answer_end (Overheard heard odd) = end.Done
+answer_end (Overheard said) = end.Done
+answer_end (Reprinted said) = end.Done
 answer_end (Remarked odd) = end.Done
 
 -- of a job with its answer or its fault

@@ -10,7 +10,9 @@ ghost use Rattle.pr_cli.specs.declared.statuses.End.TheVariants as end;
 
 use crate::characters::{shapes_for, shapes_given};
 use crate::jobs::{Answer, do_job, found_job};
-use crate::notes::{drawn_by, note_held, note_stop, petcat_note, program_note};
+use crate::notes::{
+    drawn_by, note_held, note_overheard, note_reprinted, note_stop, petcat_note, program_note,
+};
 use crate::outside::Outside;
 use crate::progress::{Progress, clear};
 use crate::refusals::{refuse, refuse_same};
@@ -606,14 +608,23 @@ fn answer_over<R: Read + Drop, W: Write + Drop>(
         answer,
         aside,
     );
-    tell_held(rt, drawn, answer, aside);
+    tell_lacking(rt, drawn, answer, aside);
     (end, output.into_inner())
 }
 
-/// Notes what the printers hold whose pages were drawn, if notes are written.
-fn tell_held(rt: &impl Eprint, drawn: Present, answer: Result<Answer, CliFault>, aside: Aside<'_>) {
-    if let (true, Ok(Answer::Printed(pages))) = (aside.is_noted, answer) {
-        note_held(rt, pages, drawn);
+/// Notes what was not printed of pages that were drawn, or of a printer's bytes: of a run's, and of bytes given, what the
+/// printers hold, if notes are written; of a recording's, all that is left out, unless it is quiet.
+fn tell_lacking(
+    rt: &impl Eprint,
+    drawn: Present,
+    answer: Result<Answer, CliFault>,
+    aside: Aside<'_>,
+) {
+    match answer {
+        Ok(Answer::Printed(pages)) if aside.is_noted => note_held(rt, pages, drawn),
+        Ok(Answer::Reprinted(said)) if !aside.is_quiet => note_reprinted(rt, said, drawn),
+        Ok(Answer::Overheard(said)) if !aside.is_quiet => note_overheard(rt, said, drawn),
+        _ => {}
     }
 }
 
@@ -674,7 +685,8 @@ fn run_end_of(answer: Result<Answer, CliFault>) -> Result<RunEnd, CliFault> {
     match answer {
         Ok(Answer::Ran(end) | Answer::Heard(end, _)) => Ok(end),
         Ok(Answer::Printed(pages)) => Ok(pages.run),
-        Ok(Answer::Ended(_) | Answer::Overheard(_, _) | Answer::Remarked(_)) => Ok(RunEnd::Done),
+        Ok(Answer::Ended(_) | Answer::Overheard(_) | Answer::Reprinted(_) | Answer::Remarked(_)) =>
+            Ok(RunEnd::Done),
         Err(fault) => Err(fault),
     }
 }
@@ -715,18 +727,22 @@ fn tell_answer(
     ensures { result ≡ answer_end answer }
 {
     if !is_quiet {
-        if let Answer::Heard(_, heard) | Answer::Overheard(heard, _) = answer {
-            tell_heard(rt, heard);
-        }
-        if let Answer::Overheard(_, odd) | Answer::Remarked(odd) = answer {
-            show_oddities(rt, subject, odd);
+        match answer {
+            Answer::Heard(_, heard) => tell_heard(rt, heard),
+            Answer::Overheard(said) => {
+                tell_heard(rt, said.heard);
+                show_oddities(rt, subject, said.odd);
+            }
+            Answer::Reprinted(said) => show_oddities(rt, subject, said.odd),
+            Answer::Remarked(odd) => show_oddities(rt, subject, odd),
+            Answer::Ended(_) | Answer::Ran(_) | Answer::Printed(_) => {}
         }
     }
     match answer {
         Answer::Ended(ending) => End::of_ending(ending),
         Answer::Ran(end) | Answer::Heard(end, _) => End::of_run(end),
         Answer::Printed(pages) => End::of_run(pages.run),
-        Answer::Overheard(_, _) | Answer::Remarked(_) => End::Done,
+        Answer::Overheard(_) | Answer::Reprinted(_) | Answer::Remarked(_) => End::Done,
     }
 }
 

@@ -16,8 +16,8 @@ use pr_jobs::{
 };
 use pr_options::{CheckOutput, DecodeOutput, Job, PagesOutput};
 use pr_recording::{
-    Heard, Wording, bytes_over, check_json_over, decode_json_over, decode_over, reprint_over,
-    run_bytes_over,
+    Heard, Overheard, Reprinted, Wording, bytes_over, check_json_over, decode_json_over,
+    decode_over, reprint_over, run_bytes_over,
 };
 use pr_render::Format;
 use pr_report::{Oddities, Report};
@@ -35,9 +35,11 @@ pub enum Answer {
     Printed(PagesEnd),
     /// It wrote the bytes that a printer hears in a run, which do not say what [`Heard`] does.
     Heard(RunEnd, Heard),
-    /// It wrote those that a printer hears in a recording, about which this is odd.
-    Overheard(Heard, Oddities),
-    /// It wrote the pages of a recording, or its readings as JSON, which do not say that this is odd about it.
+    /// It wrote those that a printer hears in a recording, of which this is said.
+    Overheard(Overheard),
+    /// It wrote the pages of a recording, of which this is said.
+    Reprinted(Reprinted),
+    /// It wrote the readings of a recording as JSON, which do not say that this is odd about it.
     Remarked(Oddities),
 }
 
@@ -338,12 +340,12 @@ fn decode_recording<R: Read, W: Write>(
             Ok(Answer::Remarked(odd))
         }
         DecodeOutput::Bytes(device) => {
-            let (heard, odd) = bytes_over(alloc, input, output, trace, device)?;
-            Ok(Answer::Overheard(heard, odd))
+            let said = bytes_over(alloc, input, output, trace, device)?;
+            Ok(Answer::Overheard(said))
         }
         DecodeOutput::Pages(format) => {
-            let odd = reprint_over(alloc, input, output, trace, format, shapes)?;
-            Ok(Answer::Remarked(odd))
+            let said = reprint_over(alloc, input, output, trace, format, shapes)?;
+            Ok(Answer::Reprinted(said))
         }
     }
 }

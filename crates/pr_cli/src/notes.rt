@@ -7,7 +7,8 @@ use pr_jobs::{HeldMarks, PagesEnd, shown_of};
 use pr_listing::{
     ListingForm, has_typed_strings, is_t64, looks_like_disk, looks_saved, tape_files,
 };
-use pr_options::{Job, PagesOutput};
+use pr_options::{DecodeOutput, Job, PagesOutput};
+use pr_recording::{LeftOut, Overheard, Reprinted};
 use pr_render::Format;
 use pr_serial::Present;
 use std::fmt;
@@ -63,6 +64,21 @@ const NO_PRINTER: Present = Present {
     four: false,
     five: false,
 };
+
+/// Both printers.
+const BOTH: Present = Present {
+    four: true,
+    five: true,
+};
+
+/// What a note says to do about bytes that the list has.
+const LISTED: &str = "--as list shows where";
+
+/// What it says to do about those that come before anybody is called.
+const EARLIER: &str = "begin the recording earlier";
+
+/// What it says to do about one that the recording's end cuts.
+const LONGER: &str = "record for longer";
 
 /// Writes a note.
 fn note(rt: &impl Eprint, text: &str) {
@@ -143,10 +159,19 @@ impl Display for Unprinted {
     }
 }
 
-/// The printers whose pages a run of a script draws, in lines or in a picture. A list of marks draws none.
+/// The printers whose pages a job draws, in lines or in a picture, or whose bytes in a recording it writes. A list of
+/// marks draws none.
 pub fn drawn_by(job: &Job<'_>) -> Present {
     match job {
         Job::Pages(_, present, _, _, PagesOutput::Pages(format)) => drawn_in(*format, *present),
+        Job::Decode {
+            output: DecodeOutput::Pages(format),
+            ..
+        } => drawn_in(*format, BOTH),
+        Job::Decode {
+            output: DecodeOutput::Bytes(device),
+            ..
+        } => shown_of(Some(*device), BOTH),
         _ => NO_PRINTER,
     }
 }
@@ -178,8 +203,69 @@ fn note_marks(rt: &impl Eprint, printer: u8, held: HeldMarks) {
     }
     let marks = Unprinted(held);
     let _ = rt.eprintln(format_args!(
-        "print1525: note: printer {printer} holds {marks}; end the line, \
-         with PRINT#{printer} where its file is {printer}"
+        "print1525: note: printer {printer} holds {marks}; \
+         a carriage return, CHR$(13), ends the line"
+    ));
+}
+
+/// Writes what the pages of these printers lack that a recording has.
+pub fn note_reprinted(rt: &impl Eprint, said: Reprinted, drawn: Present) {
+    note_left(rt, said.left);
+    note_nothing(rt, drawn, said.present);
+    note_held(rt, said.end, drawn);
+}
+
+/// Writes what the bytes of this printer lack that a recording has.
+pub fn note_overheard(rt: &impl Eprint, said: Overheard, drawn: Present) {
+    note_left(rt, said.left);
+    let heard = if said.has_byte { BOTH } else { NO_PRINTER };
+    note_nothing(rt, drawn, heard);
+}
+
+/// Writes a note of each kind of bytes that are left out.
+fn note_left(rt: &impl Eprint, left: LeftOut) {
+    let lost = ("byte is", "bytes are");
+    note_count(
+        rt,
+        left.unacknowledged,
+        lost,
+        " that nobody acknowledged",
+        LISTED,
+    );
+    let glitches = (
+        "incomplete byte (glitch) is",
+        "incomplete bytes (glitches) are",
+    );
+    note_count(rt, left.incomplete, glitches, "", LISTED);
+    let cut = if left.has_cut { 1 } else { 0 };
+    note_count(rt, cut, lost, " that the recording's end cuts", LONGER);
+    let data = ("data byte is", "data bytes are");
+    note_count(rt, left.early, data, ", from before any LISTEN", EARLIER);
+}
+
+/// Writes a note of bytes that are left out, if there are any: how many, which, why, and what to do.
+fn note_count(rt: &impl Eprint, count: u64, which: (&str, &str), why: &str, advice: &str) {
+    let which = match count {
+        0 => return,
+        1 => which.0,
+        _ => which.1,
+    };
+    let _ = rt.eprintln(format_args!("print1525: note: {count} {which} left out{why}; {advice}"));
+}
+
+/// Writes a note where none of these printers hears a byte.
+fn note_nothing(rt: &impl Eprint, drawn: Present, heard: Present) {
+    if (drawn.four && heard.four) || (drawn.five && heard.five) {
+        return;
+    }
+    let printers = match (drawn.four, drawn.five) {
+        (true, true) => "printer 4 or 5",
+        (true, false) => "printer 4",
+        (false, true) => "printer 5",
+        (false, false) => return,
+    };
+    let _ = rt.eprintln(format_args!(
+        "print1525: note: nothing is for {printers}; --as list shows what the recording has"
     ));
 }
 

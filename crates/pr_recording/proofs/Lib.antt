@@ -15,5 +15,6 @@ pub mod Adding
 pub mod BusPrinting
 pub mod Taken
 pub mod Logging
+pub mod LeftLogging
 pub mod RunLogging
 pub mod RunAnswering
