@@ -11,6 +11,7 @@ use Rattle.pr_capture.specs.declared.csv.Moment.{Moment}
 use Rattle.pr_capture.specs.declared.csv.Row.{Row}
 use Rattle.pr_capture.specs.declared.csv.RowPlace.TheVariants.{Rows}
 use Rattle.pr_capture.specs.declared.csv.Scale.TheVariants.{Counted}
+use Rattle.pr_capture.specs.declared.signals.Probes.{Probes}
 use Rattle.pr_capture.specs.declared.signals.Signals.{Signals}
 use Rattle.pr_capture.specs.Csv.{field_at, fields_of, moment_of, sample_of}
 use Rattle.pr_capture.specs.CsvReads.{HasSkipped, SkipsRows}
@@ -85,16 +86,16 @@ moment-after rate (suc n) m =
 -- Rows.
 
 -- a row says the same at another moment at the rate
-again : (inverted : Bool) (y : Layout) (rate number i : ℕ) (m k : Moment) (bytes : List ℕ) (row : Row) → y.scale ≡ Counted rate → IsRepeat inverted y number m bytes row
+again : (probes : Probes) (y : Layout) (rate number i : ℕ) (m k : Moment) (bytes : List ℕ) (row : Row) → y.scale ≡ Counted rate → IsRepeat probes y number m bytes row
     → time_at_rate rate k.count ≡ Some (k.count * 1000000 / rate) → k.before ≤ k.count * 1000000 / rate
-    → IsRepeat inverted y i k bytes (row_at (moment_beyond rate k) row.sample.levels)
-again inverted y rate number i m k bytes row is r timed before =
+    → IsRepeat probes y i k bytes (row_at (moment_beyond rate k) row.sample.levels)
+again probes y rate number i m k bytes row is r timed before =
     let fields : List (List ℕ) = fields_of y.separator false r.line in
     let t : ℕ = k.count * 1000000 / rate in
     let late : nat_lt t k.before ≡ false = grind (arith, common_steps) in
     let next : moment_of y.scale y.separator i k (field_at y.times fields) ≡ Ok (moment_beyond rate k) = rw (is, timed, late) refl in
-    let sample : sample_of y.columns inverted i fields t ≡ Ok (record { time = t; levels = row.sample.levels }) =
-    row-levels y inverted number m fields row r.reads i t in
+    let sample : sample_of y.columns probes i fields t ≡ Ok (record { time = t; levels = row.sample.levels }) =
+    row-levels y probes number m fields row r.reads i t in
     record { line = r.line; ends = r.ends; inner = r.inner; loud = r.loud; reads = rw (next, sample) refl }
 
 -- the last of `more` more rows
@@ -110,12 +111,12 @@ last-after : (rate n : ℕ) (m : Moment) (levels : Levels) → last_at rate n (r
 last-after rate zero m levels = refl
 last-after rate (suc n) m levels = last-after rate n (moment_beyond rate m) levels
 
-runs : (inverted : Bool) (y : Layout) (rate number n : ℕ) (m : Moment) (bytes : List ℕ) (row : Row) → y.scale ≡ Counted rate → IsRepeat inverted y number m bytes row → AreTimed rate row.moment n
-    → IsRun inverted y number m (copies (suc n) bytes) (suc n) (last_at rate n row)
-runs inverted y rate number zero m bytes row is r timed =
-    let P : List ℕ → Type 0 = λ v. IsRepeat inverted y number m v row in
+runs : (probes : Probes) (y : Layout) (rate number n : ℕ) (m : Moment) (bytes : List ℕ) (row : Row) → y.scale ≡ Counted rate → IsRepeat probes y number m bytes row → AreTimed rate row.moment n
+    → IsRun probes y number m (copies (suc n) bytes) (suc n) (last_at rate n row)
+runs probes y rate number zero m bytes row is r timed =
+    let P : List ℕ → Type 0 = λ v. IsRepeat probes y number m v row in
     subst P (sym (append-nil bytes)) r
-runs inverted y rate number (suc n) m bytes row is r timed =
+runs probes y rate number (suc n) m bytes row is r timed =
     let next : Row = row_at (moment_beyond rate row.moment) row.sample.levels in (
       row,
       bytes,
@@ -123,24 +124,24 @@ runs inverted y rate number (suc n) m bytes row is r timed =
       refl,
       r,
       last-levels rate (suc n) row,
-      runs inverted y rate (number + 1) n row.moment bytes next is (again inverted y rate number (number + 1) m row.moment bytes row is r timed.0 timed.1) timed.2,
+      runs probes y rate (number + 1) n row.moment bytes next is (again probes y rate number (number + 1) m row.moment bytes row is r timed.0 timed.1) timed.2,
     )
 
 -- a row, and n more
-pub run-on : (inverted : Bool) (y : Layout) (rate number n : ℕ) (m after : Moment) (text bytes : List ℕ) (row : Row) → y.scale ≡ Counted rate → IsRepeat inverted y number m bytes row
+pub run-on : (probes : Probes) (y : Layout) (rate number n : ℕ) (m after : Moment) (text bytes : List ℕ) (row : Row) → y.scale ≡ Counted rate → IsRepeat probes y number m bytes row
     → AreTimed rate row.moment (suc n) → after ≡ moment_after rate row.moment (suc n) → text ≡ copies (suc (suc n)) bytes
-    → IsRun inverted y number m text (suc (suc n)) (row_at after row.sample.levels)
-run-on inverted y rate number n m after text bytes row is r timed a t =
+    → IsRun probes y number m text (suc (suc n)) (row_at after row.sample.levels)
+run-on probes y rate number n m after text bytes row is r timed a t =
     let end : last_at rate (suc n) row ≡ row_at after row.sample.levels =
     last-after rate n (moment_beyond rate row.moment) row.sample.levels ∙ ap (λ k. row_at k row.sample.levels) (sym a) in
-    let P : List ℕ → Type 0 = λ v. IsRun inverted y number m v (suc (suc n)) (row_at after row.sample.levels) in
-    let Q : Row → Type 0 = λ v. IsRun inverted y number m (copies (suc (suc n)) bytes) (suc (suc n)) v in
-    subst P (sym t) (subst Q end (runs inverted y rate number (suc n) m bytes row is r timed))
+    let P : List ℕ → Type 0 = λ v. IsRun probes y number m v (suc (suc n)) (row_at after row.sample.levels) in
+    let Q : Row → Type 0 = λ v. IsRun probes y number m (copies (suc (suc n)) bytes) (suc (suc n)) v in
+    subst P (sym t) (subst Q end (runs probes y rate number (suc n) m bytes row is r timed))
 
 -- Reading them.
 
 reads-run : (n : ℕ) (s : Signals) (rate : Option ℕ) (text bytes : List ℕ) (samples : List Edge) (old new : CsvReader) (y : Layout) (m : Moment) (row : Row) → HasReadTable s rate text samples old
-    → IsRun old.signals.is_inverted y old.number m bytes (suc n) row → old.place ≡ Rows y m → old.line.items ≡ [] → new.place ≡ Rows y row.moment → new.line.items ≡ []
+    → IsRun old.signals.probes y old.number m bytes (suc n) row → old.place ≡ Rows y m → old.line.items ≡ [] → new.place ≡ Rows y row.moment → new.line.items ≡ []
     → new.signals ≡ old.signals → new.number ≡ old.number + suc n → new.last ≡ old.last → HasSkipped s rate (text ++ bytes) samples row.sample new
 reads-run zero s rate text bytes samples old new y m row h run p e q d a c l =
     let P : List Edge → Type 0 = λ v. HasReadTable s rate (text ++ bytes) (v ++ row.sample ∷ []) new in
@@ -163,13 +164,13 @@ reads-run (suc n) s rate text bytes samples old new y m row h run p e q d a c l 
     }
 
 -- rows that go on as the last one does
-pub skips-run : (old new : CsvReader) (bytes : List ℕ) (y : Layout) (m : Moment) (count : ℕ) (row : Row) → ((inverted : Bool) → KnowsLevels inverted y old.last → IsRun inverted y old.number m bytes count row)
+pub skips-run : (old new : CsvReader) (bytes : List ℕ) (y : Layout) (m : Moment) (count : ℕ) (row : Row) → ((probes : Probes) → KnowsLevels probes y old.last → IsRun probes y old.number m bytes count row)
     → 0 < count → old.place ≡ Rows y m → old.line.items ≡ [] → new.place ≡ Rows y row.moment → new.line.items ≡ [] → new.signals ≡ old.signals → new.number ≡ old.number + count → new.last ≡ old.last
     → SkipsRows bytes row.sample old new
 skips-run old new bytes y m zero row runs some p e q d a c l = absurd (omega (arith, some))
 skips-run old new bytes y m (suc n) row runs some p e q d a c l = λ s rate text samples h.
-    let known : KnowsLevels old.signals.is_inverted y old.last = rw p at h.last in
-    reads-run n s rate text bytes samples old new y m row h (runs old.signals.is_inverted known) p e q d a c l
+    let known : KnowsLevels old.signals.probes y old.last = rw p at h.last in
+    reads-run n s rate text bytes samples old new y m row h (runs old.signals.probes known) p e q d a c l
 
 -- the moment after more rows, from the times of the first and the last of them
 pub record IsSkipped (rate rows u count : ℕ) (m : Moment) : Type 0 where
@@ -190,11 +191,11 @@ skipped rate (suc n) t u count m some first before total last =
     }
 
 -- a row and what was found to follow it
-pub run-of : (inverted : Bool) (y : Layout) (rate number count : ℕ) (m after : Moment) (text bytes : List ℕ) (row : Row) → 0 < count → count ≢ 1 → y.scale ≡ Counted rate
-    → IsRepeat inverted y number m bytes row → AreTimed rate row.moment (count - 1) → after ≡ moment_after rate row.moment (count - 1) → text ≡ copies count bytes
-    → IsRun inverted y number m text count (row_at after row.sample.levels)
-run-of inverted y rate number zero m after text bytes row some many is r timed a t = absurd (omega (arith, some))
-run-of inverted y rate number (suc zero) m after text bytes row some many is r timed a t = absurd (many refl)
-run-of inverted y rate number (suc (suc n)) m after text bytes row some many is r timed a t =
+pub run-of : (probes : Probes) (y : Layout) (rate number count : ℕ) (m after : Moment) (text bytes : List ℕ) (row : Row) → 0 < count → count ≢ 1 → y.scale ≡ Counted rate
+    → IsRepeat probes y number m bytes row → AreTimed rate row.moment (count - 1) → after ≡ moment_after rate row.moment (count - 1) → text ≡ copies count bytes
+    → IsRun probes y number m text count (row_at after row.sample.levels)
+run-of probes y rate number zero m after text bytes row some many is r timed a t = absurd (omega (arith, some))
+run-of probes y rate number (suc zero) m after text bytes row some many is r timed a t = absurd (many refl)
+run-of probes y rate number (suc (suc n)) m after text bytes row some many is r timed a t =
     let o : suc (suc n) - 1 ≡ suc n = omega arith in
-    run-on inverted y rate number n m after text bytes row is r (subst (AreTimed rate row.moment) o timed) (a ∙ ap (moment_after rate row.moment) o) t
+    run-on probes y rate number n m after text bytes row is r (subst (AreTimed rate row.moment) o timed) (a ∙ ap (moment_after rate row.moment) o) t

@@ -24,7 +24,7 @@ use Rattle.pr_capture.specs.TableTimes.{bare_unit, instant_in, micros_of, no_rem
 use Rattle.pr_capture.specs.CsvLaws.{InOrder, csv_names, csv_of, csv_row, csv_rows, digits_of, level_byte, separator_byte, time_field, time_name, Separator, TimeUnit}
 use Rattle.pr_capture.specs.CsvLaws.Separator.{Comma, Semicolon, Tab}
 use Rattle.pr_capture.specs.CsvLaws.TimeUnit.{Seconds, Milliseconds, Microseconds, Nanoseconds, Picoseconds}
-use Rattle.pr_capture.specs.Recording.{◌>>=◌, second_name, with_samples, without_front}
+use Rattle.pr_capture.specs.Recording.{◌>>=◌, alike, second_name, with_samples, without_front}
 use Rattle.pr_capture.specs.Samples.{changes_after, edges_of, last_at_each}
 use Rattle.pr_capture.specs.VcdReadingLaws.{IsAsWritten, RunsOn}
 use Rattle.pr_capture.proofs.CsvReading.{inner-line}
@@ -250,7 +250,7 @@ AtZero start = (start ≡ None) ⊎ (start ≡ Some 0)
 
 -- the levels are read
 levels-read : (p : Separator) (n t : ℕ) (time : List ℕ) (a c l : Bool)
-    → sample_of columns false n (time ∷ fields_of (separator_byte p) false (level_byte a ∷ separator_byte p ∷ level_byte c ∷ separator_byte p ∷ level_byte l ∷ [])) t
+    → sample_of columns (alike false) n (time ∷ fields_of (separator_byte p) false (level_byte a ∷ separator_byte p ∷ level_byte c ∷ separator_byte p ∷ level_byte l ∷ [])) t
     ≡ Ok (edge_at t a c l)
 levels-read Comma n t time true true true = refl
 levels-read Comma n t time true true false = refl
@@ -293,7 +293,7 @@ moment-read n before t start z later fits =
 
 -- a row is read
 row-read : (p : Separator) (u : TimeUnit) (n before : ℕ) (start : Option ℕ) (e : Edge) → AtZero start → before ≤ e.time → e.time < 18446744073709551616
-    → row_of (layout p u) false n (moment start before) (fields_of (separator_byte p) false (csv_row (separator_byte p) u e))
+    → row_of (layout p u) (alike false) n (moment start before) (fields_of (separator_byte p) false (csv_row (separator_byte p) u e))
     ≡ Ok (record { sample = e; moment = moment (Some 0) e.time })
 row-read p u n before start e z later fits =
     let sep : ℕ = separator_byte p in
@@ -303,8 +303,8 @@ row-read p u n before start e z later fits =
     let fs : List (List ℕ) = time_field u e.time ∷ fields_of sep false (level_fields sep e) in
     let timed : moment_at n (moment start before) (instant_in sep (place_of_unit u) (without_front (time_field u e.time))) ≡ Ok (moment (Some 0) e.time) =
     ap (moment_at n (moment start before)) (time-read sep u e.time fits) ∙ moment-read n before e.time start z later fits in
-    ap (row_of (layout p u) false n (moment start before)) split
-    ∙ (ap (λ o. o >>= λ next. sample_of columns false n fs next.before >>= λ v. Ok (record { sample = v; moment = next })) timed
+    ap (row_of (layout p u) (alike false) n (moment start before)) split
+    ∙ (ap (λ o. o >>= λ next. sample_of columns (alike false) n fs next.before >>= λ v. Ok (record { sample = v; moment = next })) timed
     ∙ ap (λ o. o >>= λ v. Ok (record { sample = v; moment = moment (Some 0) e.time }))
     (levels-read p n e.time (time_field u e.time) e.levels.atn e.levels.clock e.levels.line))
 
@@ -340,18 +340,18 @@ no-lines = refl
 
 -- a row that is read, and those after it
 one-row : (y : Layout) (n before : ℕ) (start : Option ℕ) (line : List ℕ) (ls : List (List ℕ)) (e : Edge) → is_silent line ≡ false
-    → row_of y false n (moment start before) (fields_of y.separator false line) ≡ Ok (record { sample = e; moment = moment (Some 0) e.time })
-    → row_contents y false n (moment start before) (line ∷ ls)
-    ≡ with_samples (e ∷ []) (row_contents y false (n + 1) (moment (Some 0) e.time) ls)
+    → row_of y (alike false) n (moment start before) (fields_of y.separator false line) ≡ Ok (record { sample = e; moment = moment (Some 0) e.time })
+    → row_contents y (alike false) n (moment start before) (line ∷ ls)
+    ≡ with_samples (e ∷ []) (row_contents y (alike false) (n + 1) (moment (Some 0) e.time) ls)
 one-row y n before start line ls e loud reads = rw (loud, reads) refl
 
 -- all rows are read
 rows-read : (p : Separator) (u : TimeUnit) (n before : ℕ) (start : Option ℕ) (es : List Edge) → AtZero start → InOrder before es
-    → row_contents (layout p u) false n (moment start before) (lines_of (csv_rows (separator_byte p) u es)) ≡ record { samples = es; fault = None }
+    → row_contents (layout p u) (alike false) n (moment start before) (lines_of (csv_rows (separator_byte p) u es)) ≡ record { samples = es; fault = None }
 rows-read p u n before start [] z h = rw no-lines refl
 rows-read p u n before start (e ∷ es) z h =
     let sep : ℕ = separator_byte p in
-    ap (row_contents (layout p u) false n (moment start before)) (inner-line (csv_row sep u e) (csv_rows sep u es) (row-inner p u e))
+    ap (row_contents (layout p u) (alike false) n (moment start before)) (inner-line (csv_row sep u e) (csv_rows sep u es) (row-inner p u e))
     ∙ (one-row (layout p u) n before start (csv_row sep u e) (lines_of (csv_rows sep u es)) e (row-silent sep u e) (row-read p u n before start e z h.0 h.1)
     ∙ ap (with_samples (e ∷ [])) (rows-read p u (n + 1) e.time (Some 0) es (inr refl) h.2))
 
@@ -410,7 +410,7 @@ names-read p u s rate h =
 
 -- the first line names the columns
 first-line : (p : Separator) (u : TimeUnit) (s : Signals) (rate : Option ℕ) (ls : List (List ℕ)) → IsAsWritten s
-    → first_contents s rate 1 (csv_names (separator_byte p) u ∷ ls) ≡ row_contents (layout p u) false 2 first_moment ls
+    → first_contents s rate 1 (csv_names (separator_byte p) u ∷ ls) ≡ row_contents (layout p u) (alike false) 2 first_moment ls
 first-line p u s rate ls h =
     let n = names-are p u in
     rw (n.opens, n.loud, names-read p u s rate h, h.straight) refl

@@ -19,8 +19,9 @@ use Rattle.pr_capture.specs.declared.fault.Wire.{Wire}
 use Rattle.pr_capture.specs.declared.fault.Wire.TheVariants.{Atn, Clock, Data}
 use Rattle.pr_capture.specs.declared.fault.CaptureFault.{CaptureFault}
 use Rattle.pr_capture.specs.declared.fault.CaptureFault.TheVariants.{Archive, BadLevel, BadTime, NoLevel, NoSignal, NoTime, TwoSignals, WideText}
+use Rattle.pr_capture.specs.declared.signals.Probes.{Probes}
 use Rattle.pr_capture.specs.declared.signals.Signals.{Signals}
-use Rattle.pr_capture.specs.Recording.{◌>>=◌, ended, first_some, is_framing, is_named, level_in, refused, second_name, shared, unless, with_samples, without_front, CaptureContents}
+use Rattle.pr_capture.specs.Recording.{◌>>=◌, ended, first_some, inverts, is_framing, is_named, level_in, refused, second_name, shared, unless, with_samples, without_front, CaptureContents}
 use Rattle.pr_capture.specs.Words.{is_space}
 use Rattle.pr_capture.specs.Numbers.{behind_word, onward}
 use Rattle.pr_capture.specs.TableTimes.{bare_unit, behind_plus_minus, count_in, from_start, has_numbers, instant_in, is_counting, is_timing, no_remarks, rate_known, remarked, sample_in, scale_of, start_of, time_at_rate, time_or, time_unit}
@@ -288,9 +289,9 @@ level_of number inverted [] = Err (BadLevel number)
 level_of number inverted (b ∷ bs) = if list_all is_framing (behind_point bs) then cell_level number inverted b else Err (BadLevel number)
 
 -- the level in a wire's column
-abbrev pub level_or : (number : ℕ) → (inverted : Bool) → Wire → (field : Option (List ℕ)) → Result Bool CaptureFault
-level_or number inverted wire None = Err (NoLevel number wire)
-level_or number inverted wire (Some f) = level_of number inverted (without_front f)
+abbrev pub level_or : (number : ℕ) → Probes → Wire → (field : Option (List ℕ)) → Result Bool CaptureFault
+level_or number probes wire None = Err (NoLevel number wire)
+level_or number probes wire (Some f) = level_of number (inverts probes wire) (without_front f)
 
 -- a letter of a level, known or not: 0, L, 1, H, x or z
 abbrev pub is_level_letter : ℕ → Bool
@@ -332,18 +333,18 @@ abbrev pub is_foreign : Columns → (fields : List (List ℕ)) → Bool
 is_foreign c fields = (c.has_other_first && not (has_level (field_at 0 fields))) || (c.are_rated && has_number c 1 (drop 1 fields))
 
 -- the sample of the three columns, with its time
-abbrev pub sample_by : Columns → (inverted : Bool) → (number : ℕ) → (fields : List (List ℕ)) → (time : ℕ)
+abbrev pub sample_by : Columns → Probes → (number : ℕ) → (fields : List (List ℕ)) → (time : ℕ)
     → Result Edge CaptureFault
-sample_by c inverted number fields t =
-    level_or number inverted Atn (field_at c.atn fields) >>= λ atn.
-    level_or number inverted Clock (field_at c.clock fields) >>= λ clock.
-    level_or number inverted Data (field_at c.line fields) >>= λ line.
+sample_by c probes number fields t =
+    level_or number probes Atn (field_at c.atn fields) >>= λ atn.
+    level_or number probes Clock (field_at c.clock fields) >>= λ clock.
+    level_or number probes Data (field_at c.line fields) >>= λ line.
     Ok (edge_at t atn clock line)
 
 -- a row's sample, with its time
-abbrev pub sample_of : Columns → (inverted : Bool) → (number : ℕ) → (fields : List (List ℕ)) → (time : ℕ)
+abbrev pub sample_of : Columns → Probes → (number : ℕ) → (fields : List (List ℕ)) → (time : ℕ)
     → Result Edge CaptureFault
-sample_of c inverted number fields t = if is_foreign c fields then Err (NoTime number) else sample_by c inverted number fields t
+sample_of c probes number fields t = if is_foreign c fields then Err (NoTime number) else sample_by c probes number fields t
 
 -- the moment of the first row: no start is known, no time was given, and no sample comes before it
 abbrev pub first_moment : Moment
@@ -376,10 +377,10 @@ moment_of (Numbered step rate) sep number m time = moment_at number m (instant_o
 moment_of (Counted rate) sep number m time = moment_next number m (time_at_rate rate m.count)
 
 -- what a row says: its sample, and the moment from which the next row goes on
-abbrev pub row_of : Layout → (inverted : Bool) → (number : ℕ) → Moment → (fields : List (List ℕ)) → Result Row CaptureFault
-row_of y inverted number m fields =
+abbrev pub row_of : Layout → Probes → (number : ℕ) → Moment → (fields : List (List ℕ)) → Result Row CaptureFault
+row_of y probes number m fields =
     moment_of y.scale y.separator number m (field_at y.times fields) >>= λ next.
-    sample_of y.columns inverted number fields next.before >>= λ e. Ok (record { sample = e; moment = next })
+    sample_of y.columns probes number fields next.before >>= λ e. Ok (record { sample = e; moment = next })
 
 -- a row's sample, and what is read after it
 abbrev pub contents_after_row : Result Row CaptureFault → (Moment → CaptureContents) → CaptureContents
@@ -387,11 +388,11 @@ contents_after_row (Err f) rest = refused f
 contents_after_row (Ok r) rest = with_samples (r.sample ∷ []) (rest r.moment)
 
 -- rows, of which the first has this number, after this moment
-abbrev pub row_contents : Layout → (inverted : Bool) → (number : ℕ) → Moment → List (List ℕ) → CaptureContents
-row_contents y inverted number m [] = ended
-row_contents y inverted number m (l ∷ ls) =
-    if is_silent l then row_contents y inverted (number + 1) m ls
-    else contents_after_row (row_of y inverted number m (fields_of y.separator false l)) (λ next. row_contents y inverted (number + 1) next ls)
+abbrev pub row_contents : Layout → Probes → (number : ℕ) → Moment → List (List ℕ) → CaptureContents
+row_contents y probes number m [] = ended
+row_contents y probes number m (l ∷ ls) =
+    if is_silent l then row_contents y probes (number + 1) m ls
+    else contents_after_row (row_of y probes number m (fields_of y.separator false l)) (λ next. row_contents y probes (number + 1) next ls)
 
 -- The whole.
 
@@ -405,7 +406,7 @@ abbrev pub line_contents : Signals → Remarks → (number : ℕ) → List (List
 line_contents s r number [] = refused (NoSignal number Atn)
 line_contents s r number (l ∷ ls) =
     if is_in_front l then line_contents s (noted s r l) (number + 1) ls
-    else named_contents (layout_of s r number l) (λ y. row_contents y s.is_inverted (number + 1) first_moment ls)
+    else named_contents (layout_of s r number l) (λ y. row_contents y s.probes (number + 1) first_moment ls)
 
 -- The first line begins with a byte order mark, or not. Text of 16 bits a letter and zip archives are no tables.
 abbrev pub is_wide : List ℕ → Bool

@@ -17,7 +17,9 @@ use crate::fault::{CaptureFault, Wire};
 use crate::last_row::LastRow;
 use crate::numbers::{behind_first, behind_word, first_of};
 use crate::remarks::{Remarks, has_numbers, is_counting, is_timing, scale_of, time_unit};
-use crate::signals::{Signals, are_framing, is_named, is_space, level_in, shared, without_front};
+use crate::signals::{
+    Probes, Signals, are_framing, is_named, is_space, level_in, shared, without_front,
+};
 use crate::times::{
     Instant, behind_plus_minus, count_in, from_start, instant_in, sample_in, start_of,
     time_at_rate, time_or,
@@ -735,15 +737,15 @@ fn level_of(number: usize, is_inverted: bool, field: &[u8]) -> Result<bool, Capt
 /// The level in a wire's column.
 fn level_or(
     number: usize,
-    is_inverted: bool,
+    probes: Probes,
     wire: Wire,
     field: Option<&[u8]>,
 ) -> Result<bool, CaptureFault>
-    ensures { result ≡ level_or number is_inverted wire (option_copied field.entry) }
+    ensures { result ≡ level_or number probes wire (option_copied field.entry) }
 {
     match field {
         None => Err(CaptureFault::NoLevel(number, wire)),
-        Some(field) => level_of(number, is_inverted, without_front(field)),
+        Some(field) => level_of(number, probes.inverts(wire), without_front(field)),
     }
 }
 
@@ -846,30 +848,30 @@ fn is_foreign(layout: Layout, line: &[u8]) -> bool
 /// The sample of the three lines' columns, which has this time.
 fn sample_by(
     layout: Layout,
-    is_inverted: bool,
+    probes: Probes,
     number: usize,
     line: &[u8],
     time: u64,
 ) -> Result<Edge, CaptureFault>
-    ensures { result ≡ sample_by layout.columns is_inverted number (fields_of layout.separator false line.now) time }
+    ensures { result ≡ sample_by layout.columns probes number (fields_of layout.separator false line.now) time }
 {
     let columns = layout.columns;
     let separator = layout.separator;
     let atn = level_or(
         number,
-        is_inverted,
+        probes,
         Wire::Atn,
         field_at(separator, line, columns.atn),
     )?;
     let clock = level_or(
         number,
-        is_inverted,
+        probes,
         Wire::Clock,
         field_at(separator, line, columns.clock),
     )?;
     let line = level_or(
         number,
-        is_inverted,
+        probes,
         Wire::Data,
         field_at(separator, line, columns.line),
     )?;
@@ -880,17 +882,17 @@ fn sample_by(
 /// A row's sample, which has this time.
 fn sample_of(
     layout: Layout,
-    is_inverted: bool,
+    probes: Probes,
     number: usize,
     line: &[u8],
     time: u64,
 ) -> Result<Edge, CaptureFault>
-    ensures { result ≡ sample_of layout.columns is_inverted number (fields_of layout.separator false line.now) time }
+    ensures { result ≡ sample_of layout.columns probes number (fields_of layout.separator false line.now) time }
 {
     if is_foreign(layout, line) {
         return Err(CaptureFault::NoTime(number));
     }
-    sample_by(layout, is_inverted, number, line, time)
+    sample_by(layout, probes, number, line, time)
 }
 
 /// How many rows there were after `rows` more.
@@ -1008,15 +1010,15 @@ pub struct Row {
 /// What a row after a moment says.
 fn row_of(
     layout: Layout,
-    is_inverted: bool,
+    probes: Probes,
     number: usize,
     moment: Moment,
     line: &[u8],
 ) -> Result<Row, CaptureFault>
-    ensures { result ≡ row_of layout is_inverted number moment (fields_of layout.separator false line.now) }
+    ensures { result ≡ row_of layout probes number moment (fields_of layout.separator false line.now) }
 {
     let moment = moment.of_row(layout, number, line)?;
-    let sample = sample_of(layout, is_inverted, number, line, moment.before)?;
+    let sample = sample_of(layout, probes, number, line, moment.before)?;
     Ok(Row { sample, moment })
 }
 
@@ -1096,7 +1098,7 @@ impl RowPlace {
         requires { length line.now + 1 < 2 ^ 64 }
         ensures read { ReadsLine signals.now number line.now self.old result self.new }
         ensures names { IfOk result (λ sample. HasNoRows self.new → sample ≡ None) }
-        ensures row { IfOk result (λ sample. IsRowOf signals.now.is_inverted self.new line.now sample) }
+        ensures row { IfOk result (λ sample. IsRowOf signals.now.probes self.new line.now sample) }
     {
         match self {
             RowPlace::First(given) => {
@@ -1114,7 +1116,7 @@ impl RowPlace {
                 if is_silent(line) {
                     return Ok(None);
                 }
-                let row = row_of(*layout, signals.is_inverted, number, *moment, line)?;
+                let row = row_of(*layout, signals.probes, number, *moment, line)?;
                 *moment = row.moment;
                 Ok(Some(row.sample))
             }

@@ -47,6 +47,6 @@ pub use format::{Source, TraceFormat, TraceInput};
 pub use found::found_source;
 pub use laws::{csv_is_read_back, given_edges_come_first, given_samples_come_first};
 pub use remarks::read_rate;
-pub use signals::Signals;
+pub use signals::{Probes, Signals};
 pub use vcd::{VcdWriter, push_vcd_head, vcd_adds_up, write_vcd};
 pub use vcd_reader::{VcdReader, vcd_is_read_back};

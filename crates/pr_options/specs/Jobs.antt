@@ -19,13 +19,14 @@ use Rattle.pr_capture.specs.declared.format.TraceFormat.{TraceFormat}
 use Rattle.pr_capture.specs.declared.format.Source.{Source}
 use Rattle.pr_capture.specs.declared.format.Source.TheVariants as source
 use Rattle.pr_capture.specs.declared.format.TraceInput.{TraceInput}
+use Rattle.pr_capture.specs.declared.signals.Probes.{Probes}
 use Rattle.pr_options.specs.declared.outputs.CheckOutput.{CheckOutput}
 use Rattle.pr_report.specs.declared.detail.Detail.{Detail}
 use Rattle.pr_options.specs.Rows as option
 use Rattle.pr_options.specs.CommandLine.{print1525}
 use Rattle.pr_options.specs.DelayLists.{delays_of}
 use Rattle.pr_options.specs.Given.{characters_in, file_in, is_given, value_in}
-use Rattle.pr_options.specs.Options.{before_of, bounds_of, decode_output_of, device_of, form_of, format_of, from_time_of, mode_of, pages_output_of, present_of, rate_of, reading_source_of, report_of, set_of, sheet_of, source_of, trace_format_of}
+use Rattle.pr_options.specs.Options.{before_of, bounds_of, decode_output_of, device_of, form_of, format_of, from_time_of, inverted_of, mode_of, pages_output_of, present_of, rate_of, reading_source_of, report_of, set_of, sheet_of, source_of, trace_format_of}
 use Rattle.pr_options.specs.SignalNames.{Names, names_of, names_of_signals}
 use Rattle.pr_options.specs.Values.{bad}
 use Rattle.pr_options.specs.declared.command_line.Job.{Job}
@@ -50,7 +51,7 @@ pub record RunView : Type 0 where
 pub record InputView : Type 0 where
   pub source : Source
   pub names : Names
-  pub is_inverted : Bool
+  pub probes : Probes
   pub start : ℕ
   pub rate : Option ℕ
 
@@ -76,7 +77,7 @@ abbrev pub input_view : TraceInput → InputView
 input_view i = record {
   source = i.source;
   names = names_of_signals i.signals;
-  is_inverted = i.signals.is_inverted;
+  probes = i.signals.probes;
   start = i.start;
   rate = i.rate;
 }
@@ -148,13 +149,14 @@ fitting source.Csv rows = Ok tt
 abbrev pub wanted_input : Source → List Row → Result InputView JobFault
 wanted_input source rows =
     read opt.Names names_of rows >>= λ names.
+    read opt.Invert inverted_of rows >>= λ probes.
     read opt.FromTime from_time_of rows >>= λ start.
     read opt.Rate rate_of rows >>= λ rate.
     fitting source rows >>= λ fits.
     Ok (record {
       source = source;
       names = names;
-      is_inverted = is_given opt.Invert rows;
+      probes = probes;
       start = start;
       rate = rate;
     })

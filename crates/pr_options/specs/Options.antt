@@ -1,10 +1,12 @@
 -- Trusted: the values of the program's options.
 use Rattle.std.specs.Prelude.{ℕ, ◌*◌, ◌^◌, ◌==◌, ◌&&◌, ◌∷◌, [], Bool, List, length, nat_lt, Option, Some, None, true, false, codes, if◌then◌else◌, find, option_and_then, option_map}
-use Rattle.std.specs.List.{after_first, before_first, list_all}
+use Rattle.std.specs.List.{after_first, before_first, list_all, slice_split}
 use Rattle.std.specs.Str.{bytes_eq}
 use Rattle.clap.specs.Words.{Text}
 use Rattle.pr_base.specs.Digits.{is_digit, number_of}
+use Rattle.pr_capture.specs.Recording.{alike}
 use Rattle.pr_capture.specs.TableTimes.{rate_given}
+use Rattle.pr_capture.specs.declared.signals.Probes.{Probes}
 use Rattle.pr_serial.specs.declared.Present.{Present}
 use Rattle.pr_basic.specs.declared.session.StatusMode.{StatusMode}
 use Rattle.pr_basic.specs.declared.session.StatusMode.TheVariants.{Each, Kept}
@@ -80,6 +82,22 @@ bounds_of = meaning_of ((codes "profile", Profile) ∷ (codes "guide", Guide) �
 -- the samples in a second, as in 4M, or none
 abbrev pub rate_of : Text → Option (Option ℕ)
 rate_of text = if bytes_eq text (codes "none") then Some None else option_map (λ rate. Some rate) (rate_given text)
+
+-- a line by its name, whose probe inverts too
+abbrev pub with_line : Probes → Text → Option Probes
+with_line probes name =
+    if bytes_eq name (codes "ATN") then Some (record probes { atn = true })
+    else (if bytes_eq name (codes "CLOCK") then Some (record probes { clock = true })
+    else (if bytes_eq name (codes "DATA") then Some (record probes { line = true }) else None))
+
+abbrev pub with_lines : Probes → List Text → Option Probes
+with_lines probes [] = Some probes
+with_lines probes (name ∷ names) = option_and_then (λ more. with_lines more names) (with_line probes name)
+
+-- the lines whose probes invert: none, or names separated by commas
+abbrev pub inverted_of : Text → Option Probes
+inverted_of [] = Some (alike false)
+inverted_of (b ∷ bs) = with_lines (alike false) (slice_split (λ x. x == 44) (b ∷ bs))
 
 -- the printer whose pages are drawn, or whose bytes are written: 4 or 5
 abbrev pub device_of : Text → Option Device

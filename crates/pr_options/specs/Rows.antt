@@ -3,14 +3,14 @@
 use Rattle.std.specs.Prelude.{◌∷◌, ℕ, [], List, Option, Some, None, codes}
 use Rattle.clap.specs.Words.{Text}
 use Rattle.pr_options.specs.declared.options.Kind.{Kind}
-use Rattle.pr_options.specs.declared.options.Kind.TheVariants.{Value, Flag, File}
+use Rattle.pr_options.specs.declared.options.Kind.TheVariants.{Value, Lines, Flag, File}
 use Rattle.pr_options.specs.declared.options.Opt.{Opt}
 use Rattle.pr_options.specs.declared.options.Opt.TheVariants as opt
 use Rattle.pr_options.specs.declared.options.Subcommand.{Subcommand}
 use Rattle.pr_options.specs.declared.options.Subcommand.TheVariants.{Pages, Bus, Check, Decode, Raw}
-use Rattle.pr_options.specs.declared.options.TheConstants.{BOUNDS_HELP, BOUNDS_VALUES, CHARACTERS_HELP, DELAYS_HELP, DELAYS_VALUES, DEVICE_HELP, DEVICE_VALUES, EXPLAIN_HELP, FROM_HELP, FROM_TIME_HELP, FROM_TIME_VALUES, FROM_VALUES, INTERVALS_HELP, INVERT_HELP, LISTING_FROM_HELP, LISTING_FROM_VALUES, NAMES_HELP, NAMES_VALUES, PAGE_AS_HELP, PAGE_AS_VALUES, PRESENT_HELP, PRESENT_VALUES, QUIET_HELP, RATE_HELP, RATE_VALUES, RAW_AS_HELP, RAW_AS_VALUES, RAW_DEVICE_HELP, READING_AS_HELP, READING_AS_VALUES, READING_FROM_HELP, READING_FROM_VALUES, REPORT_AS_HELP, REPORT_AS_VALUES, SET_HELP, SET_VALUES, SHEET_HELP, SHEET_VALUES, STATUS_HELP, STATUS_VALUES, TRACE_AS_HELP, TRACE_AS_VALUES}
+use Rattle.pr_options.specs.declared.options.TheConstants.{BOUNDS_HELP, BOUNDS_VALUES, CHARACTERS_HELP, DELAYS_HELP, DELAYS_VALUES, DEVICE_HELP, DEVICE_VALUES, EXPLAIN_HELP, FROM_HELP, FROM_TIME_HELP, FROM_TIME_VALUES, FROM_VALUES, INTERVALS_HELP, INVERT_HELP, INVERT_VALUES, LISTING_FROM_HELP, LISTING_FROM_VALUES, NAMES_HELP, NAMES_VALUES, PAGE_AS_HELP, PAGE_AS_VALUES, PRESENT_HELP, PRESENT_VALUES, QUIET_HELP, RATE_HELP, RATE_VALUES, RAW_AS_HELP, RAW_AS_VALUES, RAW_DEVICE_HELP, READING_AS_HELP, READING_AS_VALUES, READING_FROM_HELP, READING_FROM_VALUES, REPORT_AS_HELP, REPORT_AS_VALUES, SET_HELP, SET_VALUES, SHEET_HELP, SHEET_VALUES, STATUS_HELP, STATUS_VALUES, TRACE_AS_HELP, TRACE_AS_VALUES}
 
--- an option: what follows its name (a value, nothing, or a file's name); its name; the value where nothing else gives
+-- an option: what follows its name (a value, lines of the bus, nothing, or a file's name); its name; the value where nothing else gives
 -- one; the values that the endings of a file's name give, where the argument `file` names one; and its values, in a few
 -- words and as help says them
 pub record OptionRow : Type 0 where
@@ -116,7 +116,7 @@ row opt.Delays = plain (codes "delays") [] DELAYS_VALUES.now DELAYS_HELP.now
 row opt.Status = plain (codes "status") (codes "each") STATUS_VALUES.now STATUS_HELP.now
 row opt.Set = plain (codes "set") (codes "upper") SET_VALUES.now SET_HELP.now
 row opt.Names = plain (codes "names") (codes "ATN,CLOCK,DATA") NAMES_VALUES.now NAMES_HELP.now
-row opt.Invert = no_value Flag (codes "invert") INVERT_HELP.now
+row opt.Invert = record (plain (codes "invert") [] INVERT_VALUES.now INVERT_HELP.now) { kind = Lines }
 row opt.FromTime = plain (codes "from-time") (codes "0") FROM_TIME_VALUES.now FROM_TIME_HELP.now
 row opt.Rate = plain (codes "rate") (codes "none") RATE_VALUES.now RATE_HELP.now
 row opt.PageAs = by_file output page_endings (plain (codes "as") (codes "list") PAGE_AS_VALUES.now PAGE_AS_HELP.now)

@@ -15,8 +15,8 @@ use crate::clap_command::make_command;
 use crate::delays::{DelayFault, read_delays};
 use crate::option_values::{
     read_before, read_decode_output, read_form, read_format, read_from_time, read_given_rate,
-    read_pages_output, read_present, read_reading_source, read_report, read_set, read_source,
-    read_status, read_trace_format,
+    read_inverted, read_pages_output, read_present, read_reading_source, read_report, read_set,
+    read_source, read_status, read_trace_format,
 };
 use crate::options::{INPUT, OUTPUT, Opt};
 use crate::outputs::{CheckOutput, DecodeOutput, PagesOutput};
@@ -28,7 +28,7 @@ use clap::ArgMatches;
 use clap::error::ErrorKind;
 use pr_basic::StatusMode;
 use pr_bus::Delays;
-use pr_capture::{Source, TraceFormat, TraceInput};
+use pr_capture::{Signals, Source, TraceFormat, TraceInput};
 use pr_listing::ListingForm;
 use pr_render::Format;
 use pr_serial::Present;
@@ -353,10 +353,12 @@ fn input_of<'a>(source: Source, options: &ArgMatches<'a>) -> Result<TraceInput<'
     ensures bad { IfErr result (λ f. wanted_input source (rows_of (found_of options.now)) ≡ Err f) }
     ensures own { IfErr result IsOwn }
 {
-    let signals = signals_in(options)?;
+    let named = signals_in(options)?;
+    let probes = read_inverted(value_in(options, Opt::Invert)).ok_or(Opt::Invert)?;
     let start = read_from_time(value_in(options, Opt::FromTime)).ok_or(Opt::FromTime)?;
     let rate = read_given_rate(value_in(options, Opt::Rate)).ok_or(Opt::Rate)?;
     fitting(source, options)?;
+    let signals = Signals { probes, ..named };
     Ok(TraceInput {
         source,
         signals,

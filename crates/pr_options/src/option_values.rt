@@ -1,13 +1,13 @@
 //! The values of the program's options.
 
-ghost use Rattle.std.specs.Prelude.{◌≡◌, ◌∷◌, [], option_map, IfSome};
-ghost use Rattle.pr_options.specs.Options.{before_of, bounds_of, decode_output_of, device_of, form_of, format_of, from_time_of, mode_of, moment_of, pages_output_of, present_of, rate_of, reading_source_of, report_of, scaled, set_of, sheet_numbered, sheet_of, source_of, start_of, trace_format_of};
+ghost use Rattle.std.specs.Prelude.{◌≡◌, ◌∷◌, [], option_map};
+ghost use Rattle.pr_options.specs.Options.{before_of, bounds_of, decode_output_of, device_of, form_of, format_of, from_time_of, inverted_of, mode_of, moment_of, pages_output_of, present_of, rate_of, reading_source_of, report_of, scaled, set_of, sheet_numbered, sheet_of, source_of, start_of, trace_format_of, with_line};
 ghost use Rattle.pr_options.specs.SignalNames.{are_names, differ, is_clock_twice, is_name, names_of, names_of_signals, three_names};
 
 use crate::outputs::{CheckOutput, DecodeOutput, PagesOutput};
 use crate::parts::{all_digits, cut};
 use pr_basic::StatusMode;
-use pr_capture::{Signals, Source, TraceFormat, read_rate};
+use pr_capture::{Probes, Signals, Source, TraceFormat, read_rate};
 use pr_listing::ListingForm;
 use pr_render::{Device, Format, Part};
 use pr_report::{Bounds, Detail, Report};
@@ -139,6 +139,45 @@ pub fn read_given_rate(text: &str) -> Option<Option<u64>>
     }
 }
 
+/// The probes of which that of this line inverts too: `ATN`, `CLOCK` or `DATA`. None for any other text.
+fn with_line(probes: Probes, name: &str) -> Option<Probes>
+    ensures { result ≡ with_line probes name.now }
+{
+    match name {
+        "ATN" => Some(Probes {
+            atn: true,
+            ..probes
+        }),
+        "CLOCK" => Some(Probes {
+            clock: true,
+            ..probes
+        }),
+        "DATA" => Some(Probes {
+            line: true,
+            ..probes
+        }),
+        _ => None,
+    }
+}
+
+/// Reads which probes invert, from the names of their lines, separated by commas: `ATN`, `CLOCK` and `DATA` (profile);
+/// where no name is given, none do. None for any other text. It takes no memory.
+pub fn read_inverted(text: &str) -> Option<Probes>
+    ensures { result ≡ inverted_of text.now }
+{
+    let mut probes = Probes::alike(false);
+    if text.is_empty() {
+        return Some(probes);
+    }
+    for name in text.split(',') {
+        let Some(more) = with_line(probes, name) else {
+            return None;
+        };
+        probes = more;
+    }
+    Some(probes)
+}
+
 /// The printer whose pages are drawn, or whose bytes are written: `4` or `5` (profile). None for any other text.
 pub fn read_device(text: &str) -> Option<Device>
     ensures { result ≡ device_of text.now }
@@ -218,34 +257,22 @@ pub fn read_report(text: &str) -> Option<CheckOutput>
 }
 
 /// The signals of a recording by the names of ATN, CLOCK and DATA, which are in this order, parted
-/// by commas. White space around a name does not count; no name is empty or begins with a quotation
-/// mark, and no two are the same or CLOCK and CLK, capitals or not (profile). None for any other text.
-pub fn read_signals(text: &str, is_inverted: bool) -> Option<Signals<'_>>
-    ensures names { option_map names_of_signals result ≡ names_of text.now }
-    ensures levels { IfSome result (λ s. s.is_inverted ≡ is_inverted) }
+/// by commas, with probes that do not invert. White space around a name does not count; no name is empty or begins with
+/// a quotation mark, and no two are the same or CLOCK and CLK, capitals or not (profile). None for any other text.
+pub fn read_signals(text: &str) -> Option<Signals<'_>>
+    ensures { option_map names_of_signals result ≡ names_of text.now }
 {
     let (atn, others) = cut(text, ',');
     let (clock, line) = cut(others, ',');
     if line.contains(',') {
         return None;
     }
-    signals_named(
-        atn.trim_ascii(),
-        clock.trim_ascii(),
-        line.trim_ascii(),
-        is_inverted,
-    )
+    signals_named(atn.trim_ascii(), clock.trim_ascii(), line.trim_ascii())
 }
 
 /// The signals of these names, if they are names of three signals.
-fn signals_named<'a>(
-    atn: &'a str,
-    clock: &'a str,
-    line: &'a str,
-    is_inverted: bool,
-) -> Option<Signals<'a>>
-    ensures names { option_map names_of_signals result ≡ three_names (atn.now ∷ clock.now ∷ line.now ∷ []) }
-    ensures levels { IfSome result (λ s. s.is_inverted ≡ is_inverted) }
+fn signals_named<'a>(atn: &'a str, clock: &'a str, line: &'a str) -> Option<Signals<'a>>
+    ensures { option_map names_of_signals result ≡ three_names (atn.now ∷ clock.now ∷ line.now ∷ []) }
 {
     if !are_names(atn, clock, line) {
         return None;
@@ -254,7 +281,7 @@ fn signals_named<'a>(
         atn: atn.as_bytes(),
         clock: clock.as_bytes(),
         line: line.as_bytes(),
-        is_inverted,
+        probes: Probes::alike(false),
     })
 }
 

@@ -131,7 +131,7 @@ pub enum Opt {
     Set,
     /// The signals of a recording.
     Names,
-    /// A flag: the probes invert.
+    /// The lines whose probes invert.
     Invert,
     /// The moment of a recording at which the trace starts.
     FromTime,
@@ -170,6 +170,8 @@ pub enum Opt {
 pub enum Kind {
     /// A value.
     Value,
+    /// Lines of the bus, or nothing, which means [`ALL_LINES`].
+    Lines,
     /// Nothing.
     Flag,
     /// The name of a file.
@@ -230,6 +232,9 @@ pub const OUTPUT: FileArgument = FileArgument {
            text is whole\n\
            [default: standard output, as with -]",
 };
+
+/// The value of an option that lines of the bus may follow, where nothing does.
+pub const ALL_LINES: &str = "ATN,CLOCK,DATA";
 
 /// The letter of [`OUTPUT`], after `-`.
 pub const OUTPUT_LETTER: char = 'o';
@@ -410,7 +415,10 @@ const NAMES_HELP: &str = "The signals that are ATN, CLOCK and DATA:\n\
 
 const NAMES_VALUES: &str = "three different names, as in ATN,CLOCK,DATA";
 
-const INVERT_HELP: &str = "The probes invert: 0 is released, 1 is pulled";
+const INVERT_HELP: &str = "The probes of these lines invert, or all do if no\n\
+     line follows: 0 is released, 1 is pulled";
+
+const INVERT_VALUES: &str = "lines of the bus, as in DATA or ATN,CLOCK";
 
 const FROM_TIME_HELP: &str = "The time of the recording at which the trace\n\
      starts: microseconds, or as in 5ms or 2s; =-500\n\
@@ -568,7 +576,10 @@ impl Opt {
             Opt::Status => valued("status", "MODE", "each", STATUS_VALUES, STATUS_HELP),
             Opt::Set => valued("set", "SET", "upper", SET_VALUES, SET_HELP),
             Opt::Names => valued("names", "NAMES", "ATN,CLOCK,DATA", NAMES_VALUES, NAMES_HELP),
-            Opt::Invert => bare(Kind::Flag, "invert", "", INVERT_HELP),
+            Opt::Invert => OptionRow {
+                kind: Kind::Lines,
+                ..valued("invert", "LINES", "", INVERT_VALUES, INVERT_HELP)
+            },
             Opt::FromTime => valued("from-time", "TIME", "0", FROM_TIME_VALUES, FROM_TIME_HELP),
             Opt::Rate => valued("rate", "RATE", "none", RATE_VALUES, RATE_HELP),
             Opt::PageAs => with_endings(

@@ -1,6 +1,6 @@
 //! What words give the options, and what of it goes together.
 
-ghost use Rattle.std.specs.Prelude.{◌≡◌, IfErr, IfOk, find, option_map, unwrap_or};
+ghost use Rattle.std.specs.Prelude.{◌≡◌, IfErr, find, option_map, unwrap_or};
 ghost use Rattle.std.specs.Str.{str_eq_ignore_ascii_case};
 ghost use Rattle.clap.specs.Words.{first_of, found_of, rows_of};
 ghost use Rattle.pr_options.specs.Given.{characters_in, ending_value, file_in, has_ending, is_given, is_named, is_of_words, named, value_by_ending, value_by_name, value_in};
@@ -31,14 +31,12 @@ pub fn unless_found(options: &ArgMatches<'_>) -> Source
     }
 }
 
-/// The signals of a recording, by their names and by whether the probes invert.
+/// The signals of a recording by their names, with probes that do not invert.
 pub fn signals_in<'a>(options: &ArgMatches<'a>) -> Result<Signals<'a>, JobFault>
     ensures names { signals_result result ≡ read Opt.Names names_of (rows_of (found_of options.now)) }
-    ensures levels { IfOk result (λ s. s.is_inverted ≡ is_given Opt.Invert (rows_of (found_of options.now))) }
     ensures own { IfErr result IsOwn }
 {
-    let is_inverted = is_given(options, Opt::Invert);
-    read_signals(value_in(options, Opt::Names), is_inverted).ok_or(JobFault::Bad(Opt::Names))
+    read_signals(value_in(options, Opt::Names)).ok_or(JobFault::Bad(Opt::Names))
 }
 
 /// What `pages` writes, as the other options say.

@@ -5,7 +5,7 @@ ghost use Rattle.pr_input.specs.Watched.{has_failed};
 
 use pr_basic::StatusMode;
 use pr_bus::Delays;
-use pr_capture::{Signals, Source, TraceFormat, TraceInput};
+use pr_capture::{Probes, Signals, Source, TraceFormat, TraceInput};
 use pr_dots::Shapes;
 use pr_jobs::{
     CliFault, Ending, Start, Watched, bus_as_over, bus_over, check_as_over, check_over,
@@ -233,7 +233,7 @@ pub const USUAL: TraceInput<'static> = TraceInput {
         atn: b"ATN",
         clock: b"CLOCK",
         line: b"DATA",
-        is_inverted: false,
+        probes: Probes::alike(false),
     },
     start: 0,
     rate: None,
