@@ -42,8 +42,12 @@ const UNITS: &str =
 
 /// What a message says of a row whose cells have decimals in place of levels.
 const VOLTS: &str =
-    "expected level 0, 1, L or H: these look like volts; export digital channels, or let the analyzer \
-     compare with a threshold";
+    "expected level 0, 1, L or H: these look like volts, which --threshold compares: with --threshold 1.5 a line \
+     is 1 from 1.5 volts on";
+
+/// What a cell has where volts are compared with a threshold.
+const NO_VOLTS: &str =
+    "expected volts, such as 3.3, -0.05 or 4e-1 (3,3 where ; or a tab separates); cells with levels need no --threshold";
 
 /// What a message says of text of 16 bits a letter.
 const WIDE: &str = "this is UTF-16 text: save the recording as UTF-8 text";
@@ -171,6 +175,9 @@ fn push_table_fault(
         CaptureFault::NoTime(_) => {
             let is_rated = has_rate(bytes, input, number);
             push_times_rule(text, line, separator.unwrap_or(b','), input, is_rated)
+        }
+        CaptureFault::BadLevel(_) if input.signals.probes.threshold.is_some() => {
+            write!(text, "  {NO_VOLTS}\n")
         }
         CaptureFault::BadLevel(_) if has_fractions(separator.unwrap_or(b','), line) => {
             write!(text, "  {VOLTS}\n")
