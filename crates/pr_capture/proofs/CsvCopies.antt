@@ -118,6 +118,7 @@ runs probes y rate number zero m bytes row is r timed =
     subst P (sym (append-nil bytes)) r
 runs probes y rate number (suc n) m bytes row is r timed =
     let keeps : row.moment.levels ≡ row.sample.levels = (row-levels y probes number m (fields_of y.separator false r.line) row r.reads).0 in
+    let P : Levels → Type 0 = λ v. AreTimed rate (record (moment_beyond rate row.moment) { levels = v }) n in
     let next : Row = row_at (moment_beyond rate row.moment) row.sample.levels in (
       row,
       bytes,
@@ -125,7 +126,7 @@ runs probes y rate number (suc n) m bytes row is r timed =
       refl,
       r,
       last-levels rate (suc n) row,
-      runs probes y rate (number + 1) n row.moment bytes next is (again probes y rate number (number + 1) m row.moment bytes row is r keeps timed.0 timed.1) timed.2,
+      runs probes y rate (number + 1) n row.moment bytes next is (again probes y rate number (number + 1) m row.moment bytes row is r keeps timed.0 timed.1) (subst P keeps timed.2),
     )
 
 -- a row, and n more

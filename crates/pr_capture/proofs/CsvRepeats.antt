@@ -13,7 +13,6 @@ use Rattle.pr_wire.specs.declared.Levels.{Levels}
 use Rattle.pr_wire.specs.Levels.{edge_at}
 use Rattle.pr_base.specs.Digits.{is_digit}
 use Rattle.pr_base.specs.Lines.{lines_of}
-use Rattle.pr_capture.specs.declared.csv.Columns.{Columns}
 use Rattle.pr_capture.specs.declared.csv.CsvReader.{CsvReader}
 use Rattle.pr_capture.specs.declared.csv.Layout.{Layout}
 use Rattle.pr_capture.specs.declared.csv.Moment.{Moment}
