@@ -75,27 +75,27 @@ are-timed rate (suc n) t u m first before last =
     (h.first, omega (arith, before, h.last), are-timed rate n ((m.count + 1) * 1000000 / rate) u (moment_beyond rate m) k.first j.later more)
 
 -- the moment after them
-pub moment-after : (rate n : ℕ) (m : Moment) → moment_after rate m (suc n) ≡ record { start = m.start; before = (m.count + n) * 1000000 / rate; count = m.count + suc n }
+pub moment-after : (rate n : ℕ) (m : Moment) → moment_after rate m (suc n) ≡ record m { before = (m.count + n) * 1000000 / rate; count = m.count + suc n }
 moment-after rate zero m = let o : m.count + 0 ≡ m.count = omega arith in rw o refl
 moment-after rate (suc n) m =
     let o : (m.count + 1) + n ≡ m.count + suc n = omega arith in
     let p : (m.count + 1) + suc n ≡ m.count + suc (suc n) = omega arith in
-    let made : ℕ → ℕ → Moment = λ a b. record { start = m.start; before = a * 1000000 / rate; count = b } in
+    let made : ℕ → ℕ → Moment = λ a b. record m { before = a * 1000000 / rate; count = b } in
     moment-after rate n (moment_beyond rate m) ∙ (ap (λ a. made a ((m.count + 1) + suc n)) o ∙ ap (made (m.count + suc n)) p)
 
 -- Rows.
 
 -- a row says the same at another moment at the rate
 again : (probes : Probes) (y : Layout) (rate number i : ℕ) (m k : Moment) (bytes : List ℕ) (row : Row) → y.scale ≡ Counted rate → IsRepeat probes y number m bytes row
-    → time_at_rate rate k.count ≡ Some (k.count * 1000000 / rate) → k.before ≤ k.count * 1000000 / rate
+    → k.levels ≡ row.sample.levels → time_at_rate rate k.count ≡ Some (k.count * 1000000 / rate) → k.before ≤ k.count * 1000000 / rate
     → IsRepeat probes y i k bytes (row_at (moment_beyond rate k) row.sample.levels)
-again probes y rate number i m k bytes row is r timed before =
+again probes y rate number i m k bytes row is r same timed before =
     let fields : List (List ℕ) = fields_of y.separator false r.line in
     let t : ℕ = k.count * 1000000 / rate in
     let late : nat_lt t k.before ≡ false = grind (arith, common_steps) in
     let next : moment_of y.scale y.separator i k (field_at y.times fields) ≡ Ok (moment_beyond rate k) = rw (is, timed, late) refl in
-    let sample : sample_of y.columns probes i fields t ≡ Ok (record { time = t; levels = row.sample.levels }) =
-    row-levels y probes number m fields row r.reads i t in
+    let sample : sample_of y probes k.levels i fields t ≡ Ok (record { time = t; levels = row.sample.levels }) =
+    ap (λ (v : Levels). sample_of y probes v i fields t) same ∙ (row-levels y probes number m fields row r.reads).1 i t in
     record { line = r.line; ends = r.ends; inner = r.inner; loud = r.loud; reads = rw (next, sample) refl }
 
 -- the last of `more` more rows
@@ -117,6 +117,8 @@ runs probes y rate number zero m bytes row is r timed =
     let P : List ℕ → Type 0 = λ v. IsRepeat probes y number m v row in
     subst P (sym (append-nil bytes)) r
 runs probes y rate number (suc n) m bytes row is r timed =
+    let keeps : row.moment.levels ≡ row.sample.levels = (row-levels y probes number m (fields_of y.separator false r.line) row r.reads).0 in
+    let P : Levels → Type 0 = λ v. AreTimed rate (record (moment_beyond rate row.moment) { levels = v }) n in
     let next : Row = row_at (moment_beyond rate row.moment) row.sample.levels in (
       row,
       bytes,
@@ -124,7 +126,7 @@ runs probes y rate number (suc n) m bytes row is r timed =
       refl,
       r,
       last-levels rate (suc n) row,
-      runs probes y rate (number + 1) n row.moment bytes next is (again probes y rate number (number + 1) m row.moment bytes row is r timed.0 timed.1) timed.2,
+      runs probes y rate (number + 1) n row.moment bytes next is (again probes y rate number (number + 1) m row.moment bytes row is r keeps timed.0 timed.1) (subst P keeps timed.2),
     )
 
 -- a row, and n more
@@ -142,19 +144,19 @@ run-on probes y rate number n m after text bytes row is r timed a t =
 
 reads-run : (n : ℕ) (s : Signals) (rate : Option ℕ) (text bytes : List ℕ) (samples : List Edge) (old new : CsvReader) (y : Layout) (m : Moment) (row : Row) → HasReadTable s rate text samples old
     → IsRun old.signals.probes y old.number m bytes (suc n) row → old.place ≡ Rows y m → old.line.items ≡ [] → new.place ≡ Rows y row.moment → new.line.items ≡ []
-    → new.signals ≡ old.signals → new.number ≡ old.number + suc n → new.last ≡ old.last → HasSkipped s rate (text ++ bytes) samples row.sample new
-reads-run zero s rate text bytes samples old new y m row h run p e q d a c l =
+    → new.signals ≡ old.signals → new.number ≡ old.number + suc n → new.last ≡ old.last → old.last.levels ≡ Some row.sample.levels → HasSkipped s rate (text ++ bytes) samples row.sample new
+reads-run zero s rate text bytes samples old new y m row h run p e q d a c l same =
     let P : List Edge → Type 0 = λ v. HasReadTable s rate (text ++ bytes) (v ++ row.sample ∷ []) new in
-    record { between = []; same = tt; read = subst P (sym (append-nil samples)) (read-known s rate text samples old new bytes y m row h run p e q d a c l) }
-reads-run (suc n) s rate text bytes samples old new y m row h run p e q d a c l =
+    record { between = []; same = tt; read = subst P (sym (append-nil samples)) (read-known s rate text samples old new bytes y m row h run same p e q d a c l) }
+reads-run (suc n) s rate text bytes samples old new y m row h run p e q d a c l same =
     let first : Row = run.0 in
     let front : List ℕ = run.1 in
     let rest : List ℕ = run.2 in
     let mid : CsvReader = record old { place = Rows y first.moment; number = old.number + 1 } in
     let one : HasReadTable s rate (text ++ front) (samples ++ first.sample ∷ []) mid =
-    read-known s rate text samples old mid front y m first h run.4 p e refl e refl refl refl in
+    read-known s rate text samples old mid front y m first h run.4 (same ∙ ap Some (sym run.5)) p e refl e refl refl refl in
     let more : HasSkipped s rate ((text ++ front) ++ rest) (samples ++ first.sample ∷ []) row.sample new =
-    reads-run n s rate (text ++ front) rest (samples ++ first.sample ∷ []) mid new y first.moment row one run.6 refl e q d a (omega (arith, c)) l in
+    reads-run n s rate (text ++ front) rest (samples ++ first.sample ∷ []) mid new y first.moment row one run.6 refl e q d a (omega (arith, c)) l same in
     let P : List ℕ → Type 0 = λ v. HasReadTable s rate v ((samples ++ (first.sample ∷ more.between)) ++ row.sample ∷ []) new in
     let Q : List Edge → Type 0 = λ v. HasReadTable s rate ((text ++ front) ++ rest) (v ++ row.sample ∷ []) new in
     record {
@@ -164,17 +166,17 @@ reads-run (suc n) s rate text bytes samples old new y m row h run p e q d a c l 
     }
 
 -- rows that go on as the last one does
-pub skips-run : (old new : CsvReader) (bytes : List ℕ) (y : Layout) (m : Moment) (count : ℕ) (row : Row) → ((probes : Probes) → KnowsLevels probes y old.last → IsRun probes y old.number m bytes count row)
+pub skips-run : (old new : CsvReader) (bytes : List ℕ) (y : Layout) (m : Moment) (count : ℕ) (row : Row) → ((probes : Probes) → KnowsLevels probes y m old.last → IsRun probes y old.number m bytes count row) → old.last.levels ≡ Some row.sample.levels
     → 0 < count → old.place ≡ Rows y m → old.line.items ≡ [] → new.place ≡ Rows y row.moment → new.line.items ≡ [] → new.signals ≡ old.signals → new.number ≡ old.number + count → new.last ≡ old.last
     → SkipsRows bytes row.sample old new
-skips-run old new bytes y m zero row runs some p e q d a c l = absurd (omega (arith, some))
-skips-run old new bytes y m (suc n) row runs some p e q d a c l = λ s rate text samples h.
-    let known : KnowsLevels old.signals.probes y old.last = rw p at h.last in
-    reads-run n s rate text bytes samples old new y m row h (runs old.signals.probes known) p e q d a c l
+skips-run old new bytes y m zero row runs same some p e q d a c l = absurd (omega (arith, some))
+skips-run old new bytes y m (suc n) row runs same some p e q d a c l = λ s rate text samples h.
+    let known : KnowsLevels old.signals.probes y m old.last = rw p at h.last in
+    reads-run n s rate text bytes samples old new y m row h (runs old.signals.probes known) p e q d a c l same
 
 -- the moment after more rows, from the times of the first and the last of them
 pub record IsSkipped (rate rows u count : ℕ) (m : Moment) : Type 0 where
-  pub after : record { start = m.start; before = u; count = count } ≡ moment_after rate m rows
+  pub after : record m { before = u; count = count } ≡ moment_after rate m rows
   pub timed : AreTimed rate m rows
 
 pub skipped : (rate rows t u count : ℕ) (m : Moment) → 0 < rows → time_at_rate rate m.count ≡ Some t → m.before ≤ t → count ≡ m.count + rows → time_at_rate rate (count - 1) ≡ Some u
@@ -184,7 +186,7 @@ skipped rate (suc n) t u count m some first before total last =
     let o : count - 1 ≡ m.count + n = omega (arith, total) in
     let end : time_at_rate rate (m.count + n) ≡ Some u = ap (time_at_rate rate) (sym o) ∙ last in
     let h = time-on rate (m.count + n) (m.count + n) u (omega arith) end in
-    let made : ℕ → ℕ → Moment = λ a b. record { start = m.start; before = a; count = b } in
+    let made : ℕ → ℕ → Moment = λ a b. record m { before = a; count = b } in
     record {
       after = ap (λ a. made a count) h.last ∙ (ap (made ((m.count + n) * 1000000 / rate)) total ∙ sym (moment-after rate n m));
       timed = are-timed rate n t u m first before end;

@@ -7,6 +7,7 @@ use Rattle.std.proofs.lemmas.Grind.{common_steps}
 use Rattle.std.proofs.lemmas.List.{take_all}
 use Rattle.std.proofs.lemmas.List.Folds.{list_all-append}
 use Rattle.pr_wire.specs.declared.Edge.{Edge}
+use Rattle.pr_wire.specs.declared.Levels.{Levels}
 use Rattle.pr_wire.specs.Levels.{edge_at}
 use Rattle.pr_base.specs.Digits.{is_digit}
 use Rattle.pr_base.specs.Lines.{lines_of}
@@ -242,40 +243,40 @@ abbrev layout : Separator → TimeUnit → Layout
 layout p u = record { columns = columns; separator = separator_byte p; scale = Timed (place_of_unit u); times = 0 }
 
 -- a moment of a table that starts at 0: none was given yet, or one was
-abbrev moment : (start : Option ℕ) → (before : ℕ) → Moment
-moment start before = record { start = start; before = before; count = 0 }
+abbrev moment : (start : Option ℕ) → (before : ℕ) → Levels → Moment
+moment start before k = record { start = start; before = before; count = 0; levels = k }
 
 abbrev AtZero : Option ℕ → Type 0
 AtZero start = (start ≡ None) ⊎ (start ≡ Some 0)
 
 -- the levels are read
-levels-read : (p : Separator) (n t : ℕ) (time : List ℕ) (a c l : Bool)
-    → sample_of columns (alike false) n (time ∷ fields_of (separator_byte p) false (level_byte a ∷ separator_byte p ∷ level_byte c ∷ separator_byte p ∷ level_byte l ∷ [])) t
+levels-read : (p : Separator) (u : TimeUnit) (k : Levels) (n t : ℕ) (time : List ℕ) (a c l : Bool)
+    → sample_of (layout p u) (alike false) k n (time ∷ fields_of (separator_byte p) false (level_byte a ∷ separator_byte p ∷ level_byte c ∷ separator_byte p ∷ level_byte l ∷ [])) t
     ≡ Ok (edge_at t a c l)
-levels-read Comma n t time true true true = refl
-levels-read Comma n t time true true false = refl
-levels-read Comma n t time true false true = refl
-levels-read Comma n t time true false false = refl
-levels-read Comma n t time false true true = refl
-levels-read Comma n t time false true false = refl
-levels-read Comma n t time false false true = refl
-levels-read Comma n t time false false false = refl
-levels-read Semicolon n t time true true true = refl
-levels-read Semicolon n t time true true false = refl
-levels-read Semicolon n t time true false true = refl
-levels-read Semicolon n t time true false false = refl
-levels-read Semicolon n t time false true true = refl
-levels-read Semicolon n t time false true false = refl
-levels-read Semicolon n t time false false true = refl
-levels-read Semicolon n t time false false false = refl
-levels-read Tab n t time true true true = refl
-levels-read Tab n t time true true false = refl
-levels-read Tab n t time true false true = refl
-levels-read Tab n t time true false false = refl
-levels-read Tab n t time false true true = refl
-levels-read Tab n t time false true false = refl
-levels-read Tab n t time false false true = refl
-levels-read Tab n t time false false false = refl
+levels-read Comma u k n t time true true true = refl
+levels-read Comma u k n t time true true false = refl
+levels-read Comma u k n t time true false true = refl
+levels-read Comma u k n t time true false false = refl
+levels-read Comma u k n t time false true true = refl
+levels-read Comma u k n t time false true false = refl
+levels-read Comma u k n t time false false true = refl
+levels-read Comma u k n t time false false false = refl
+levels-read Semicolon u k n t time true true true = refl
+levels-read Semicolon u k n t time true true false = refl
+levels-read Semicolon u k n t time true false true = refl
+levels-read Semicolon u k n t time true false false = refl
+levels-read Semicolon u k n t time false true true = refl
+levels-read Semicolon u k n t time false true false = refl
+levels-read Semicolon u k n t time false false true = refl
+levels-read Semicolon u k n t time false false false = refl
+levels-read Tab u k n t time true true true = refl
+levels-read Tab u k n t time true true false = refl
+levels-read Tab u k n t time true false true = refl
+levels-read Tab u k n t time true false false = refl
+levels-read Tab u k n t time false true true = refl
+levels-read Tab u k n t time false true false = refl
+levels-read Tab u k n t time false false true = refl
+levels-read Tab u k n t time false false false = refl
 
 -- it starts at 0 after such a time
 start-zero : (start : Option ℕ) (t : ℕ) → AtZero start → start_of start (behind_start t) ≡ 0
@@ -283,30 +284,30 @@ start-zero start t (inl h) = rw h refl
 start-zero start t (inr h) = rw h refl
 
 -- a time is counted from there
-moment-read : (n before t : ℕ) (start : Option ℕ) → AtZero start → before ≤ t → t < 18446744073709551616
-    → moment_at n (moment start before) (Some (behind_start t)) ≡ Ok (moment (Some 0) t)
-moment-read n before t start z later fits =
+moment-read : (n before t : ℕ) (start : Option ℕ) (k : Levels) → AtZero start → before ≤ t → t < 18446744073709551616
+    → moment_at n (moment start before k) (Some (behind_start t)) ≡ Ok (moment (Some 0) t k)
+moment-read n before t start k z later fits =
     let zero-on : 0 + t ≡ t = omega arith in
     let room : nat_lt (0 + t) 18446744073709551616 ≡ true = rw zero-on (grind (arith, common_steps)) in
     let on : nat_lt t before ≡ false = grind (arith, common_steps) in
     rw (start-zero start t z, room, zero-on, on) refl
 
 -- a row is read
-row-read : (p : Separator) (u : TimeUnit) (n before : ℕ) (start : Option ℕ) (e : Edge) → AtZero start → before ≤ e.time → e.time < 18446744073709551616
-    → row_of (layout p u) (alike false) n (moment start before) (fields_of (separator_byte p) false (csv_row (separator_byte p) u e))
-    ≡ Ok (record { sample = e; moment = moment (Some 0) e.time })
-row-read p u n before start e z later fits =
+row-read : (p : Separator) (u : TimeUnit) (n before : ℕ) (start : Option ℕ) (k : Levels) (e : Edge) → AtZero start → before ≤ e.time → e.time < 18446744073709551616
+    → row_of (layout p u) (alike false) n (moment start before k) (fields_of (separator_byte p) false (csv_row (separator_byte p) u e))
+    ≡ Ok (record { sample = e; moment = moment (Some 0) e.time e.levels })
+row-read p u n before start k e z later fits =
     let sep : ℕ = separator_byte p in
     let plain : list_all (is_inside sep) (time_field u e.time) ≡ true = time-all (is_inside sep) (digit-plain p) (point-plain p) u e.time in
     let split : fields_of sep false (csv_row sep u e) ≡ time_field u e.time ∷ fields_of sep false (level_fields sep e) =
     field-first sep (time_field u e.time) (level_fields sep e) plain in
     let fs : List (List ℕ) = time_field u e.time ∷ fields_of sep false (level_fields sep e) in
-    let timed : moment_at n (moment start before) (instant_in sep (place_of_unit u) (without_front (time_field u e.time))) ≡ Ok (moment (Some 0) e.time) =
-    ap (moment_at n (moment start before)) (time-read sep u e.time fits) ∙ moment-read n before e.time start z later fits in
-    ap (row_of (layout p u) (alike false) n (moment start before)) split
-    ∙ (ap (λ o. o >>= λ next. sample_of columns (alike false) n fs next.before >>= λ v. Ok (record { sample = v; moment = next })) timed
-    ∙ ap (λ o. o >>= λ v. Ok (record { sample = v; moment = moment (Some 0) e.time }))
-    (levels-read p n e.time (time_field u e.time) e.levels.atn e.levels.clock e.levels.line))
+    let timed : moment_at n (moment start before k) (instant_in sep (place_of_unit u) (without_front (time_field u e.time))) ≡ Ok (moment (Some 0) e.time k) =
+    ap (moment_at n (moment start before k)) (time-read sep u e.time fits) ∙ moment-read n before e.time start k z later fits in
+    ap (row_of (layout p u) (alike false) n (moment start before k)) split
+    ∙ (ap (λ o. o >>= λ next. sample_of (layout p u) (alike false) k n fs next.before >>= λ v. Ok (record { sample = v; moment = record next { levels = v.levels } })) timed
+    ∙ ap (λ o. o >>= λ v. Ok (record { sample = v; moment = moment (Some 0) e.time v.levels }))
+    (levels-read p u k n e.time (time_field u e.time) e.levels.atn e.levels.clock e.levels.line))
 
 row-silent : (sep : ℕ) (u : TimeUnit) (e : Edge) → is_silent (csv_row sep u e) ≡ false
 row-silent sep u e =
@@ -339,21 +340,21 @@ unfolding lines_of
 no-lines = refl
 
 -- a row that is read, and those after it
-one-row : (y : Layout) (n before : ℕ) (start : Option ℕ) (line : List ℕ) (ls : List (List ℕ)) (e : Edge) → is_silent line ≡ false
-    → row_of y (alike false) n (moment start before) (fields_of y.separator false line) ≡ Ok (record { sample = e; moment = moment (Some 0) e.time })
-    → row_contents y (alike false) n (moment start before) (line ∷ ls)
-    ≡ with_samples (e ∷ []) (row_contents y (alike false) (n + 1) (moment (Some 0) e.time) ls)
-one-row y n before start line ls e loud reads = rw (loud, reads) refl
+one-row : (y : Layout) (n before : ℕ) (start : Option ℕ) (k : Levels) (line : List ℕ) (ls : List (List ℕ)) (e : Edge) → is_silent line ≡ false
+    → row_of y (alike false) n (moment start before k) (fields_of y.separator false line) ≡ Ok (record { sample = e; moment = moment (Some 0) e.time e.levels })
+    → row_contents y (alike false) n (moment start before k) (line ∷ ls)
+    ≡ with_samples (e ∷ []) (row_contents y (alike false) (n + 1) (moment (Some 0) e.time e.levels) ls)
+one-row y n before start k line ls e loud reads = rw (loud, reads) refl
 
 -- all rows are read
-rows-read : (p : Separator) (u : TimeUnit) (n before : ℕ) (start : Option ℕ) (es : List Edge) → AtZero start → InOrder before es
-    → row_contents (layout p u) (alike false) n (moment start before) (lines_of (csv_rows (separator_byte p) u es)) ≡ record { samples = es; fault = None }
-rows-read p u n before start [] z h = rw no-lines refl
-rows-read p u n before start (e ∷ es) z h =
+rows-read : (p : Separator) (u : TimeUnit) (n before : ℕ) (start : Option ℕ) (k : Levels) (es : List Edge) → AtZero start → InOrder before es
+    → row_contents (layout p u) (alike false) n (moment start before k) (lines_of (csv_rows (separator_byte p) u es)) ≡ record { samples = es; fault = None }
+rows-read p u n before start k [] z h = rw no-lines refl
+rows-read p u n before start k (e ∷ es) z h =
     let sep : ℕ = separator_byte p in
-    ap (row_contents (layout p u) (alike false) n (moment start before)) (inner-line (csv_row sep u e) (csv_rows sep u es) (row-inner p u e))
-    ∙ (one-row (layout p u) n before start (csv_row sep u e) (lines_of (csv_rows sep u es)) e (row-silent sep u e) (row-read p u n before start e z h.0 h.1)
-    ∙ ap (with_samples (e ∷ [])) (rows-read p u (n + 1) e.time (Some 0) es (inr refl) h.2))
+    ap (row_contents (layout p u) (alike false) n (moment start before k)) (inner-line (csv_row sep u e) (csv_rows sep u es) (row-inner p u e))
+    ∙ (one-row (layout p u) n before start k (csv_row sep u e) (lines_of (csv_rows sep u es)) e (row-silent sep u e) (row-read p u n before start k e z h.0 h.1)
+    ∙ ap (with_samples (e ∷ [])) (rows-read p u (n + 1) e.time (Some 0) e.levels es (inr refl) h.2))
 
 -- The whole.
 
@@ -421,7 +422,7 @@ unfolding csv_contents
 samples-back p u s rate es h k =
     let sep : ℕ = separator_byte p in
     ap (first_contents s rate 1) (inner-line (csv_names sep u) (csv_rows sep u es) (names-are p u).inner)
-    ∙ (first-line p u s rate (lines_of (csv_rows sep u es)) h ∙ rows-read p u 2 0 None es (inl refl) k)
+    ∙ (first-line p u s rate (lines_of (csv_rows sep u es)) h ∙ rows-read p u 2 0 None (record { atn = true; clock = true; line = true }) es (inl refl) k)
 
 -- Edges.
 

@@ -4,6 +4,7 @@ use Rattle.std.specs.Prelude.{ℕ, zero, suc, ◌+◌, ◌-◌, ◌==◌, ◌&&�
 use Rattle.std.specs.List.{list_all}
 use Rattle.std.specs.Str.{bytes_eq}
 use Rattle.pr_wire.specs.declared.Edge.{Edge}
+use Rattle.pr_wire.specs.declared.Levels.{Levels}
 use Rattle.pr_wire.specs.Levels.{edge_at}
 use Rattle.pr_base.specs.Digits.{is_digit}
 use Rattle.pr_base.specs.Lines.{lines_of, onto_first}
@@ -21,10 +22,13 @@ use Rattle.pr_capture.specs.declared.fault.CaptureFault.{CaptureFault}
 use Rattle.pr_capture.specs.declared.fault.CaptureFault.TheVariants.{Archive, BadLevel, BadTime, NoLevel, NoSignal, NoTime, TwoSignals, WideText}
 use Rattle.pr_capture.specs.declared.signals.Probes.{Probes}
 use Rattle.pr_capture.specs.declared.signals.Signals.{Signals}
+use Rattle.pr_capture.specs.declared.volts.Threshold.{Threshold}
+use Rattle.pr_capture.specs.declared.volts.Volts.{Volts}
 use Rattle.pr_capture.specs.Recording.{◌>>=◌, ended, first_some, inverts, is_framing, is_named, level_in, refused, second_name, shared, unless, with_samples, without_front, CaptureContents}
 use Rattle.pr_capture.specs.Words.{is_space}
 use Rattle.pr_capture.specs.Numbers.{behind_word, onward}
 use Rattle.pr_capture.specs.TableTimes.{bare_unit, behind_plus_minus, count_in, from_start, has_numbers, instant_in, is_counting, is_timing, no_remarks, rate_known, remarked, sample_in, scale_of, start_of, time_at_rate, time_or, time_unit}
+use Rattle.pr_capture.specs.Volts.{level_by, volts_in}
 
 -- Lines and fields.
 
@@ -288,10 +292,21 @@ abbrev pub level_of : (number : ℕ) → (inverted : Bool) → List ℕ → Resu
 level_of number inverted [] = Err (BadLevel number)
 level_of number inverted (b ∷ bs) = if list_all is_framing (behind_point bs) then cell_level number inverted b else Err (BadLevel number)
 
+-- the level of volts, in a line with this level before
+abbrev pub volts_level : (number : ℕ) → (inverted before : Bool) → Threshold → Option Volts → Result Bool CaptureFault
+volts_level number inverted before t None = Err (BadLevel number)
+volts_level number inverted before t (Some v) = Ok (level_by inverted before t v)
+
+-- a level that a cell has, as it is or in volts
+abbrev pub level_at : (number separator : ℕ) → (inverted before : Bool) → Option Threshold → List ℕ → Result Bool CaptureFault
+level_at number sep inverted before None f = level_of number inverted f
+level_at number sep inverted before (Some t) f = volts_level number inverted before t (volts_in sep f)
+
 -- the level in a wire's column
-abbrev pub level_or : (number : ℕ) → Probes → Wire → (field : Option (List ℕ)) → Result Bool CaptureFault
-level_or number probes wire None = Err (NoLevel number wire)
-level_or number probes wire (Some f) = level_of number (inverts probes wire) (without_front f)
+abbrev pub level_or : (number separator : ℕ) → Probes → Wire → (before : Bool) → (field : Option (List ℕ)) → Result Bool CaptureFault
+level_or number sep probes wire before None = Err (NoLevel number wire)
+level_or number sep probes wire before (Some f) =
+    level_at number sep (inverts probes wire) before probes.threshold (without_front f)
 
 -- a letter of a level, known or not: 0, L, 1, H, x or z
 abbrev pub is_level_letter : ℕ → Bool
@@ -302,10 +317,15 @@ abbrev pub is_level : List ℕ → Bool
 is_level [] = false
 is_level (b ∷ bs) = is_level_letter b && list_all is_framing (behind_point bs)
 
+-- or one in volts, where there is a threshold
+abbrev pub is_cell : (separator : ℕ) → Option Threshold → List ℕ → Bool
+is_cell sep None f = is_level f
+is_cell sep (Some t) f = is_some (volts_in sep f)
+
 -- the first field is one
-abbrev pub has_level : (first : Option (List ℕ)) → Bool
-has_level None = false
-has_level (Some f) = is_level (without_front f)
+abbrev pub has_level : (separator : ℕ) → Probes → (first : Option (List ℕ)) → Bool
+has_level sep probes None = false
+has_level sep probes (Some f) = is_cell sep probes.threshold (without_front f)
 
 -- a field begins as a number does: with a digit, after a sign or not, and after a point, a comma or neither
 abbrev pub begins_digit : List ℕ → Bool
@@ -319,47 +339,51 @@ behind_mark (b ∷ bs) = if b == 46 || b == 44 then bs else b ∷ bs
 abbrev pub begins_number : List ℕ → Bool
 begins_number l = begins_digit (behind_mark (behind_plus_minus l))
 
--- and is no level: 2, 0.001, -5 V, 12:30:45
-abbrev pub is_number : List ℕ → Bool
-is_number l = begins_number l && not (is_level l)
+-- and is no level: 2, 0.001, -5 V, 12:30:45; where volts are compared with a threshold, no volts: 12:30:45
+abbrev pub is_number : (separator : ℕ) → Option Threshold → List ℕ → Bool
+is_number sep t l = begins_number l && not (is_cell sep t l)
 
 -- one of these columns, of which the first has this place, has such a number, and is none of the three
-abbrev pub has_number : Columns → (place : ℕ) → (fields : List (List ℕ)) → Bool
-has_number c place [] = false
-has_number c place (f ∷ fs) = (is_number (without_front f) && not (is_line_at c place)) || has_number c (place + 1) fs
+abbrev pub has_number : Layout → Probes → (place : ℕ) → (fields : List (List ℕ)) → Bool
+has_number y probes place [] = false
+has_number y probes place (f ∷ fs) =
+    (is_number y.separator probes.threshold (without_front f) && not (is_line_at y.columns place)) || has_number y probes (place + 1) fs
 
 -- a row has times or numbers that no name says: a first column that is none of the three has no level, or at a rate a later one has a number
-abbrev pub is_foreign : Columns → (fields : List (List ℕ)) → Bool
-is_foreign c fields = (c.has_other_first && not (has_level (field_at 0 fields))) || (c.are_rated && has_number c 1 (drop 1 fields))
+abbrev pub is_foreign : Layout → Probes → (fields : List (List ℕ)) → Bool
+is_foreign y probes fields =
+    (y.columns.has_other_first && not (has_level y.separator probes (field_at 0 fields)))
+    || (y.columns.are_rated && has_number y probes 1 (drop 1 fields))
 
--- the sample of the three columns, with its time
-abbrev pub sample_by : Columns → Probes → (number : ℕ) → (fields : List (List ℕ)) → (time : ℕ)
+-- the sample of the three columns, with its time, after these levels
+abbrev pub sample_by : Layout → Probes → (before : Levels) → (number : ℕ) → (fields : List (List ℕ)) → (time : ℕ)
     → Result Edge CaptureFault
-sample_by c probes number fields t =
-    level_or number probes Atn (field_at c.atn fields) >>= λ atn.
-    level_or number probes Clock (field_at c.clock fields) >>= λ clock.
-    level_or number probes Data (field_at c.line fields) >>= λ line.
+sample_by y probes before number fields t =
+    level_or number y.separator probes Atn before.atn (field_at y.columns.atn fields) >>= λ atn.
+    level_or number y.separator probes Clock before.clock (field_at y.columns.clock fields) >>= λ clock.
+    level_or number y.separator probes Data before.line (field_at y.columns.line fields) >>= λ line.
     Ok (edge_at t atn clock line)
 
--- a row's sample, with its time
-abbrev pub sample_of : Columns → Probes → (number : ℕ) → (fields : List (List ℕ)) → (time : ℕ)
+-- a row's sample, with its time, after these levels
+abbrev pub sample_of : Layout → Probes → (before : Levels) → (number : ℕ) → (fields : List (List ℕ)) → (time : ℕ)
     → Result Edge CaptureFault
-sample_of c probes number fields t = if is_foreign c fields then Err (NoTime number) else sample_by c probes number fields t
+sample_of y probes before number fields t =
+    if is_foreign y probes fields then Err (NoTime number) else sample_by y probes before number fields t
 
--- the moment of the first row: no start is known, no time was given, and no sample comes before it
+-- the moment of the first row: no start is known, no time was given, no sample comes before it, and all lines are released
 abbrev pub first_moment : Moment
-first_moment = record { start = None; before = 0; count = 0 }
+first_moment = record { start = None; before = 0; count = 0; levels = record { atn = true; clock = true; line = true } }
 
 -- the moment of a row with this time
 abbrev pub moment_at : (number : ℕ) → Moment → Option Instant → Result Moment CaptureFault
 moment_at number m None = Err (BadTime number)
 moment_at number m (Some i) =
     from_start number (start_of m.start i) i >>= λ t.
-    time_or number m.before (Some t) >>= λ u. Ok (record { start = Some (start_of m.start i); before = u; count = m.count })
+    time_or number m.before (Some t) >>= λ u. Ok (record m { start = Some (start_of m.start i); before = u })
 
 -- and of the next row at a rate
 abbrev pub moment_next : (number : ℕ) → Moment → (time : Option ℕ) → Result Moment CaptureFault
-moment_next number m t = time_or number m.before t >>= λ u. Ok (record { start = m.start; before = u; count = m.count + 1 })
+moment_next number m t = time_or number m.before t >>= λ u. Ok (record m { before = u; count = m.count + 1 })
 
 -- the time that a row's field of times spells
 abbrev pub instant_of_row : (separator unit : ℕ) → (time : Option (List ℕ)) → Option Instant
@@ -380,7 +404,8 @@ moment_of (Counted rate) sep number m time = moment_next number m (time_at_rate 
 abbrev pub row_of : Layout → Probes → (number : ℕ) → Moment → (fields : List (List ℕ)) → Result Row CaptureFault
 row_of y probes number m fields =
     moment_of y.scale y.separator number m (field_at y.times fields) >>= λ next.
-    sample_of y.columns probes number fields next.before >>= λ e. Ok (record { sample = e; moment = next })
+    sample_of y probes m.levels number fields next.before >>= λ e.
+    Ok (record { sample = e; moment = record next { levels = e.levels } })
 
 -- a row's sample, and what is read after it
 abbrev pub contents_after_row : Result Row CaptureFault → (Moment → CaptureContents) → CaptureContents

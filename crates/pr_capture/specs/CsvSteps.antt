@@ -117,31 +117,31 @@ TimeComesFirst (Timed unit) sep times tail = PlainComesFirst sep times tail
 TimeComesFirst (Numbered step rate) sep times tail = PlainComesFirst sep times tail
 TimeComesFirst (Counted rate) sep times tail = Unit {0}
 
--- a row has these levels whose bytes after its time are these, whatever its time is
+-- a row has these levels, after the same ones, whose bytes after its time are these, whatever its time is
 pub record HasLevels (probes : Probes) (y : Layout) (tail : List ℕ) (levels : Levels) : Type 0 where
   pub inner : list_all is_inner tail ≡ true
   pub loud : (front : List ℕ) → IsFront y.scale front → is_silent (front ++ tail) ≡ false
   pub first : TimeComesFirst y.scale y.separator y.times tail
   pub reads : (number time : ℕ) (front : List ℕ) → IsFront y.scale front
-      → sample_of y.columns probes number (fields_of y.separator false (front ++ tail)) time
+      → sample_of y probes levels number (fields_of y.separator false (front ++ tail)) time
       ≡ Ok (record { time = time; levels = levels })
 
 -- the levels of rows that go on as the last one are known, or none are
-abbrev pub KnowsLevels : Probes → Layout → LastRow → Type 0
-KnowsLevels probes y l = IfSome l.levels (HasLevels probes y (drop l.from l.bytes.items))
+abbrev pub KnowsLevels : Probes → Layout → Moment → LastRow → Type 0
+KnowsLevels probes y m l = IfSome l.levels (λ levels. (m.levels ≡ levels) × HasLevels probes y (drop l.from l.bytes.items) levels)
 
 abbrev pub KnowsLast : Probes → RowPlace → LastRow → Type 0
 KnowsLast probes (First given) l = Unit {0}
 KnowsLast probes (Names r) l = Unit {0}
-KnowsLast probes (Rows y m) l = KnowsLevels probes y l
+KnowsLast probes (Rows y m) l = KnowsLevels probes y m l
 
 -- a line that has led to a place is a row with the levels of this sample, if there is one
 abbrev pub IsRowOf : Probes → RowPlace → (line : List ℕ) → Option Edge → Type 0
 IsRowOf probes p line None = Unit {0}
 IsRowOf probes (First given) line (Some e) = Unit {0}
 IsRowOf probes (Names r) line (Some e) = Unit {0}
-IsRowOf probes (Rows y m) line (Some e) = (is_silent line ≡ false) × ((number time : ℕ)
-    → sample_of y.columns probes number (fields_of y.separator false line) time ≡ Ok (record { time = time; levels = e.levels }))
+IsRowOf probes (Rows y m) line (Some e) = (is_silent line ≡ false) × (m.levels ≡ e.levels) × ((number time : ℕ)
+    → sample_of y probes e.levels number (fields_of y.separator false line) time ≡ Ok (record { time = time; levels = e.levels }))
 
 -- levels do not depend on the first column
 abbrev pub are_behind : Columns → Bool
@@ -163,7 +163,7 @@ tail_at y line = tail_by y.scale y.times y.columns y.separator line
 
 -- the row of a moment and levels
 abbrev pub row_at : Moment → Levels → Row
-row_at m levels = record { sample = record { time = m.before; levels = levels }; moment = m }
+row_at m levels = record { sample = record { time = m.before; levels = levels }; moment = record m { levels = levels } }
 
 abbrev pub row_if : Result Moment CaptureFault → Levels → Option Row
 row_if (Ok m) levels = Some (row_at m levels)
@@ -189,7 +189,7 @@ copies (suc n) bytes = bytes ++ copies n bytes
 
 -- the moment after one row more at a rate, and after this many
 abbrev pub moment_beyond : (rate : ℕ) → Moment → Moment
-moment_beyond rate m = record { start = m.start; before = m.count * 1000000 / rate; count = m.count + 1 }
+moment_beyond rate m = record m { before = m.count * 1000000 / rate; count = m.count + 1 }
 
 abbrev pub moment_after : (rate : ℕ) → Moment → (rows : ℕ) → Moment
 moment_after rate m zero = m

@@ -7,6 +7,7 @@ pub mod Gathers
 pub mod Recording
 pub mod Numbers
 pub mod TableTimes
+pub mod Volts
 pub mod Csv
 pub mod Found
 pub mod CsvSteps

@@ -82,9 +82,9 @@ abbrev pub first_some : {A : Type 0} → (first second : Option A) → Option A
 first_some None second = second
 first_some (Some x) second = Some x
 
--- all probes alike: they invert, or none does
+-- all probes alike: they invert, or none does; they show levels, not volts
 abbrev pub alike : Bool → Probes
-alike inverted = record { atn = inverted; clock = inverted; line = inverted }
+alike inverted = record { atn = inverted; clock = inverted; line = inverted; threshold = None }
 
 -- the probe of a wire inverts
 abbrev pub inverts : Probes → Wire → Bool

@@ -6,7 +6,7 @@
 
 ghost use Rattle.std.specs.Prelude.{◌≡◌, ◌+◌, ◌^◌, ◌<◌, ◌≤◌, ◌∷◌, [], false, true, None, Err, IfErr, IfOk, Ok, drop, length, option_copied, take, IfSome, Some};
 ghost use Rattle.std.specs.List.{list_all, prefix_len};
-ghost use Rattle.pr_capture.specs.Csv.{are_logic, begins_digit, behind_colon, behind_mark, behind_point, cell_level, channels_in, clock_name, column_in, columns_by, columns_called, columns_or, column_of, columns_in, field_at, fields_of, first_moment, has_level, has_number, has_numeral, has_return, has_times, instant_of_number, instant_of_row, is_archive, is_foreign, is_in_front, is_inner, is_level, is_line_at, is_level_letter, is_number, is_other, is_separator, is_silent, is_twice, is_wide, last_of, layout_beside, layout_by, layout_last, layout_of, level_of, level_or, moment_at, moment_next, moment_of, noted, opened, place_meant, rate_beside, rated, row_of, sample_by, sample_of, separator_behind, separator_of, separator_or, separator_said, with_channels, with_separator, without_space, without_zeros};
+ghost use Rattle.pr_capture.specs.Csv.{are_logic, begins_digit, behind_colon, behind_mark, behind_point, cell_level, channels_in, clock_name, column_in, columns_by, columns_called, columns_or, column_of, columns_in, field_at, fields_of, first_moment, has_level, has_number, has_numeral, has_return, has_times, instant_of_number, instant_of_row, is_archive, is_cell, is_foreign, is_in_front, is_inner, is_level, is_line_at, is_level_letter, is_number, is_other, is_separator, is_silent, is_twice, is_wide, last_of, layout_beside, layout_by, layout_last, layout_of, level_at, level_of, level_or, moment_at, moment_next, moment_of, noted, opened, place_meant, rate_beside, rated, row_of, sample_by, sample_of, separator_behind, separator_of, separator_or, separator_said, with_channels, with_separator, without_space, without_zeros};
 ghost use Rattle.pr_capture.specs.CsvReads.{EndsText, FaultsIn, ReadsMore, RefusesTable, SkipsRows, TakesRepeats};
 ghost use Rattle.pr_capture.specs.CsvSteps.{field_len, fields_left, line_number, moment_after, with_len, AreTimed, AnswersEnd, HasNoRows, HasReadTable, HoldsMore, IsRowOf, NamesAreRefused, NamesLeadTo, ReadsLine};
 ghost use Rattle.pr_capture.specs.TableTimes.{time_at_rate};
@@ -24,6 +24,7 @@ use crate::times::{
     Instant, behind_plus_minus, count_in, from_start, instant_in, sample_in, start_of,
     time_at_rate, time_or,
 };
+use crate::volts::{Threshold, volts_in};
 use pr_base::is_digit;
 use pr_wire::{Edge, Levels};
 use std::alloc::Global;
@@ -71,6 +72,8 @@ pub struct Moment {
     pub before: u64,
     /// How many samples come before, in a table without times.
     pub count: u64,
+    /// The levels of the last row; all lines are released before the first.
+    pub levels: Levels,
 }
 
 /// What follows the white space in front.
@@ -734,18 +737,47 @@ fn level_of(number: usize, is_inverted: bool, field: &[u8]) -> Result<bool, Capt
     }
 }
 
-/// The level in a wire's column.
+/// The level that a field spells, as it is, or in volts where there is a threshold, in a line with this level before.
+fn level_at(
+    number: usize,
+    separator: u8,
+    is_inverted: bool,
+    before: bool,
+    threshold: Option<Threshold>,
+    field: &[u8],
+) -> Result<bool, CaptureFault>
+    ensures { result ≡ level_at number separator is_inverted before threshold field.now }
+{
+    let Some(threshold) = threshold else {
+        return level_of(number, is_inverted, field);
+    };
+    match volts_in(separator, field) {
+        None => Err(CaptureFault::BadLevel(number)),
+        Some(volts) => Ok(threshold.level(is_inverted, before, volts)),
+    }
+}
+
+/// The level in a wire's column, which had this one before.
 fn level_or(
     number: usize,
+    separator: u8,
     probes: Probes,
     wire: Wire,
+    before: bool,
     field: Option<&[u8]>,
 ) -> Result<bool, CaptureFault>
-    ensures { result ≡ level_or number probes wire (option_copied field.entry) }
+    ensures { result ≡ level_or number separator probes wire before (option_copied field.entry) }
 {
     match field {
         None => Err(CaptureFault::NoLevel(number, wire)),
-        Some(field) => level_of(number, probes.inverts(wire), without_front(field)),
+        Some(field) => level_at(
+            number,
+            separator,
+            probes.inverts(wire),
+            before,
+            probes.threshold,
+            without_front(field),
+        ),
     }
 }
 
@@ -775,13 +807,23 @@ fn is_level(field: &[u8]) -> bool
     }
 }
 
+/// Whether a field is a level, or volts where there is a threshold.
+fn is_cell(separator: u8, threshold: Option<Threshold>, field: &[u8]) -> bool
+    ensures { result ≡ is_cell separator threshold field.now }
+{
+    match threshold {
+        None => is_level(field),
+        Some(_) => volts_in(separator, field).is_some(),
+    }
+}
+
 /// The same of the first field, if there is one.
-fn has_level(first: Option<&[u8]>) -> bool
-    ensures { result ≡ has_level (option_copied first.entry) }
+fn has_level(separator: u8, probes: Probes, first: Option<&[u8]>) -> bool
+    ensures { result ≡ has_level separator probes (option_copied first.entry) }
 {
     match first {
         None => false,
-        Some(field) => is_level(without_front(field)),
+        Some(field) => is_cell(separator, probes.threshold, without_front(field)),
     }
 }
 
@@ -806,22 +848,25 @@ fn behind_mark(text: &[u8]) -> &[u8]
 }
 
 /// Whether a field begins as a number does, and is no level.
-fn is_number(field: &[u8]) -> bool
-    ensures { result ≡ is_number field.now }
+fn is_number(separator: u8, threshold: Option<Threshold>, field: &[u8]) -> bool
+    ensures { result ≡ is_number separator threshold field.now }
 {
-    begins_digit(behind_mark(behind_plus_minus(field))) && !is_level(field)
+    begins_digit(behind_mark(behind_plus_minus(field))) && !is_cell(separator, threshold, field)
 }
 
 /// Whether one of these columns, of which the first has this place, has such a number, and is none of the three lines'.
-fn has_number(columns: Columns, place: usize, separator: u8, fields: Option<&[u8]>) -> bool
-    requires { place + length (fields_left separator (option_copied fields)) < 2 ^ 64 }
-    ensures { result ≡ has_number columns place (fields_left separator (option_copied fields.entry)) }
+fn has_number(layout: Layout, probes: Probes, place: usize, fields: Option<&[u8]>) -> bool
+    requires { place + length (fields_left layout.separator (option_copied fields)) < 2 ^ 64 }
+    ensures { result ≡ has_number layout probes place (fields_left layout.separator (option_copied fields.entry)) }
 {
+    let separator = layout.separator;
     let mut here = place;
     let mut left = fields;
     while let Some(line) = left {
         let (field, more) = split_field(separator, line);
-        if is_number(without_front(field)) && !is_line_at(columns, here) {
+        if is_number(separator, probes.threshold, without_front(field))
+            && !is_line_at(layout.columns, here)
+        {
             return true;
         }
         here += 1;
@@ -832,67 +877,76 @@ fn has_number(columns: Columns, place: usize, separator: u8, fields: Option<&[u8
 
 /// Whether a row has times or numbers that no name says: a first column that is none of the three lines' has no level
 /// in it, or at a rate a later one has a number.
-fn is_foreign(layout: Layout, line: &[u8]) -> bool
-    ensures { result ≡ is_foreign layout.columns (fields_of layout.separator false line.now) }
+fn is_foreign(layout: Layout, probes: Probes, line: &[u8]) -> bool
+    ensures { result ≡ is_foreign layout probes (fields_of layout.separator false line.now) }
 {
-    if layout.columns.has_other_first && !has_level(field_at(layout.separator, line, 0)) {
+    let separator = layout.separator;
+    if layout.columns.has_other_first && !has_level(separator, probes, field_at(separator, line, 0)) {
         return true;
     }
     if !layout.columns.are_rated {
         return false;
     }
-    let (_, later) = split_field(layout.separator, line);
-    has_number(layout.columns, 1, layout.separator, later)
+    let (_, later) = split_field(separator, line);
+    has_number(layout, probes, 1, later)
 }
 
-/// The sample of the three lines' columns, which has this time.
+/// The sample of the three lines' columns, which has this time, after these levels.
 fn sample_by(
     layout: Layout,
     probes: Probes,
+    before: Levels,
     number: usize,
     line: &[u8],
     time: u64,
 ) -> Result<Edge, CaptureFault>
-    ensures { result ≡ sample_by layout.columns probes number (fields_of layout.separator false line.now) time }
+    ensures { result ≡ sample_by layout probes before number (fields_of layout.separator false line.now) time }
 {
     let columns = layout.columns;
     let separator = layout.separator;
     let atn = level_or(
         number,
+        separator,
         probes,
         Wire::Atn,
+        before.atn,
         field_at(separator, line, columns.atn),
     )?;
     let clock = level_or(
         number,
+        separator,
         probes,
         Wire::Clock,
+        before.clock,
         field_at(separator, line, columns.clock),
     )?;
     let line = level_or(
         number,
+        separator,
         probes,
         Wire::Data,
+        before.line,
         field_at(separator, line, columns.line),
     )?;
     let levels = Levels { atn, clock, line };
     Ok(Edge { time, levels })
 }
 
-/// A row's sample, which has this time.
+/// A row's sample, which has this time, after these levels.
 fn sample_of(
     layout: Layout,
     probes: Probes,
+    before: Levels,
     number: usize,
     line: &[u8],
     time: u64,
 ) -> Result<Edge, CaptureFault>
-    ensures { result ≡ sample_of layout.columns probes number (fields_of layout.separator false line.now) time }
+    ensures { result ≡ sample_of layout probes before number (fields_of layout.separator false line.now) time }
 {
-    if is_foreign(layout, line) {
+    if is_foreign(layout, probes, line) {
         return Err(CaptureFault::NoTime(number));
     }
-    sample_by(layout, probes, number, line, time)
+    sample_by(layout, probes, before, number, line, time)
 }
 
 /// How many rows there were after `rows` more.
@@ -925,6 +979,11 @@ impl Moment {
             start: None,
             before: 0,
             count: 0,
+            levels: Levels {
+                atn: true,
+                clock: true,
+                line: true,
+            },
         }
     }
 
@@ -942,7 +1001,7 @@ impl Moment {
         Ok(Moment {
             start: Some(start),
             before,
-            count: self.count,
+            ..self
         })
     }
 
@@ -956,9 +1015,9 @@ impl Moment {
         };
         let last = time_or(number, self.before, Some(time))?;
         Ok(Moment {
-            start: self.start,
             before: last,
             count: self.count + 1,
+            ..self
         })
     }
 
@@ -978,6 +1037,7 @@ impl Moment {
             start: self.start,
             before: time_at_rate(rate, count - 1)?,
             count,
+            levels: self.levels,
         })
     }
 
@@ -1017,9 +1077,13 @@ fn row_of(
 ) -> Result<Row, CaptureFault>
     ensures { result ≡ row_of layout probes number moment (fields_of layout.separator false line.now) }
 {
-    let moment = moment.of_row(layout, number, line)?;
-    let sample = sample_of(layout, probes, number, line, moment.before)?;
-    Ok(Row { sample, moment })
+    let next = moment.of_row(layout, number, line)?;
+    let sample = sample_of(layout, probes, moment.levels, number, line, next.before)?;
+    let levels = sample.levels;
+    Ok(Row {
+        sample,
+        moment: Moment { levels, ..next },
+    })
 }
 
 /// Whether a text has 16 bits a letter.

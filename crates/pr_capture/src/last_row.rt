@@ -127,6 +127,7 @@ fn row_if(moment: Result<Moment, CaptureFault>, levels: Levels) -> Option<Row>
         Ok(moment) => {
             let time = moment.before;
             let sample = Edge { time, levels };
+            let moment = Moment { levels, ..moment };
             Some(Row { sample, moment })
         }
         Err(_) => None,
@@ -187,7 +188,7 @@ impl LastRow {
         number: usize,
         block: &[u8],
     ) -> Option<(usize, Row)>
-        ensures row { (probes : Probes) → KnowsLevels probes layout self.now →
+        ensures row { (probes : Probes) → KnowsLevels probes layout moment self.now →
             IfSome result (λ r. IsRepeat probes layout number moment (take r.0 block.now) r.1) }
         ensures some { IfSome result (λ r. 0 < r.0) }
         ensures within { IfSome result (λ r. r.0 ≤ length block.now) }
@@ -236,7 +237,7 @@ impl LastRow {
         number: usize,
         block: &[u8],
     ) -> Option<Copies>
-        ensures rows { (probes : Probes) → KnowsLevels probes layout self.now →
+        ensures rows { (probes : Probes) → KnowsLevels probes layout moment self.now →
             IfSome result (λ c. IsRun probes layout number moment (take c.len block.now) c.count c.row) }
         ensures some { IfSome result (λ c. 0 < c.count) }
         ensures count { IfSome result (λ c. c.count ≤ c.len) }
@@ -258,7 +259,10 @@ impl LastRow {
         Some(Copies {
             len: count * len,
             count,
-            row: Row { sample, moment },
+            row: Row {
+                sample,
+                moment: Moment { levels, ..moment },
+            },
         })
     }
 }

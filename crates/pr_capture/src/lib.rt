@@ -7,7 +7,7 @@
 //! - `csv` reads a table that comes in blocks, line by line. [`CsvReader`] keeps the line that has begun, and
 //!   the last row: `last_row` reads a row that goes on as that one does without looking at its fields.
 //!   `remarks` says what the name of the first column and remarks say of time, `times` what a field spells,
-//!   `numbers` what digits and words are.
+//!   `volts` what a cell has where levels are volts, `numbers` what digits and words are.
 //! - `vcd_reader` reads a dump that comes in blocks, word by word. [`VcdReader`] keeps the letters of the
 //!   word that has begun, `vcd_parser` the words of the section or the bits of the value that has begun,
 //!   `known` what was said so far: the timescale and the codes, then time and levels. `entries` says what
@@ -39,6 +39,7 @@ mod times;
 mod vcd;
 mod vcd_parser;
 mod vcd_reader;
+mod volts;
 
 pub use csv::CsvReader;
 pub use edge_detector::EdgeDetector;
@@ -50,3 +51,4 @@ pub use remarks::read_rate;
 pub use signals::{Probes, Signals};
 pub use vcd::{VcdWriter, push_vcd_head, vcd_adds_up, write_vcd};
 pub use vcd_reader::{VcdReader, vcd_is_read_back};
+pub use volts::{Threshold, Volts, read_volts};

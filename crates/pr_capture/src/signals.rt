@@ -6,8 +6,9 @@ ghost use Rattle.pr_capture.specs.Recording.{alike, behind_letter, behind_sign, 
 ghost use Rattle.pr_capture.specs.Words.{is_space};
 
 use crate::fault::{CaptureFault, Wire};
+use crate::volts::Threshold;
 
-/// Which probes invert, so that 0 is released.
+/// What probes show: which of them invert, so that 0 is released, and levels or volts.
 #[derive(Clone, Copy)]
 pub struct Probes {
     /// Whether ATN's does.
@@ -16,10 +17,12 @@ pub struct Probes {
     pub clock: bool,
     /// Whether DATA's does.
     pub line: bool,
+    /// By which volts in a table's cells a line is 1 or 0; None where cells are levels.
+    pub threshold: Option<Threshold>,
 }
 
 impl Probes {
-    /// Returns probes that all invert, or none of which does.
+    /// Returns probes that all invert, or none of which does, and that show levels.
     pub const fn alike(inverted: bool) -> Probes
         ensures { result ≡ alike inverted }
     {
@@ -27,6 +30,7 @@ impl Probes {
             atn: inverted,
             clock: inverted,
             line: inverted,
+            threshold: None,
         }
     }
 
@@ -58,7 +62,7 @@ pub struct Signals<'a> {
     pub clock: &'a [u8],
     /// DATA's name, likewise.
     pub line: &'a [u8],
-    /// Which probes invert.
+    /// What the probes show.
     pub probes: Probes,
 }
 

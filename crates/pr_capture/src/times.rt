@@ -210,7 +210,7 @@ fn behind_decimals_by(separator: u8, text: &[u8]) -> &[u8]
 }
 
 /// The time that a number without its sign spells.
-fn unsigned_in(separator: u8, unit: u8, is_negative: bool, text: &[u8]) -> Option<Instant>
+pub fn unsigned_in(separator: u8, unit: u8, is_negative: bool, text: &[u8]) -> Option<Instant>
     ensures { result ≡ unsigned_in separator unit is_negative text.now }
 {
     let behind = behind_digits(text);

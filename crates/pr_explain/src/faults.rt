@@ -43,12 +43,16 @@ const UNITS: &str =
 
 /// What a message says of a row whose cells have decimals in place of levels.
 const VOLTS: &str =
-    "expected level 0, 1, L or H: these look like volts; export digital channels, let the analyzer \
-     compare with a threshold, or give one with --threshold";
+    "expected level 0, 1, L or H: these look like volts, which --threshold compares: with --threshold 1.5 a line \
+     is 1 from 1.5 volts on";
 
 /// What a message says of a table whose lines have byte 13 alone at their ends.
 const RETURNS: &str =
     "CR alone ends no line here, so this is one line: save the table with LF or CR LF line ends";
+
+/// What a cell has where volts are compared with a threshold.
+const NO_VOLTS: &str =
+    "expected volts, such as 3.3, -0.05 or 4e-1 (3,3 where ; or a tab separates); cells with levels need no --threshold";
 
 /// What a message says of text of 16 bits a letter.
 const WIDE: &str = "this is UTF-16 text: save the recording as UTF-8 text";
@@ -183,6 +187,9 @@ fn push_table_fault(
             }
             None => push_times_rule(text, bytes, number, line, separator.unwrap_or(b','), input),
         },
+        CaptureFault::BadLevel(_) if input.signals.probes.threshold.is_some() => {
+            write!(text, "  {NO_VOLTS}\n")
+        }
         CaptureFault::BadLevel(_) if may_be_volts(bytes, line, number, input.signals) => {
             write!(text, "  {VOLTS}\n")
         }

@@ -26,7 +26,7 @@ use Rattle.pr_options.specs.Rows as option
 use Rattle.pr_options.specs.CommandLine.{print1525}
 use Rattle.pr_options.specs.DelayLists.{delays_of}
 use Rattle.pr_options.specs.Given.{characters_in, file_in, is_given, value_in}
-use Rattle.pr_options.specs.Options.{before_of, bounds_of, decode_output_of, device_of, form_of, format_of, from_time_of, inverted_of, mode_of, pages_output_of, present_of, rate_of, reading_source_of, report_of, set_of, sheet_of, source_of, trace_format_of}
+use Rattle.pr_options.specs.Options.{before_of, bounds_of, decode_output_of, device_of, form_of, format_of, from_time_of, inverted_of, mode_of, pages_output_of, present_of, rate_of, reading_source_of, report_of, set_of, sheet_of, source_of, threshold_of, trace_format_of}
 use Rattle.pr_options.specs.SignalNames.{Names, names_of, names_of_signals}
 use Rattle.pr_options.specs.Values.{bad}
 use Rattle.pr_options.specs.declared.command_line.Job.{Job}
@@ -136,9 +136,9 @@ wants_recording rows = is_given opt.Invert rows || (is_given opt.Names rows || i
 
 -- an option is given that only a table can have
 abbrev pub wants_table : List Row → Bool
-wants_table rows = is_given opt.Rate rows
+wants_table rows = is_given opt.Rate rows || is_given opt.Threshold rows
 
--- the options that are given fit the source: with a trace text, none of a recording, and --rate only with a table
+-- the options that are given fit the source: with a trace text, none of a recording, and those of a table only with one
 abbrev pub fitting : Source → List Row → Result (Unit {0}) JobFault
 fitting source.Text rows = if wants_recording rows then Err fault.NoRecording
     else (if wants_table rows then Err fault.NoTable else Ok tt)
@@ -152,11 +152,12 @@ wanted_input source rows =
     read opt.Invert inverted_of rows >>= λ probes.
     read opt.FromTime from_time_of rows >>= λ start.
     read opt.Rate rate_of rows >>= λ rate.
+    read opt.Threshold threshold_of rows >>= λ threshold.
     fitting source rows >>= λ fits.
     Ok (record {
       source = source;
       names = names;
-      probes = probes;
+      probes = record probes { threshold = threshold };
       start = start;
       rate = rate;
     })

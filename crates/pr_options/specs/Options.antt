@@ -6,7 +6,10 @@ use Rattle.clap.specs.Words.{Text}
 use Rattle.pr_base.specs.Digits.{is_digit, number_of}
 use Rattle.pr_capture.specs.Recording.{alike}
 use Rattle.pr_capture.specs.TableTimes.{rate_given}
+use Rattle.pr_capture.specs.Volts.{is_at_least, volts_in}
 use Rattle.pr_capture.specs.declared.signals.Probes.{Probes}
+use Rattle.pr_capture.specs.declared.volts.Threshold.{Threshold}
+use Rattle.pr_capture.specs.declared.volts.Volts.{Volts}
 use Rattle.pr_serial.specs.declared.Present.{Present}
 use Rattle.pr_basic.specs.declared.session.StatusMode.{StatusMode}
 use Rattle.pr_basic.specs.declared.session.StatusMode.TheVariants.{Each, Kept}
@@ -82,6 +85,23 @@ bounds_of = meaning_of ((codes "profile", Profile) ∷ (codes "guide", Guide) �
 -- the samples in a second, as in 4M, or none
 abbrev pub rate_of : Text → Option (Option ℕ)
 rate_of text = if bytes_eq text (codes "none") then Some None else option_map (λ rate. Some rate) (rate_given text)
+
+-- two voltages, if the second is at least the first
+abbrev pub threshold_between : (low high : Option Volts) → Option Threshold
+threshold_between (Some low) (Some high) =
+    if is_at_least high low then Some (record { low = low; high = high }) else None
+threshold_between _ _ = None
+
+-- the volts from which on a line is 1, as in 1.5, and those below which it is 0, if they are others, as in 0.8,2
+abbrev pub threshold_in : Text → Option Threshold
+threshold_in text =
+    if nat_lt (length (before_first (λ b. b == 44) text)) (length text)
+    then threshold_between (volts_in 44 (before_first (λ b. b == 44) text)) (volts_in 44 (after_first (λ b. b == 44) text))
+    else threshold_between (volts_in 44 text) (volts_in 44 text)
+
+-- the same, or none
+abbrev pub threshold_of : Text → Option (Option Threshold)
+threshold_of text = if bytes_eq text (codes "none") then Some None else option_map (λ threshold. Some threshold) (threshold_in text)
 
 -- a line by its name, whose probe inverts too
 abbrev pub with_line : Probes → Text → Option Probes

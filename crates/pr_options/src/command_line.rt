@@ -16,7 +16,7 @@ use crate::delays::{DelayFault, read_delays};
 use crate::option_values::{
     read_before, read_decode_output, read_form, read_format, read_from_time, read_given_rate,
     read_inverted, read_pages_output, read_present, read_reading_source, read_report, read_set,
-    read_source, read_status, read_trace_format,
+    read_source, read_status, read_threshold, read_trace_format,
 };
 use crate::options::{INPUT, OUTPUT, Opt};
 use crate::outputs::{CheckOutput, DecodeOutput, PagesOutput};
@@ -28,7 +28,7 @@ use clap::ArgMatches;
 use clap::error::ErrorKind;
 use pr_basic::StatusMode;
 use pr_bus::Delays;
-use pr_capture::{Signals, Source, TraceFormat, TraceInput};
+use pr_capture::{Probes, Signals, Source, TraceFormat, TraceInput};
 use pr_listing::ListingForm;
 use pr_render::Format;
 use pr_serial::Present;
@@ -102,8 +102,8 @@ pub enum JobFault {
     /// `--names`, `--invert` or `--from-time` is given where the trace is a text.
     #[error("--names, --invert and --from-time go with --from vcd or csv")]
     NoRecording,
-    /// `--rate` is given where the trace is a text or a dump.
-    #[error("--rate goes with --from csv")]
+    /// `--rate` or `--threshold` is given where the trace is a text or a dump.
+    #[error("--rate and --threshold go with --from csv")]
     NoTable,
     /// `--device` is given where no picture and no bytes are written, or `--sheet` where no picture of a sheet is.
     #[error("--device goes with --as svg, png, pdf or bytes, --sheet with svg or png")]
@@ -198,7 +198,7 @@ impl From<DelayFault> for JobFault {
 /// only for words that clap takes, and report the first bad value: of [`JobFault::BadPresent`],
 /// [`JobFault::BadDelays`], [`JobFault::BadStatus`] and then of [`JobFault::Bad`], in the order of [`Opt`]. What does
 /// not go together comes after the values that it is judged by: [`JobFault::NoRecording`] and [`JobFault::NoTable`]
-/// after [`Opt::Rate`], [`JobFault::NoPart`] and [`JobFault::NoPicture`] after [`Opt::Sheet`], and
+/// after [`Opt::Threshold`], [`JobFault::NoPart`] and [`JobFault::NoPicture`] after [`Opt::Sheet`], and
 /// [`JobFault::NoReadings`] at last.
 pub fn read_task<'a>(alloc: Global, words: &'a [&'a str]) -> Result<Task<'a>, JobFault>
     ensures ok { IfOk result (λ task. asked (map (λ s. s.now) words.entry.now) ≡ Some (Ok (task_view task))) }
@@ -357,8 +357,15 @@ fn input_of<'a>(source: Source, options: &ArgMatches<'a>) -> Result<TraceInput<'
     let probes = read_inverted(value_in(options, Opt::Invert)).ok_or(Opt::Invert)?;
     let start = read_from_time(value_in(options, Opt::FromTime)).ok_or(Opt::FromTime)?;
     let rate = read_given_rate(value_in(options, Opt::Rate)).ok_or(Opt::Rate)?;
+    let threshold = read_threshold(value_in(options, Opt::Threshold)).ok_or(Opt::Threshold)?;
     fitting(source, options)?;
-    let signals = Signals { probes, ..named };
+    let signals = Signals {
+        probes: Probes {
+            threshold,
+            ..probes
+        },
+        ..named
+    };
     Ok(TraceInput {
         source,
         signals,

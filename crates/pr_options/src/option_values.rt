@@ -1,13 +1,13 @@
 //! The values of the program's options.
 
 ghost use Rattle.std.specs.Prelude.{◌≡◌, ◌∷◌, [], option_map};
-ghost use Rattle.pr_options.specs.Options.{before_of, bounds_of, decode_output_of, device_of, form_of, format_of, from_time_of, inverted_of, mode_of, moment_of, pages_output_of, present_of, rate_of, reading_source_of, report_of, scaled, set_of, sheet_numbered, sheet_of, source_of, start_of, trace_format_of, with_line};
+ghost use Rattle.pr_options.specs.Options.{before_of, bounds_of, decode_output_of, device_of, form_of, format_of, from_time_of, inverted_of, mode_of, moment_of, pages_output_of, present_of, rate_of, reading_source_of, report_of, scaled, set_of, sheet_numbered, sheet_of, source_of, start_of, threshold_between, threshold_in, threshold_of, trace_format_of, with_line};
 ghost use Rattle.pr_options.specs.SignalNames.{are_names, differ, is_clock_twice, is_name, names_of, names_of_signals, three_names};
 
 use crate::outputs::{CheckOutput, DecodeOutput, PagesOutput};
 use crate::parts::{all_digits, cut};
 use pr_basic::StatusMode;
-use pr_capture::{Probes, Signals, Source, TraceFormat, read_rate};
+use pr_capture::{Probes, Signals, Source, Threshold, TraceFormat, Volts, read_rate, read_volts};
 use pr_listing::ListingForm;
 use pr_render::{Device, Format, Part};
 use pr_report::{Bounds, Detail, Report};
@@ -135,6 +135,43 @@ pub fn read_given_rate(text: &str) -> Option<Option<u64>>
         _ => {
             let rate = read_rate(text)?;
             Some(Some(rate))
+        }
+    }
+}
+
+/// A threshold of these volts, of which the second are at least the first.
+fn threshold_between(low: Option<Volts>, high: Option<Volts>) -> Option<Threshold>
+    ensures { result ≡ threshold_between low high }
+{
+    match (low, high) {
+        (Some(low), Some(high)) if high.is_at_least(low) => Some(Threshold { low, high }),
+        _ => None,
+    }
+}
+
+/// The volts from which on a line is 1, as [`read_volts`] reads them, or those below which it is 0, a comma and those from
+/// which on it is 1.
+fn threshold_in(text: &str) -> Option<Threshold>
+    ensures { result ≡ threshold_in text.now }
+{
+    let (low, high) = cut(text, ',');
+    if low.len() < text.len() {
+        threshold_between(read_volts(low), read_volts(high))
+    } else {
+        threshold_between(read_volts(text), read_volts(text))
+    }
+}
+
+/// By which volts a line is 1 or 0: one voltage, or a low one and a high one that is no lower, separated by a comma; or
+/// `none` (profile). None for any other text.
+pub fn read_threshold(text: &str) -> Option<Option<Threshold>>
+    ensures { result ≡ threshold_of text.now }
+{
+    match text {
+        "none" => Some(None),
+        _ => {
+            let threshold = threshold_in(text)?;
+            Some(Some(threshold))
         }
     }
 }

@@ -79,6 +79,7 @@ impl Subcommand {
                 Opt::Invert,
                 Opt::FromTime,
                 Opt::Rate,
+                Opt::Threshold,
                 Opt::ReportAs,
                 Opt::Explain,
                 Opt::Quiet,
@@ -89,6 +90,7 @@ impl Subcommand {
                 Opt::Invert,
                 Opt::FromTime,
                 Opt::Rate,
+                Opt::Threshold,
                 Opt::ReadingAs,
                 Opt::Explain,
                 Opt::Quiet,
@@ -137,6 +139,8 @@ pub enum Opt {
     FromTime,
     /// The samples in a second of a recording without times.
     Rate,
+    /// By which volts a line is 1 or 0 in a table of volts.
+    Threshold,
     /// What `pages` writes: its `--as`.
     PageAs,
     /// The format of the page of a printer's bytes: `--as` of `raw`.
@@ -432,6 +436,13 @@ const RATE_HELP: &str = "The samples in a second of a table that has no\n\
 
 const RATE_VALUES: &str = "samples in a second, as in 4M, 500k or 1000000, or none";
 
+const THRESHOLD_HELP: &str = "The volts from which on a line is 1 in a table of\n\
+     volts; with LOW,HIGH it is 0 below LOW, 1 from\n\
+     HIGH on, and stays as it was between; or none\n\
+     (cells are levels)";
+
+const THRESHOLD_VALUES: &str = "volts, as in 1.5 or 0.8,2, or none";
+
 const PAGE_AS_HELP: &str = "list (every mark with its place), text (lines for\n\
      a terminal), svg (a picture), png (a sheet as a\n\
      bitmap), pdf (sheets to print) or bytes (what a\n\
@@ -582,6 +593,13 @@ impl Opt {
             },
             Opt::FromTime => valued("from-time", "TIME", "0", FROM_TIME_VALUES, FROM_TIME_HELP),
             Opt::Rate => valued("rate", "RATE", "none", RATE_VALUES, RATE_HELP),
+            Opt::Threshold => valued(
+                "threshold",
+                "VOLTS",
+                "none",
+                THRESHOLD_VALUES,
+                THRESHOLD_HELP,
+            ),
             Opt::PageAs => with_endings(
                 valued("as", "FORMAT", "list", PAGE_AS_VALUES, PAGE_AS_HELP),
                 OUTPUT_NAME,

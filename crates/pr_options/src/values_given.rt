@@ -203,8 +203,8 @@ fn wants_readings(options: &ArgMatches<'_>) -> bool
     is_given(options, Opt::Intervals) || is_given(options, Opt::Bounds)
 }
 
-/// Refuses what is given and does not go with the source: with a text what goes with a recording alone, and a rate
-/// unless it is a table's.
+/// Refuses what is given and does not go with the source: with a text what goes with a recording alone, and what
+/// goes with a table alone unless it is one.
 pub fn fitting(source: Source, options: &ArgMatches<'_>) -> Result<(), JobFault>
     ensures value { result ≡ fitting source (rows_of (found_of options.now)) }
     ensures own { IfErr result IsOwn }
@@ -220,7 +220,7 @@ pub fn fitting(source: Source, options: &ArgMatches<'_>) -> Result<(), JobFault>
 fn wants_table(options: &ArgMatches<'_>) -> bool
     ensures { result ≡ wants_table (rows_of (found_of options.now)) }
 {
-    is_given(options, Opt::Rate)
+    is_given(options, Opt::Rate) || is_given(options, Opt::Threshold)
 }
 
 /// Whether anything is given that goes with a recording alone.
