@@ -4,6 +4,8 @@ pub mod VcdWriting
 pub mod Samples
 pub mod Gathering
 pub mod Gathers
+pub mod Pulses
+pub mod Sifting
 pub mod Recording
 pub mod Numbers
 pub mod TableTimes

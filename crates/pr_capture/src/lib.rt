@@ -13,7 +13,8 @@
 //!   `known` what was said so far: the timescale and the codes, then time and levels. `entries` says what
 //!   a word is, `header` what a section says, `paths` and `bits` which signal a name means, `changes` what a
 //!   time stamp and a level say.
-//! - `edge_detector` makes edges of samples, one by one and without memory.
+//! - `edge_detector` makes edges of samples, one by one and without memory. `pulse_filter` leaves brief pulses out of
+//!   edges; `held` has the edges that it holds back.
 //!
 //! The contracts of the readers speak of whatever text may still come (`contents_left`), so a loop over
 //! blocks needs one relation. What is written is read back: [`vcd_is_read_back`], [`csv_is_read_back`].
@@ -28,11 +29,13 @@ mod fault;
 mod format;
 mod found;
 mod header;
+mod held;
 mod known;
 mod last_row;
 mod laws;
 mod numbers;
 mod paths;
+mod pulse_filter;
 mod remarks;
 mod signals;
 mod times;
@@ -47,6 +50,7 @@ pub use fault::{CaptureFault, Wire};
 pub use format::{Source, TraceFormat, TraceInput};
 pub use found::found_source;
 pub use laws::{csv_is_read_back, given_edges_come_first, given_samples_come_first};
+pub use pulse_filter::{PulseFilter, steady_edges_come_first};
 pub use remarks::read_rate;
 pub use signals::{Probes, Signals};
 pub use vcd::{VcdWriter, push_vcd_head, vcd_adds_up, write_vcd};
