@@ -32,12 +32,15 @@ with_lines (word ∷ words) =
     if bytes_eq word (codes "--") then word ∷ words else word_before word words ∷ with_lines words
 
 -- `help` and `help COMMAND` ask for what `--help` and `COMMAND --help` do
+abbrev pub helped : List Text → List Text
+helped (program ∷ first ∷ []) = if is_help first then program ∷ codes "--help" ∷ [] else program ∷ first ∷ []
+helped (program ∷ first ∷ command ∷ []) =
+    if is_help first then program ∷ command ∷ codes "--help" ∷ [] else program ∷ first ∷ command ∷ []
+helped words = words
+
+-- the words as they are read
 abbrev pub meant : List Text → List Text
-meant (program ∷ first ∷ []) =
-    if is_help first then program ∷ codes "--help" ∷ [] else with_lines (program ∷ first ∷ [])
-meant (program ∷ first ∷ command ∷ []) =
-    if is_help first then program ∷ command ∷ codes "--help" ∷ [] else with_lines (program ∷ first ∷ command ∷ [])
-meant words = with_lines words
+meant words = with_lines (helped words)
 
 -- a file's name after a sign (61), or nothing where there is none, and a byte 0
 abbrev pub name_part : Option Text → List ℕ

@@ -1,7 +1,7 @@
 //! What the words of a command line mean before clap reads them.
 
 ghost use Rattle.std.specs.Prelude.{◌≡◌, map, IfOk};
-ghost use Rattle.pr_cli.specs.Words.{begins_with_lines, is_help, meant, with_lines, word_before};
+ghost use Rattle.pr_cli.specs.Words.{begins_with_lines, helped, is_help, meant, with_lines, word_before};
 
 use pr_options::read_inverted;
 use std::alloc::{AllocError, Global};
@@ -11,13 +11,22 @@ use std::alloc::{AllocError, Global};
 pub fn meant<'a>(alloc: Global, words: &[&'a str]) -> Result<Vec<&'a str>, AllocError>
     ensures { IfOk result (λ read. map (λ s. s.now) read.items ≡ meant (map (λ s. s.now) words.entry.now)) }
 {
+    let helped = helped(alloc, words)?;
+    let read = with_lines(alloc, helped.as_slice())?;
+    Ok(read)
+}
+
+/// The words, with those that ask for help as clap has them.
+fn helped<'a>(alloc: Global, words: &[&'a str]) -> Result<Vec<&'a str>, AllocError>
+    ensures { IfOk result (λ read. map (λ s. s.now) read.items ≡ helped (map (λ s. s.now) words.entry.now)) }
+{
     let mut read = Vec::new(alloc);
     match words {
         [program, first] if is_help(*first) => read.extend_from_slice(&[*program, "--help"])?,
         [program, first, command] if is_help(*first) => {
             read.extend_from_slice(&[*program, *command, "--help"])?;
         }
-        _ => return with_lines(alloc, words),
+        _ => read.extend_from_slice(words)?,
     }
     Ok(read)
 }

@@ -53,7 +53,7 @@ fn lines_option<'a>(alloc: Global, row: OptionRow) -> Arg<'a>
     ensures local { result.global ≡ false }
 {
     value_option(alloc, row)
-        .num_args(0..=1)
+        .num_args(..=1)
         .default_missing_value(ALL_LINES)
 }
 

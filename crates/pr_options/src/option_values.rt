@@ -1,6 +1,7 @@
 //! The values of the program's options.
 
-ghost use Rattle.std.specs.Prelude.{◌≡◌, ◌∷◌, [], option_map};
+ghost use Rattle.std.specs.Prelude.{◌≡◌, ◌∷◌, [], false, option_map, IfSome};
+ghost use Rattle.pr_capture.specs.Recording.{alike};
 ghost use Rattle.pr_options.specs.Options.{before_of, bounds_of, decode_output_of, device_of, form_of, format_of, from_time_of, inverted_of, mode_of, moment_of, pages_output_of, present_of, rate_of, reading_source_of, report_of, scaled, set_of, sheet_numbered, sheet_of, source_of, start_of, threshold_between, threshold_in, threshold_of, trace_format_of, with_line};
 ghost use Rattle.pr_options.specs.SignalNames.{are_names, differ, is_clock_twice, is_name, names_of, names_of_signals, three_names};
 
@@ -297,7 +298,8 @@ pub fn read_report(text: &str) -> Option<CheckOutput>
 /// by commas, with probes that do not invert. White space around a name does not count; no name is empty or begins with
 /// a quotation mark, and no two are the same or CLOCK and CLK, capitals or not (profile). None for any other text.
 pub fn read_signals(text: &str) -> Option<Signals<'_>>
-    ensures { option_map names_of_signals result ≡ names_of text.now }
+    ensures names { option_map names_of_signals result ≡ names_of text.now }
+    ensures straight { IfSome result (λ s. s.probes ≡ alike false) }
 {
     let (atn, others) = cut(text, ',');
     let (clock, line) = cut(others, ',');
@@ -309,7 +311,8 @@ pub fn read_signals(text: &str) -> Option<Signals<'_>>
 
 /// The signals of these names, if they are names of three signals.
 fn signals_named<'a>(atn: &'a str, clock: &'a str, line: &'a str) -> Option<Signals<'a>>
-    ensures { option_map names_of_signals result ≡ three_names (atn.now ∷ clock.now ∷ line.now ∷ []) }
+    ensures names { option_map names_of_signals result ≡ three_names (atn.now ∷ clock.now ∷ line.now ∷ []) }
+    ensures straight { IfSome result (λ s. s.probes ≡ alike false) }
 {
     if !are_names(atn, clock, line) {
         return None;
