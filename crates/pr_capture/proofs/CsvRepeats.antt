@@ -223,9 +223,9 @@ levels-again y probes before n m t u fields e h =
 
 sample-again : (y : Layout) (probes : Probes) (before : Levels) (n m t u : ℕ) (fields : List (List ℕ)) (e : Edge) → sample_of y probes before n fields t ≡ Ok e
     → sample_of y probes e.levels m fields u ≡ Ok (record { time = u; levels = e.levels })
-sample-again y probes before n m t u fields e h = by (is_foreign y probes fields) refl
+sample-again y probes before n m t u fields e h = by (is_foreign y.columns fields) refl
   where
-    by : (b : Bool) → is_foreign y probes fields ≡ b → sample_of y probes e.levels m fields u ≡ Ok (record { time = u; levels = e.levels })
+    by : (b : Bool) → is_foreign y.columns fields ≡ b → sample_of y probes e.levels m fields u ≡ Ok (record { time = u; levels = e.levels })
     by true k = absurd (let o : Err (NoTime n) ≡ Ok e = rw k at h in cc)
     by false k =
         let own : sample_by y probes before n fields t ≡ Ok e = rw k at h in
@@ -332,7 +332,7 @@ sample-behind y probes before n t f g fs h = by y.columns.has_other_first (y.col
         ap (λ v. made v (field_at y.columns.clock (f ∷ fs)) (field_at y.columns.line (f ∷ fs))) (column-behind y.columns.atn f g fs hp)
         ∙ (ap (λ v. made (field_at y.columns.atn (g ∷ fs)) v (field_at y.columns.line (f ∷ fs))) (column-behind y.columns.clock f g fs hq)
         ∙ ap (λ v. made (field_at y.columns.atn (g ∷ fs)) (field_at y.columns.clock (g ∷ fs)) v) (column-behind y.columns.line f g fs hr)) in
-        let later : Bool = y.columns.are_rated && has_number y probes 1 fs in
+        let later : Bool = y.columns.are_rated && has_number y.columns 1 fs in
         rw ho (ap (λ v. if later then Err (NoTime n) else v) same)
     by true p q r ho hp hq hr = absurd (let no : false ≡ true = rw ho at h in cc)
     by false true q r ho hp hq hr = absurd (let no : false ≡ true = rw (ho, hp) at h in cc)

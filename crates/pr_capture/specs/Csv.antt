@@ -317,15 +317,10 @@ abbrev pub is_level : List ℕ → Bool
 is_level [] = false
 is_level (b ∷ bs) = is_level_letter b && list_all is_framing (behind_point bs)
 
--- or one in volts, where there is a threshold
-abbrev pub is_cell : (separator : ℕ) → Option Threshold → List ℕ → Bool
-is_cell sep None f = is_level f
-is_cell sep (Some t) f = is_some (volts_in sep f)
-
 -- the first field is one
-abbrev pub has_level : (separator : ℕ) → Probes → (first : Option (List ℕ)) → Bool
-has_level sep probes None = false
-has_level sep probes (Some f) = is_cell sep probes.threshold (without_front f)
+abbrev pub has_level : (first : Option (List ℕ)) → Bool
+has_level None = false
+has_level (Some f) = is_level (without_front f)
 
 -- a field begins as a number does: with a digit, after a sign or not, and after a point, a comma or neither
 abbrev pub begins_digit : List ℕ → Bool
@@ -339,21 +334,18 @@ behind_mark (b ∷ bs) = if b == 46 || b == 44 then bs else b ∷ bs
 abbrev pub begins_number : List ℕ → Bool
 begins_number l = begins_digit (behind_mark (behind_plus_minus l))
 
--- and is no level: 2, 0.001, -5 V, 12:30:45; where volts are compared with a threshold, no volts: 12:30:45
-abbrev pub is_number : (separator : ℕ) → Option Threshold → List ℕ → Bool
-is_number sep t l = begins_number l && not (is_cell sep t l)
+-- and is no level: 2, 0.001, -5 V, 12:30:45
+abbrev pub is_number : List ℕ → Bool
+is_number l = begins_number l && not (is_level l)
 
 -- one of these columns, of which the first has this place, has such a number, and is none of the three
-abbrev pub has_number : Layout → Probes → (place : ℕ) → (fields : List (List ℕ)) → Bool
-has_number y probes place [] = false
-has_number y probes place (f ∷ fs) =
-    (is_number y.separator probes.threshold (without_front f) && not (is_line_at y.columns place)) || has_number y probes (place + 1) fs
+abbrev pub has_number : Columns → (place : ℕ) → (fields : List (List ℕ)) → Bool
+has_number c place [] = false
+has_number c place (f ∷ fs) = (is_number (without_front f) && not (is_line_at c place)) || has_number c (place + 1) fs
 
 -- a row has times or numbers that no name says: a first column that is none of the three has no level, or at a rate a later one has a number
-abbrev pub is_foreign : Layout → Probes → (fields : List (List ℕ)) → Bool
-is_foreign y probes fields =
-    (y.columns.has_other_first && not (has_level y.separator probes (field_at 0 fields)))
-    || (y.columns.are_rated && has_number y probes 1 (drop 1 fields))
+abbrev pub is_foreign : Columns → (fields : List (List ℕ)) → Bool
+is_foreign c fields = (c.has_other_first && not (has_level (field_at 0 fields))) || (c.are_rated && has_number c 1 (drop 1 fields))
 
 -- the sample of the three columns, with its time, after these levels
 abbrev pub sample_by : Layout → Probes → (before : Levels) → (number : ℕ) → (fields : List (List ℕ)) → (time : ℕ)
@@ -368,7 +360,7 @@ sample_by y probes before number fields t =
 abbrev pub sample_of : Layout → Probes → (before : Levels) → (number : ℕ) → (fields : List (List ℕ)) → (time : ℕ)
     → Result Edge CaptureFault
 sample_of y probes before number fields t =
-    if is_foreign y probes fields then Err (NoTime number) else sample_by y probes before number fields t
+    if is_foreign y.columns fields then Err (NoTime number) else sample_by y probes before number fields t
 
 -- the moment of the first row: no start is known, no time was given, no sample comes before it, and all lines are released
 abbrev pub first_moment : Moment

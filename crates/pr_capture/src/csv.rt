@@ -6,7 +6,7 @@
 
 ghost use Rattle.std.specs.Prelude.{◌≡◌, ◌+◌, ◌^◌, ◌<◌, ◌≤◌, ◌∷◌, [], false, true, None, Err, IfErr, IfOk, Ok, drop, length, option_copied, take, IfSome, Some};
 ghost use Rattle.std.specs.List.{list_all, prefix_len};
-ghost use Rattle.pr_capture.specs.Csv.{are_logic, begins_digit, behind_colon, behind_mark, behind_point, cell_level, channels_in, clock_name, column_in, columns_by, columns_called, columns_or, column_of, columns_in, field_at, fields_of, first_moment, has_level, has_number, has_numeral, has_return, has_times, instant_of_number, instant_of_row, is_archive, is_cell, is_foreign, is_in_front, is_inner, is_level, is_line_at, is_level_letter, is_number, is_other, is_separator, is_silent, is_twice, is_wide, last_of, layout_beside, layout_by, layout_last, layout_of, level_at, level_of, level_or, moment_at, moment_next, moment_of, noted, opened, place_meant, rate_beside, rated, row_of, sample_by, sample_of, separator_behind, separator_of, separator_or, separator_said, with_channels, with_separator, without_space, without_zeros};
+ghost use Rattle.pr_capture.specs.Csv.{are_logic, begins_digit, behind_colon, behind_mark, behind_point, cell_level, channels_in, clock_name, column_in, columns_by, columns_called, columns_or, column_of, columns_in, field_at, fields_of, first_moment, has_level, has_number, has_numeral, has_return, has_times, instant_of_number, instant_of_row, is_archive, is_foreign, is_in_front, is_inner, is_level, is_line_at, is_level_letter, is_number, is_other, is_separator, is_silent, is_twice, is_wide, last_of, layout_beside, layout_by, layout_last, layout_of, level_at, level_of, level_or, moment_at, moment_next, moment_of, noted, opened, place_meant, rate_beside, rated, row_of, sample_by, sample_of, separator_behind, separator_of, separator_or, separator_said, with_channels, with_separator, without_space, without_zeros};
 ghost use Rattle.pr_capture.specs.CsvReads.{EndsText, FaultsIn, ReadsMore, RefusesTable, SkipsRows, TakesRepeats};
 ghost use Rattle.pr_capture.specs.CsvSteps.{field_len, fields_left, line_number, moment_after, with_len, AreTimed, AnswersEnd, HasNoRows, HasReadTable, HoldsMore, IsRowOf, NamesAreRefused, NamesLeadTo, ReadsLine};
 ghost use Rattle.pr_capture.specs.TableTimes.{time_at_rate};
@@ -807,23 +807,13 @@ fn is_level(field: &[u8]) -> bool
     }
 }
 
-/// Whether a field is a level, or volts where there is a threshold.
-fn is_cell(separator: u8, threshold: Option<Threshold>, field: &[u8]) -> bool
-    ensures { result ≡ is_cell separator threshold field.now }
-{
-    match threshold {
-        None => is_level(field),
-        Some(_) => volts_in(separator, field).is_some(),
-    }
-}
-
-/// The same of the first field, if there is one.
-fn has_level(separator: u8, probes: Probes, first: Option<&[u8]>) -> bool
-    ensures { result ≡ has_level separator probes (option_copied first.entry) }
+/// Whether the first field is one.
+fn has_level(first: Option<&[u8]>) -> bool
+    ensures { result ≡ has_level (option_copied first.entry) }
 {
     match first {
         None => false,
-        Some(field) => is_cell(separator, probes.threshold, without_front(field)),
+        Some(field) => is_level(without_front(field)),
     }
 }
 
@@ -848,25 +838,22 @@ fn behind_mark(text: &[u8]) -> &[u8]
 }
 
 /// Whether a field begins as a number does, and is no level.
-fn is_number(separator: u8, threshold: Option<Threshold>, field: &[u8]) -> bool
-    ensures { result ≡ is_number separator threshold field.now }
+fn is_number(field: &[u8]) -> bool
+    ensures { result ≡ is_number field.now }
 {
-    begins_digit(behind_mark(behind_plus_minus(field))) && !is_cell(separator, threshold, field)
+    begins_digit(behind_mark(behind_plus_minus(field))) && !is_level(field)
 }
 
 /// Whether one of these columns, of which the first has this place, has such a number, and is none of the three lines'.
-fn has_number(layout: Layout, probes: Probes, place: usize, fields: Option<&[u8]>) -> bool
-    requires { place + length (fields_left layout.separator (option_copied fields)) < 2 ^ 64 }
-    ensures { result ≡ has_number layout probes place (fields_left layout.separator (option_copied fields.entry)) }
+fn has_number(columns: Columns, place: usize, separator: u8, fields: Option<&[u8]>) -> bool
+    requires { place + length (fields_left separator (option_copied fields)) < 2 ^ 64 }
+    ensures { result ≡ has_number columns place (fields_left separator (option_copied fields.entry)) }
 {
-    let separator = layout.separator;
     let mut here = place;
     let mut left = fields;
     while let Some(line) = left {
         let (field, more) = split_field(separator, line);
-        if is_number(separator, probes.threshold, without_front(field))
-            && !is_line_at(layout.columns, here)
-        {
+        if is_number(without_front(field)) && !is_line_at(columns, here) {
             return true;
         }
         here += 1;
@@ -877,18 +864,17 @@ fn has_number(layout: Layout, probes: Probes, place: usize, fields: Option<&[u8]
 
 /// Whether a row has times or numbers that no name says: a first column that is none of the three lines' has no level
 /// in it, or at a rate a later one has a number.
-fn is_foreign(layout: Layout, probes: Probes, line: &[u8]) -> bool
-    ensures { result ≡ is_foreign layout probes (fields_of layout.separator false line.now) }
+fn is_foreign(layout: Layout, line: &[u8]) -> bool
+    ensures { result ≡ is_foreign layout.columns (fields_of layout.separator false line.now) }
 {
-    let separator = layout.separator;
-    if layout.columns.has_other_first && !has_level(separator, probes, field_at(separator, line, 0)) {
+    if layout.columns.has_other_first && !has_level(field_at(layout.separator, line, 0)) {
         return true;
     }
     if !layout.columns.are_rated {
         return false;
     }
-    let (_, later) = split_field(separator, line);
-    has_number(layout, probes, 1, later)
+    let (_, later) = split_field(layout.separator, line);
+    has_number(layout.columns, 1, layout.separator, later)
 }
 
 /// The sample of the three lines' columns, which has this time, after these levels.
@@ -943,7 +929,7 @@ fn sample_of(
 ) -> Result<Edge, CaptureFault>
     ensures { result ≡ sample_of layout probes before number (fields_of layout.separator false line.now) time }
 {
-    if is_foreign(layout, probes, line) {
+    if is_foreign(layout, line) {
         return Err(CaptureFault::NoTime(number));
     }
     sample_by(layout, probes, before, number, line, time)
