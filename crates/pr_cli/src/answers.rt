@@ -11,7 +11,8 @@ ghost use Rattle.pr_cli.specs.declared.statuses.End.TheVariants as end;
 use crate::characters::{shapes_for, shapes_given};
 use crate::jobs::{Answer, do_job, found_job};
 use crate::notes::{
-    drawn_by, note_held, note_overheard, note_reprinted, note_stop, petcat_note, program_note,
+    ListingNote, drawn_by, note_held, note_listing, note_overheard, note_reprinted, note_stop,
+    petcat_note, program_note,
 };
 use crate::outside::Outside;
 use crate::progress::{Progress, clear};
@@ -20,8 +21,8 @@ use crate::shown::Shown;
 use crate::starts::started_job;
 use crate::statuses::{End, FAILED, is_answered};
 use crate::told::{
-    Listing, Subject, has_more, has_notes, is_notable, listing_of, show_note, show_oddities,
-    subject_of, tell_heard, tell_listing, tell_more, tell_notes,
+    Listing, Subject, has_more, has_notes, is_notable, listing_of, show_oddities, subject_of,
+    tell_heard, tell_listing, tell_more, tell_notes,
 };
 use pr_dots::Shapes;
 use pr_files::{Noting, Unsaved, save};
@@ -104,7 +105,7 @@ struct Aside<'a> {
     /// Nothing is said but faults and explanations.
     is_quiet: bool,
     /// What is to be noted of the listing of which a script was made.
-    note: Option<&'static str>,
+    note: ListingNote,
     /// The input can be read a second time for that: it is a file by name, and no pipe or device. Any other is kept.
     is_file: bool,
     /// How many bytes have come of the input.
@@ -166,7 +167,7 @@ fn answer_named(
         is_advised: manner.is_watched && !manner.is_explained && !manner.is_quiet,
         is_noted: !manner.is_quiet && (manner.is_explained || manner.is_watched),
         is_quiet: manner.is_quiet,
-        note: None,
+        note: ListingNote::Nothing,
         is_file: false,
         count: &count,
         is_shown: &is_shown,
@@ -235,7 +236,7 @@ pub fn answer_given(
         is_advised: false,
         is_noted: telling.is_explained && !telling.is_quiet,
         is_quiet: telling.is_quiet,
-        note: None,
+        note: ListingNote::Nothing,
         is_file: false,
         count: &count,
         is_shown: &is_shown,
@@ -522,12 +523,14 @@ fn answer_listing<R: Read + Drop, W: Write + Drop>(
 }
 
 /// What is to be noted of a listing by its own bytes.
-fn listing_note(listing: Option<Listing<'_>>) -> Option<&'static str> {
-    let listing = listing?;
+fn listing_note(listing: Option<Listing<'_>>) -> ListingNote {
+    let Some(listing) = listing else {
+        return ListingNote::Nothing;
+    };
     match listing.form {
         ListingForm::Petcat => petcat_note(listing.bytes),
         ListingForm::Program => program_note(listing.bytes),
-        ListingForm::Text | ListingForm::Magazine | ListingForm::Auto => None,
+        ListingForm::Text | ListingForm::Magazine | ListingForm::Auto => ListingNote::Nothing,
     }
 }
 
@@ -666,7 +669,7 @@ fn tell_read<R: Read + Drop>(
             tell_more(rt, bytes.as_slice(), listing, subject, end);
         }
         if is_noted {
-            show_note(rt, aside.note);
+            note_listing(rt, aside.note);
             tell_notes(rt, bytes.as_slice(), subject);
         }
     }

@@ -104,23 +104,46 @@ pub fn note_script(rt: &impl Eprint, script: &[u8], form: ListingForm) {
     }
 }
 
-/// What is to be noted of petcat's text by its own bytes, before a script is made of it.
-pub fn petcat_note(text: &[u8]) -> Option<&'static str> {
+/// What is to be noted of a listing by its own bytes, before a script is made of it.
+#[derive(Clone, Copy)]
+pub enum ListingNote {
+    /// Nothing.
+    Nothing,
+    /// A heading of petcat's text seems to have other lines in it.
+    HeadingReturns,
+    /// The strings of petcat's text have more capitals than small letters.
+    PetcatCapitals,
+    /// A T64 file has more than one program.
+    TapeFiles,
+}
+
+/// What is to be noted of petcat's text.
+pub fn petcat_note(text: &[u8]) -> ListingNote {
     if has_line_in_heading(text) {
-        Some(HEADING_RETURNS)
+        ListingNote::HeadingReturns
     } else if has_more_capitals(text) {
-        Some(PETCAT_CAPITALS)
+        ListingNote::PetcatCapitals
     } else {
-        None
+        ListingNote::Nothing
     }
 }
 
-/// What is to be noted of the file of a saved program by its own bytes.
-pub fn program_note(file: &[u8]) -> Option<&'static str> {
+/// What is to be noted of the file of a saved program.
+pub fn program_note(file: &[u8]) -> ListingNote {
     if is_t64(file) && tape_files(file) > 1 {
-        Some(TAPE_FILES)
+        ListingNote::TapeFiles
     } else {
-        None
+        ListingNote::Nothing
+    }
+}
+
+/// Writes a note of a listing.
+pub fn note_listing(rt: &impl Eprint, noted: ListingNote) {
+    match noted {
+        ListingNote::Nothing => {}
+        ListingNote::HeadingReturns => note(rt, HEADING_RETURNS),
+        ListingNote::PetcatCapitals => note(rt, PETCAT_CAPITALS),
+        ListingNote::TapeFiles => note(rt, TAPE_FILES),
     }
 }
 
