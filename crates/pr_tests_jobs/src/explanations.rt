@@ -19,7 +19,12 @@ const TEXT: TraceInput<'static> = TraceInput {
         atn: b"ATN",
         clock: b"CLOCK",
         line: b"DATA",
-        probes: Probes::alike(false),
+        probes: Probes {
+            atn: false,
+            clock: false,
+            line: false,
+            threshold: None,
+        },
     },
     start: 0,
     rate: None,
