@@ -10,7 +10,7 @@ import { spaced, Wave } from './wave.js';
 import { frameChosen, lineChosen, linePointed, markClicked, markPointed } from './links.js';
 import { cover, coverProgress, endLongJob, patiently, showWire, tellUnder, traceSoon } from './telling.js';
 import { leaveSource, recordingOf, showSource } from './files.js';
-import { listingChanged } from './kept.js';
+import { embedded, listingChanged } from './kept.js';
 import { chooseForm, ready } from './controls.js';
 
 export const AUTOMATIC = 64 * 1024;       // a longer listing's trace is made only when it is asked for
@@ -328,7 +328,17 @@ function showScript(answer) {
   else if (answer.code > 2) words('first', 'Memory ran out.');
   else tellStatuses(answer, words);
   if (answer.code <= 1) showScreenSoon(answer.screen);
+  if (answer.code > 1 && embedded) tellInFrame(told.querySelector('.first').firstChild.textContent);
   speakSoon();
+}
+
+/** Says in a frame of another page, which has no listing, why there is nothing to see. */
+function tellInFrame(words) {
+  clearPaper();
+  showWire(null);
+  cover(words);
+  $('no-sheet').textContent = words;
+  $('no-sheet').hidden = false;
 }
 
 /** How many characters the first bytes of a text are. */
