@@ -97,17 +97,17 @@ export class Wave {
 
   pan(part) { const width = this.to - this.from; this.see(this.from + part * width, this.to + part * width); }
 
-  /** Chooses a frame and shows it; `onChoose` is called if `tell`. */
+  /** Chooses a frame; where it is not seen the view moves to it, as wide as it is. `onChoose` is called if `tell`. */
   choose(index, tell = true) {
     this.chosen = index;
     this.span = null;
     const frame = this.frames.get(index);
     if (frame) {
-      const end = Number.isFinite(frame.end) ? frame.end : frame.look + 1000, long = end - frame.look;
-      // (where the frame is too narrow for its name, or wider than what is seen)
-      const seen = this.to - this.from, around = long * Math.max(this.width / this.nameWidth(frame) - 1, 1) / 2;
-      if (seen > long * Math.max((this.width + 1) / this.nameWidth(frame), 2) || seen < long * 1.2) this.see(frame.look - around, end + around);
-      else if (frame.look < this.from || end > this.to) this.see(frame.look + (long - this.to + this.from) / 2, frame.look + (long + this.to - this.from) / 2);
+      const end = Number.isFinite(frame.end) ? frame.end : frame.look + 1000, seen = this.to - this.from;
+      // (of a frame that is wider than the view a part is enough)
+      const isSeen = end - frame.look < seen ? frame.look >= this.from && end <= this.to : frame.look < this.to && end > this.from;
+      const from = Math.min((frame.look + end - seen) / 2, frame.look - seen * .05);
+      if (!isSeen) this.see(from, from + seen);
     }
     this.draw();
     if (tell) this.onChoose(index);
