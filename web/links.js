@@ -4,7 +4,7 @@
 import { $, button } from './basics.js';
 import { ask, counted, editor, LINES_LIMIT, paper, readers, state, tellBriefly, tellFailed, tellOnce, wanted, wave } from './page.js';
 import { bytesOfLine } from './reading.js';
-import { tellChosen } from './telling.js';
+import { tellChosen, tellOutside } from './telling.js';
 import { byteWords } from './wave.js';
 
 const POINTED_EDGES = 300000;      // of a longer trace nothing is found while the pointer moves
@@ -120,6 +120,7 @@ const NOTHING = { marks: [], frames: null, line: -1, place: null };
 function showPointed({ marks, frames, line, place }) {
   paper.point(marks);
   wave.point(frames);
+  tellOutside(wave.outside());
   editor.point(line, place);
 }
 

@@ -169,6 +169,13 @@ function hint() {
   return followsPointer() ? words : `${words} In a trace this long pointing alone shows no marks and no line.`;
 }
 
+/** Says when what is pointed at elsewhere is on the wire, if the view of the wave does not have it. */
+export function tellOutside(span) {
+  if (wave.pointer) return;
+  $('under').className = '';
+  $('under').textContent = span ? `At ${(span[0] / 1000).toFixed(1)} ms, outside of the view.` : hint();
+}
+
 /** Shows what is under the pointer on the wave. */
 export function tellUnder(under) {
   const line = $('under');

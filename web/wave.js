@@ -127,6 +127,13 @@ export class Wave {
     this.draw();
   }
 
+  /** When what is pointed at begins and ends, if that is outside of the view; or null. */
+  outside() {
+    if (!this.pointed || this.pointed[1] <= this.pointed[0]) return null;
+    const span = [this.frames.look(this.pointed[0]), Math.min(this.frames.end(this.pointed[1] - 1), this.end)];
+    return span[1] < this.from || span[0] > this.to ? span : null;
+  }
+
   /** Puts the second cursor at a moment, from which times are measured; or takes it away (null). */
   measureFrom(moment) {
     this.mark = moment;
@@ -577,6 +584,12 @@ export class Wave {
       pen.fillRect(NAMES_WIDTH + x, strip, 1, 8);
     }
     pen.globalAlpha = 1;
+    const outside = this.outside();
+    if (outside) {
+      const [left, right] = outside.map(moment => NAMES_WIDTH + (moment - this.begin) / whole * this.width);
+      pen.fillStyle = this.ink('found');
+      pen.fillRect(left - 1, strip - 2, Math.max(right - left, 3), 12);
+    }
     const x = NAMES_WIDTH + (this.from - this.begin) / whole * this.width, width = Math.max((this.to - this.from) / whole * this.width, 4);
     pen.strokeStyle = this.ink('accent');
     pen.lineWidth = 2;
