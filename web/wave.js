@@ -30,7 +30,7 @@ export class Wave {
   /** `onUnder` gets what is under the pointer, `onChoose` the index of the frame that is chosen, or -1. */
   constructor(canvas, onUnder, onChoose) {
     Object.assign(this, { canvas, onUnder, onChoose, frames: new Frames(), edges: null, delays: null, turns: [] });
-    Object.assign(this, { begin: 0, end: 0, from: 0, to: 1, moved: false, chosen: -1, pointer: null, mark: null, pointed: null });
+    Object.assign(this, { begin: 0, end: 0, from: 0, to: 1, moved: false, isWhole: false, chosen: -1, pointer: null, mark: null, pointed: null });
     // What is seen at first fits the width, so that frames have room for their names.
     whenResized(canvas, () => { if (this.edges && !this.moved) this.front(); else this.draw(); });
     whenSharper(() => this.draw());
@@ -54,7 +54,9 @@ export class Wave {
     const begin = edges.times.length ? edges.times[0] : 0;
     this.begin = Math.min(begin, 0);
     this.end = Math.max(last + Math.max((last - begin) * .01, 100), this.begin + 1000);
-    if (!this.moved || this.from >= this.end) this.front();
+    // (who saw all of a wave sees all of the next one)
+    if (this.moved && this.isWhole) this.all();
+    else if (!this.moved || this.from >= this.end) this.front();
     else this.draw();
   }
 
@@ -82,6 +84,7 @@ export class Wave {
     this.from = Math.min(Math.max(from, this.begin), this.end - width);
     this.to = this.from + width;
     this.moved ||= moved;
+    this.isWhole = width >= this.end - this.begin;
     this.draw();
   }
 
