@@ -221,8 +221,13 @@ async function copyText(text, made) {
 
 function sayCopied(made) {
   made.dataset.words ??= made.textContent;
+  made.dataset.label ??= made.getAttribute('aria-label') ?? '';
   made.textContent = 'Copied';
-  setTimeout(() => { made.textContent = made.dataset.words; }, 1600);
+  made.removeAttribute('aria-label');
+  setTimeout(() => {
+    made.textContent = made.dataset.words;
+    if (made.dataset.label) made.setAttribute('aria-label', made.dataset.label);
+  }, 1600);
 }
 
 // A menu closes when something of it is chosen, by Escape, and by a click elsewhere.
