@@ -49,6 +49,15 @@ function placesIn(line, from, to) {
   return new Map(places ? data.map((index, at) => [index, places[at]]) : []);
 }
 
+/** The line of a CMD whose line end a line sends as its first byte, if that is a frame; or -1. */
+function lineOfCmd({ line, from, to }, index) {
+  const first = Array.from({ length: to - from }, (_, at) => from + at).find(at => wave.frames.get(at).kind === 'data');
+  if (index !== first || wave.frames.get(index).byte !== 13 || placesIn(line, from, to).get(index)) return -1;
+  let above = line - 1;
+  while (above >= 0 && /^\s*\d*\s*(rem\b|$)/i.test(editor.line(above))) above--;
+  return above >= 0 && /^\s*\d*\s*cmd/i.test(editor.line(above)) ? above : -1;
+}
+
 /** A line of the listing is chosen: its frames and its marks are shown. */
 export async function lineChosen(line) {
   const turn = ++asked;
@@ -74,6 +83,12 @@ async function showLineOf(index, turn) {
   if (!knowsLines()) return;
   const answer = await found('lineOf', { frame: index }, turn);
   if (!answer) return;
+  const cmd = lineOfCmd(answer, index);
+  if (cmd >= 0) {
+    editor.choose(cmd);
+    $('chosen').append(` The line end of CMD in line ${cmd + 1}: the next line sends it.`);
+    return;
+  }
   editor.choose(answer.line);
   editor.showPlace(answer.line, placesIn(answer.line, answer.from, answer.to).get(index));
 }
@@ -146,7 +161,8 @@ function pointSoon(name, look) {
 
 /** A frame with its line and the character that it comes from. */
 async function lineAround(frame, marks) {
-  const found = knowsLines() ? await ask('lineOf', { frame }) : null, line = found ? found.line : -1;
+  const found = knowsLines() ? await ask('lineOf', { frame }) : null, cmd = found ? lineOfCmd(found, frame) : -1, line = cmd >= 0 ? cmd : found ? found.line : -1;
+  if (cmd >= 0) return { marks, frames: [frame, frame + 1], line, place: null };
   return { marks, frames: [frame, frame + 1], line, place: found ? placesIn(line, found.from, found.to).get(frame) ?? null : null };
 }
 
