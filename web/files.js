@@ -105,7 +105,9 @@ export function take(bytes, name, kind) {
     tellOnce('lines', words);
     return listingChanged();
   }
-  showFile({ bytes, name, kind, set: 0, bounds: state.source?.bounds, names: ['ATN', 'CLOCK', 'DATA'], inverted: false, start: 0, rate: 0 });
+  // (another file begins with the project's own bounds)
+  const bounds = state.source?.bytes === bytes ? state.source.bounds : undefined;
+  showFile({ bytes, name, kind, set: 0, bounds, names: ['ATN', 'CLOCK', 'DATA'], inverted: false, start: 0, rate: 0 });
 }
 
 /** Shows a file instead of the listing, which is kept. */
