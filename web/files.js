@@ -22,14 +22,14 @@ export let taking = 0;     // files that are read and not yet shown (the tests w
 let taken = 0;                       // how many files were dropped
 
 /** What is read by now is no longer wanted: something else was chosen. */
-export const leaveReads = () => { taken++; };
+export const leaveReads = () => { taken++; notice('others', ''); };
 
 /** Takes the first of some files; of the others it says that they are left out. */
 export function takeFiles(files) {
   const [first, ...others] = files;
   if (!first) return;
-  tellOnce('others', others.length ? `One file is shown at a time: ${first.name}. Left out: ${others.map(({ name }) => name).join(', ')}.` : '');
   takeFile(first);
+  tellOnce('others', others.length ? `One file is shown at a time: ${first.name}. Left out: ${others.map(({ name }) => name).join(', ')}.` : '');
 }
 
 const LARGE = 10e6;        // bytes: a file that seems to be a printer's bytes, and is longer, is asked about first
@@ -45,6 +45,7 @@ function takeOrAsk(bytes, name, kind) {
 /** Shows a file as what it seems to be. */
 export async function takeFile(file) {
   const turn = ++taken, { source } = state, before = editor.text;
+  notice('others', '');
   taking++;
   try {
     const bytes = new Uint8Array(await file.arrayBuffer()), why = refusalOf(bytes, file.name), kind = why ? '' : await kindOf(bytes, file.name);
