@@ -148,7 +148,7 @@ function tellSource() {
   name.textContent = source.name;
   text.setAttribute('role', 'status');
   why.className = 'why';
-  box.append(name, text, why, ...fieldsOf(source), button('Back to the listing', () => { leaveSource(); print(); }));
+  box.append(name, text, why, ...fieldsOf(source), button('Back to the listing', () => { notice('others', ''); leaveSource(); print(); }));
 }
 
 /** What can be chosen of a file. */

@@ -88,7 +88,7 @@ export const hasWebAssembly = () => typeof WebAssembly === 'object' && typeof De
 
 // the parts of the page
 
-export const editor = new Editor(document.querySelector('.editor'), () => { leaveSource(); listingChanged(); }, {
+export const editor = new Editor(document.querySelector('.editor'), () => { notice('others', ''); leaveSource(); listingChanged(); }, {
   form: () => state.form,
   parts: line => partsOf(line, state.form),
   words: (line, column) => wordsAt(line, column, state.form),
