@@ -55,7 +55,13 @@ export function endLongJob() {
 export function coverProgress(what, next) {
   const bar = document.createElement('progress'), words = document.createElement('p');
   bar.setAttribute('aria-label', what);
-  const cancel = button('Cancel', () => { began = 0; restartWorker(); next(); });
+  const cancel = button('Cancel', () => {
+    began = 0;
+    cancel.disabled = true;
+    cover('Cancelling …', [cancel]);
+    restartWorker();
+    next();
+  });
   cover(`${what} …`, [bar, words, cancel]);
   return ({ done, words: said }) => { bar.value = done; words.textContent = said; };
 }
