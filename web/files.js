@@ -6,7 +6,7 @@ import { ask, capital, clearPaper, editor, FILE_LIMIT, hasWebAssembly, notice, p
 import { cover, showWire, verdictWords } from './telling.js';
 import { file, keepEarlier, listingChanged, nameTab } from './kept.js';
 import { takeCharacters } from './characters.js';
-import { signalFields } from './signals.js';
+import { lacksSignals, signalFields } from './signals.js';
 import { inPageWords, pageHints } from './words.js';
 import { ready, showChoices, showTab } from './controls.js';
 
@@ -206,11 +206,12 @@ export function leaveSource() {
 export function showSource(answer) {
   const { source } = state;
   document.body.classList.remove('stale');
-  const why = answer.code === 2 ? `It cannot be read to its end: ${inPageWords(answer.words)}.` : answer.code > 2 ? 'Memory ran out.' : '';
+  const isUnchosen = answer.code === 2 && /no signal/.test(answer.words) && lacksSignals(source);
+  const why = isUnchosen ? 'Choose which of its signals are ATN, CLOCK and DATA.' : answer.code === 2 ? `It cannot be read to its end: ${inPageWords(answer.words)}.` : answer.code > 2 ? 'Memory ran out.' : '';
   const { notes = [], odd = [], told = [] } = answer;
   tellOfSource(why || verdictWords(answer), pageHints([...notes, ...odd]), pageHints(told).join('\n'));
   if (answer.svg) showPaper(decode(answer.svg)); else clearPaper();
   if (source.kind === 'raw') { showWire(null); cover('A printer\'s bytes have no trace.'); return; }
-  cover('');
-  showWire(answer);
+  cover(isUnchosen ? 'The wave is here once the three signals are chosen.' : '');
+  showWire(isUnchosen ? null : answer);
 }
