@@ -1,8 +1,8 @@
 // Files that are dropped or opened: listings in each form, traces, recordings and a printer's bytes.
 
 import { isTape, petcatOf, refusalOf } from './listing.js';
-import { $, button, decode, encode, fromBase64, toBase64 } from './basics.js';
-import { ask, capital, clearPaper, editor, FILE_LIMIT, hasWebAssembly, notice, print, showPaper, state, tellFailed, tellOnce, wave } from './page.js';
+import { $, button, encode, fromBase64, toBase64 } from './basics.js';
+import { ask, capital, clearPaper, editor, FILE_LIMIT, hasWebAssembly, notice, print, showPicture, state, tellFailed, tellOnce, wave } from './page.js';
 import { cover, showWire, verdictWords } from './telling.js';
 import { file, keepEarlier, listingChanged, nameTab } from './kept.js';
 import { takeCharacters } from './characters.js';
@@ -210,7 +210,7 @@ export function showSource(answer) {
   const why = isUnchosen ? 'Choose which of its signals are ATN, CLOCK and DATA.' : answer.code === 2 ? `It cannot be read to its end: ${inPageWords(answer.words)}.` : answer.code > 2 ? 'Memory ran out.' : '';
   const { notes = [], odd = [], told = [] } = answer;
   tellOfSource(why || verdictWords(answer), pageHints([...notes, ...odd]), pageHints(told).join('\n'));
-  if (answer.svg) showPaper(decode(answer.svg)); else clearPaper();
+  if (answer.svg) showPicture(answer.svg); else clearPaper();
   if (source.kind === 'raw') { showWire(null); cover('A printer\'s bytes have no trace.'); return; }
   cover(isUnchosen ? 'The wave is here once the three signals are chosen.' : '');
   showWire(isUnchosen ? null : answer);

@@ -215,9 +215,10 @@ async function printNow(version) {
 
 /** What a file gives; a long recording shows how far it is. */
 function readSource(source, version) {
-  const { name, kind, bytes, set } = source;
-  if (kind === 'raw') return ask('raw', { bytes, set }, version);
-  const onProgress = bytes.length > LONG_FILE ? coverProgress(`Reading ${name}`, () => { leaveSource(); print(); }) : null;
+  const { name, kind, bytes, set } = source, isLong = bytes.length > LONG_FILE;
+  if (isLong) showWire(null);      // (what is said of the trace before is not of this file)
+  const onProgress = isLong ? coverProgress(`${kind === 'raw' ? 'Printing' : 'Reading'} ${name}`, () => { leaveSource(); print(); }) : null;
+  if (kind === 'raw') return ask('raw', { bytes, set }, version, onProgress);
   return ask('recording', recordingOf(source), version, onProgress);
 }
 
@@ -252,7 +253,7 @@ function showRun(answer, version) {
     return;
   }
   onPaper = version;
-  showPaper(decode(answer.svg));
+  showPicture(answer.svg);
   firstPaper ||= performance.now();
 }
 
@@ -287,6 +288,17 @@ export function showPaper(svg) {
   paper.room.hidden = !paper.picture || !(paper.picture.sheets.length || paper.picture.notes);
   for (const what of ['lines', 'list']) readers[what].stale = nextText();
   fillReader(state.tabs.pages);
+}
+
+/** Shows the picture of the sheets; of one that is longer than a text can be in this browser it says so. */
+export function showPicture(bytes) {
+  let svg = '';
+  try { svg = decode(bytes); } catch { /* (it is too long) */ }
+  showPaper(svg);
+  if (svg || !bytes.length) return;
+  $('no-sheet').textContent = 'The picture of these sheets is longer than this browser can hold; “Lines” and “Page text” have all of them, and can be saved.';
+  $('no-sheet').hidden = false;
+  paper.room.hidden = true;
 }
 
 /** Fills the text of a tab, if it is the one that is seen. */
