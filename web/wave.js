@@ -9,6 +9,7 @@ import { ATN, CLOCK, DATA, delaysAt, edgeAt, Frames, halfOf, momentsOf } from '.
 const WIRES = [{ name: 'ATN', bit: ATN }, { name: 'CLOCK', bit: CLOCK }, { name: 'DATA', bit: DATA }];
 const NAMES_WIDTH = 58, RIGHT = 10;
 const BIT_WIDTH = 26;          // pixels: what the number and the value of a bit need
+const DIGIT_WIDTH = 14;        // pixels between the edges of CLOCK around them, so that they lie on neither
 
 /** A number with thin spaces between its thousands. */
 export const spaced = number => String(number).replace(/\B(?=(\d{3})+$)/g, '\u2009');
@@ -499,7 +500,7 @@ export class Wave {
       if (!frame.bits || (this.xOf(frame.last) - this.xOf(frame.pull)) / frame.bits < BIT_WIDTH) continue;
       for (let bit = 0; bit < frame.bits; bit++) {
         const rise = times[first + 2 * bit], fall = times[first + 2 * bit + 1] ?? this.end, x = (this.xOf(rise) + this.xOf(fall)) / 2;
-        if (!(rise < this.to && fall > this.from)) continue;
+        if (!(rise < this.to && fall > this.from) || this.xOf(fall) - this.xOf(rise) < DIGIT_WIDTH) continue;
         pen.fillStyle = this.ink('muted');
         pen.fillText(String(bit), x, top + 1.5 * each + 1);
         pen.fillStyle = this.ink('data');
