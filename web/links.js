@@ -49,13 +49,13 @@ function placesIn(line, from, to) {
   return new Map(places ? data.map((index, at) => [index, places[at]]) : []);
 }
 
-/** The line of a CMD whose line end a line sends as its first byte, if that is a frame; or -1. */
-function lineOfCmd({ line, from, to }, index) {
-  const first = Array.from({ length: to - from }, (_, at) => from + at).find(at => wave.frames.get(at).kind === 'data');
-  if (index !== first || wave.frames.get(index).byte !== 13 || placesIn(line, from, to).get(index)) return -1;
+/** The line whose own line end a frame is, where the line after it sends that: so it is after CMD, and after a PRINT that it leads there; or -1. */
+function lineOfEnd({ line, from, to }, index) {
+  const { kind, byte } = wave.frames.get(index);
+  if (index !== from || kind !== 'data' || byte !== 13 || placesIn(line, from, to).get(index)) return -1;
   let above = line - 1;
-  while (above >= 0 && /^\s*\d*\s*(rem\b|$)/i.test(editor.line(above))) above--;
-  return above >= 0 && /^\s*\d*\s*cmd/i.test(editor.line(above)) ? above : -1;
+  while (above >= 0 && !/^\s*\d*\s*(cmd|print)/i.test(editor.line(above))) above--;
+  return above >= 0 && !/print\s*#/i.test(editor.line(above)) ? above : -1;
 }
 
 /** A line of the listing is chosen: its frames and its marks are shown. */
@@ -83,10 +83,10 @@ async function showLineOf(index, turn) {
   if (!knowsLines()) return;
   const answer = await found('lineOf', { frame: index }, turn);
   if (!answer) return;
-  const cmd = lineOfCmd(answer, index);
-  if (cmd >= 0) {
-    editor.choose(cmd);
-    $('chosen').append(` The line end of CMD in line ${cmd + 1}: the next line sends it.`);
+  const before = lineOfEnd(answer, index);
+  if (before >= 0) {
+    editor.choose(before);
+    $('chosen').append(` The line end of ${/cmd/i.test(editor.line(before)) ? 'CMD in ' : ''}line ${before + 1}, which the next one sends.`);
     return;
   }
   editor.choose(answer.line);
@@ -161,8 +161,8 @@ function pointSoon(name, look) {
 
 /** A frame with its line and the character that it comes from. */
 async function lineAround(frame, marks) {
-  const found = knowsLines() ? await ask('lineOf', { frame }) : null, cmd = found ? lineOfCmd(found, frame) : -1, line = cmd >= 0 ? cmd : found ? found.line : -1;
-  if (cmd >= 0) return { marks, frames: [frame, frame + 1], line, place: null };
+  const found = knowsLines() ? await ask('lineOf', { frame }) : null, before = found ? lineOfEnd(found, frame) : -1, line = before >= 0 ? before : found ? found.line : -1;
+  if (before >= 0) return { marks, frames: [frame, frame + 1], line, place: null };
   return { marks, frames: [frame, frame + 1], line, place: found ? placesIn(line, found.from, found.to).get(frame) ?? null : null };
 }
 
