@@ -2,7 +2,7 @@
 
 import { isTape, petcatOf, refusalOf } from './listing.js';
 import { $, button, encode, fromBase64, toBase64 } from './basics.js';
-import { ask, capital, clearPaper, editor, FILE_LIMIT, hasWebAssembly, notice, print, showPicture, state, tellFailed, tellOnce, wave } from './page.js';
+import { ask, capital, clearPaper, editor, FILE_LIMIT, hasWebAssembly, LONG_FILE, notice, print, showPicture, state, tellFailed, tellOnce, wave } from './page.js';
 import { cover, showWire, verdictWords } from './telling.js';
 import { file, keepEarlier, listingChanged, nameTab } from './kept.js';
 import { takeCharacters } from './characters.js';
@@ -115,6 +115,7 @@ export function take(bytes, name, kind) {
 export function showFile(source) {
   state.source = source;
   wave.moved = false;
+  if (source.bytes.length > LONG_FILE) showWire(null);     // (until it is read nothing is said of it, nor of what was here before)
   notice('lines', '');
   notice('passing', '');
   tellSource();

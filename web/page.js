@@ -20,7 +20,7 @@ export const EARLIER_LIMIT = 20;
 export const LONG = 200000;               // characters: a longer listing is printed and kept when no key is pressed for a moment
 const TYPED_PAUSE = 250;                  // milliseconds of that moment
 const TYPED_AFTER = 800;                  // milliseconds after a key until a refusal of its line is shown
-const LONG_FILE = 10 ** 6;                // bytes: reading a longer recording shows how far it is
+export const LONG_FILE = 10 ** 6;         // bytes: reading a longer recording shows how far it is
 export const FILE_LIMIT = 2 ** 21;        // bytes of a file that is here after a reload
 export const LISTING_LIMIT = 16777216;    // bytes of a script, as the program has it (tests/documents holds it equal)
 
@@ -216,7 +216,6 @@ async function printNow(version) {
 /** What a file gives; a long recording shows how far it is. */
 function readSource(source, version) {
   const { name, kind, bytes, set } = source, isLong = bytes.length > LONG_FILE;
-  if (isLong) showWire(null);      // (what is said of the trace before is not of this file)
   const onProgress = isLong ? coverProgress(`${kind === 'raw' ? 'Printing' : 'Reading'} ${name}`, () => { leaveSource(); print(); }) : null;
   if (kind === 'raw') return ask('raw', { bytes, set }, version, onProgress);
   return ask('recording', recordingOf(source), version, onProgress);
