@@ -161,15 +161,18 @@ function partOf(part) {
   return part === 'sheet' ? [...printer, '--sheet', String(seen.number)] : printer;
 }
 
+/** What a file's name says of a part: its printer, and its sheet. */
+const partName = words => words.filter(word => /^\d+$/.test(word)).map(word => `-${word}`).join('');
+
 /** The name of what is shown, for files. */
 const shownName = () => (state.source?.name || 'listing').replace(/\.[^.]*$/, '');
 
 for (const made of all('[data-save]')) {
   made.onclick = async () => {
-    const what = made.dataset.save, [ending, type] = FILES[what];
+    const what = made.dataset.save, [ending, type] = FILES[what], part = partOf(made.dataset.part);
     try {
-      const bytes = await ask('text', { what, delays: state.taken || chosenDelays(), part: partOf(made.dataset.part) });
-      if (bytes) download(bytes, `${shownName()}.${ending}`, type);
+      const bytes = await ask('text', { what, delays: state.taken || chosenDelays(), part });
+      if (bytes) download(bytes, `${shownName()}${partName(part)}.${ending}`, type);
     } catch (error) {
       tellFailed(error);
     }
@@ -221,8 +224,13 @@ async function copyText(text, made) {
 
 function sayCopied(made) {
   made.dataset.words ??= made.textContent;
+  made.dataset.label ??= made.getAttribute('aria-label') ?? '';
   made.textContent = 'Copied';
-  setTimeout(() => { made.textContent = made.dataset.words; }, 1600);
+  made.removeAttribute('aria-label');
+  setTimeout(() => {
+    made.textContent = made.dataset.words;
+    if (made.dataset.label) made.setAttribute('aria-label', made.dataset.label);
+  }, 1600);
 }
 
 // A menu closes when something of it is chosen, by Escape, and by a click elsewhere.

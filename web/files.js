@@ -1,12 +1,12 @@
 // Files that are dropped or opened: listings in each form, traces, recordings and a printer's bytes.
 
 import { isTape, petcatOf, refusalOf } from './listing.js';
-import { $, button, decode, encode, fromBase64, toBase64 } from './basics.js';
-import { ask, capital, clearPaper, editor, FILE_LIMIT, hasWebAssembly, notice, print, showPaper, state, tellFailed, tellOnce, wave } from './page.js';
+import { $, button, encode, fromBase64, toBase64 } from './basics.js';
+import { ask, capital, clearPaper, editor, FILE_LIMIT, hasWebAssembly, LONG_FILE, notice, print, showPicture, state, tellFailed, tellOnce, wave } from './page.js';
 import { cover, showWire, verdictWords } from './telling.js';
 import { file, keepEarlier, listingChanged, nameTab } from './kept.js';
 import { takeCharacters } from './characters.js';
-import { signalFields } from './signals.js';
+import { lacksSignals, signalFields } from './signals.js';
 import { inPageWords, pageHints } from './words.js';
 import { ready, showChoices, showTab } from './controls.js';
 
@@ -22,14 +22,14 @@ export let taking = 0;     // files that are read and not yet shown (the tests w
 let taken = 0;                       // how many files were dropped
 
 /** What is read by now is no longer wanted: something else was chosen. */
-export const leaveReads = () => { taken++; };
+export const leaveReads = () => { taken++; notice('others', ''); };
 
 /** Takes the first of some files; of the others it says that they are left out. */
 export function takeFiles(files) {
   const [first, ...others] = files;
   if (!first) return;
-  tellOnce('others', others.length ? `One file is shown at a time: ${first.name}. Left out: ${others.map(({ name }) => name).join(', ')}.` : '');
   takeFile(first);
+  tellOnce('others', others.length ? `One file is shown at a time: ${first.name}. Left out: ${others.map(({ name }) => name).join(', ')}.` : '');
 }
 
 const LARGE = 10e6;        // bytes: a file that seems to be a printer's bytes, and is longer, is asked about first
@@ -45,6 +45,7 @@ function takeOrAsk(bytes, name, kind) {
 /** Shows a file as what it seems to be. */
 export async function takeFile(file) {
   const turn = ++taken, { source } = state, before = editor.text;
+  notice('others', '');
   taking++;
   try {
     const bytes = new Uint8Array(await file.arrayBuffer()), why = refusalOf(bytes, file.name), kind = why ? '' : await kindOf(bytes, file.name);
@@ -105,13 +106,16 @@ export function take(bytes, name, kind) {
     tellOnce('lines', words);
     return listingChanged();
   }
-  showFile({ bytes, name, kind, set: 0, bounds: state.source?.bounds, names: ['ATN', 'CLOCK', 'DATA'], inverted: false, start: 0, rate: 0 });
+  // (another file begins with the project's own bounds)
+  const bounds = state.source?.bytes === bytes ? state.source.bounds : undefined;
+  showFile({ bytes, name, kind, set: 0, bounds, names: ['ATN', 'CLOCK', 'DATA'], inverted: false, start: 0, rate: 0 });
 }
 
 /** Shows a file instead of the listing, which is kept. */
 export function showFile(source) {
   state.source = source;
   wave.moved = false;
+  if (source.bytes.length > LONG_FILE) showWire(null);     // (until it is read nothing is said of it, nor of what was here before)
   notice('lines', '');
   notice('passing', '');
   tellSource();
@@ -145,7 +149,7 @@ function tellSource() {
   name.textContent = source.name;
   text.setAttribute('role', 'status');
   why.className = 'why';
-  box.append(name, text, why, ...fieldsOf(source), button('Back to the listing', () => { leaveSource(); print(); }));
+  box.append(name, text, why, ...fieldsOf(source), button('Back to the listing', () => { notice('others', ''); leaveSource(); print(); }));
 }
 
 /** What can be chosen of a file. */
@@ -203,11 +207,12 @@ export function leaveSource() {
 export function showSource(answer) {
   const { source } = state;
   document.body.classList.remove('stale');
-  const why = answer.code === 2 ? `It cannot be read to its end: ${inPageWords(answer.words)}.` : answer.code > 2 ? 'Memory ran out.' : '';
+  const isUnchosen = answer.code === 2 && /no signal/.test(answer.words) && lacksSignals(source);
+  const why = isUnchosen ? 'Choose which of its signals are ATN, CLOCK and DATA.' : answer.code === 2 ? `It cannot be read to its end: ${inPageWords(answer.words)}.` : answer.code > 2 ? 'Memory ran out.' : '';
   const { notes = [], odd = [], told = [] } = answer;
   tellOfSource(why || verdictWords(answer), pageHints([...notes, ...odd]), pageHints(told).join('\n'));
-  if (answer.svg) showPaper(decode(answer.svg)); else clearPaper();
+  if (answer.svg) showPicture(answer.svg); else clearPaper();
   if (source.kind === 'raw') { showWire(null); cover('A printer\'s bytes have no trace.'); return; }
-  cover('');
-  showWire(answer);
+  cover(isUnchosen ? 'The wave is here once the three signals are chosen.' : '');
+  showWire(isUnchosen ? null : answer);
 }

@@ -4,7 +4,7 @@
 import { $, button } from './basics.js';
 import { ask, counted, editor, LINES_LIMIT, paper, readers, state, tellBriefly, tellFailed, tellOnce, wanted, wave } from './page.js';
 import { bytesOfLine } from './reading.js';
-import { tellChosen } from './telling.js';
+import { tellChosen, tellOutside } from './telling.js';
 import { byteWords } from './wave.js';
 
 const POINTED_EDGES = 300000;      // of a longer trace nothing is found while the pointer moves
@@ -49,6 +49,15 @@ function placesIn(line, from, to) {
   return new Map(places ? data.map((index, at) => [index, places[at]]) : []);
 }
 
+/** The line whose own line end a frame is, where the line after it sends that: so it is after CMD, and after a PRINT that it leads there; or -1. */
+function lineOfEnd({ line, from, to }, index) {
+  const { kind, byte } = wave.frames.get(index);
+  if (index !== from || kind !== 'data' || byte !== 13 || placesIn(line, from, to).get(index)) return -1;
+  let above = line - 1;
+  while (above >= 0 && !/^\s*\d*\s*(cmd|print)/i.test(editor.line(above))) above--;
+  return above >= 0 && !/print\s*#/i.test(editor.line(above)) ? above : -1;
+}
+
 /** A line of the listing is chosen: its frames and its marks are shown. */
 export async function lineChosen(line) {
   const turn = ++asked;
@@ -74,6 +83,12 @@ async function showLineOf(index, turn) {
   if (!knowsLines()) return;
   const answer = await found('lineOf', { frame: index }, turn);
   if (!answer) return;
+  const before = lineOfEnd(answer, index);
+  if (before >= 0) {
+    editor.choose(before);
+    $('chosen').append(` The line end of ${/cmd/i.test(editor.line(before)) ? 'CMD in ' : ''}line ${before + 1}, which the next one sends.`);
+    return;
+  }
   editor.choose(answer.line);
   editor.showPlace(answer.line, placesIn(answer.line, answer.from, answer.to).get(index));
 }
@@ -120,6 +135,7 @@ const NOTHING = { marks: [], frames: null, line: -1, place: null };
 function showPointed({ marks, frames, line, place }) {
   paper.point(marks);
   wave.point(frames);
+  tellOutside(wave.outside());
   editor.point(line, place);
 }
 
@@ -145,7 +161,8 @@ function pointSoon(name, look) {
 
 /** A frame with its line and the character that it comes from. */
 async function lineAround(frame, marks) {
-  const found = knowsLines() ? await ask('lineOf', { frame }) : null, line = found ? found.line : -1;
+  const found = knowsLines() ? await ask('lineOf', { frame }) : null, before = found ? lineOfEnd(found, frame) : -1, line = before >= 0 ? before : found ? found.line : -1;
+  if (before >= 0) return { marks, frames: [frame, frame + 1], line, place: null };
   return { marks, frames: [frame, frame + 1], line, place: found ? placesIn(line, found.from, found.to).get(frame) ?? null : null };
 }
 

@@ -10,7 +10,7 @@ import { spaced, Wave } from './wave.js';
 import { frameChosen, lineChosen, linePointed, markClicked, markPointed } from './links.js';
 import { cover, coverProgress, endLongJob, patiently, showWire, tellUnder, traceSoon } from './telling.js';
 import { leaveSource, recordingOf, showSource } from './files.js';
-import { listingChanged } from './kept.js';
+import { embedded, listingChanged } from './kept.js';
 import { chooseForm, ready } from './controls.js';
 
 export const AUTOMATIC = 64 * 1024;       // a longer listing's trace is made only when it is asked for
@@ -20,7 +20,7 @@ export const EARLIER_LIMIT = 20;
 export const LONG = 200000;               // characters: a longer listing is printed and kept when no key is pressed for a moment
 const TYPED_PAUSE = 250;                  // milliseconds of that moment
 const TYPED_AFTER = 800;                  // milliseconds after a key until a refusal of its line is shown
-const LONG_FILE = 10 ** 6;                // bytes: reading a longer recording shows how far it is
+export const LONG_FILE = 10 ** 6;         // bytes: reading a longer recording shows how far it is
 export const FILE_LIMIT = 2 ** 21;        // bytes of a file that is here after a reload
 export const LISTING_LIMIT = 16777216;    // bytes of a script, as the program has it (tests/documents holds it equal)
 
@@ -88,7 +88,7 @@ export const hasWebAssembly = () => typeof WebAssembly === 'object' && typeof De
 
 // the parts of the page
 
-export const editor = new Editor(document.querySelector('.editor'), () => { leaveSource(); listingChanged(); }, {
+export const editor = new Editor(document.querySelector('.editor'), () => { notice('others', ''); leaveSource(); listingChanged(); }, {
   form: () => state.form,
   parts: line => partsOf(line, state.form),
   words: (line, column) => wordsAt(line, column, state.form),
@@ -215,9 +215,9 @@ async function printNow(version) {
 
 /** What a file gives; a long recording shows how far it is. */
 function readSource(source, version) {
-  const { name, kind, bytes, set } = source;
-  if (kind === 'raw') return ask('raw', { bytes, set }, version);
-  const onProgress = bytes.length > LONG_FILE ? coverProgress(`Reading ${name}`, () => { leaveSource(); print(); }) : null;
+  const { name, kind, bytes, set } = source, isLong = bytes.length > LONG_FILE;
+  const onProgress = isLong ? coverProgress(`${kind === 'raw' ? 'Printing' : 'Reading'} ${name}`, () => { leaveSource(); print(); }) : null;
+  if (kind === 'raw') return ask('raw', { bytes, set }, version, onProgress);
   return ask('recording', recordingOf(source), version, onProgress);
 }
 
@@ -252,7 +252,7 @@ function showRun(answer, version) {
     return;
   }
   onPaper = version;
-  showPaper(decode(answer.svg));
+  showPicture(answer.svg);
   firstPaper ||= performance.now();
 }
 
@@ -287,6 +287,17 @@ export function showPaper(svg) {
   paper.room.hidden = !paper.picture || !(paper.picture.sheets.length || paper.picture.notes);
   for (const what of ['lines', 'list']) readers[what].stale = nextText();
   fillReader(state.tabs.pages);
+}
+
+/** Shows the picture of the sheets; of one that is longer than a text can be in this browser it says so. */
+export function showPicture(bytes) {
+  let svg = '';
+  try { svg = decode(bytes); } catch { /* (it is too long) */ }
+  showPaper(svg);
+  if (svg || !bytes.length) return;
+  $('no-sheet').textContent = 'The picture of these sheets is longer than this browser can hold; “Lines” and “Page text” have all of them, and can be saved.';
+  $('no-sheet').hidden = false;
+  paper.room.hidden = true;
 }
 
 /** Fills the text of a tab, if it is the one that is seen. */
@@ -328,7 +339,17 @@ function showScript(answer) {
   else if (answer.code > 2) words('first', 'Memory ran out.');
   else tellStatuses(answer, words);
   if (answer.code <= 1) showScreenSoon(answer.screen);
+  if (answer.code > 1 && embedded) tellInFrame(told.querySelector('.first').firstChild.textContent);
   speakSoon();
+}
+
+/** Says in a frame of another page, which has no listing, why there is nothing to see. */
+function tellInFrame(words) {
+  clearPaper();
+  showWire(null);
+  cover(words);
+  $('no-sheet').textContent = words;
+  $('no-sheet').hidden = false;
 }
 
 /** How many characters the first bytes of a text are. */

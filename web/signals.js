@@ -62,6 +62,16 @@ export function meantBy(name, names) {
   return among(plain(name)) ?? (plain(name) === 'clock' ? among('clk') : undefined);
 }
 
+/** The name among those of a file that is chosen for a line, or undefined where none is yet. */
+const chosenName = (source, given, names) => meantBy(given, names) ?? names.find(name => wordOf(source, name) === given);
+
+/** Whether a dump or a table has names of signals and not each line has one of them yet. */
+export function lacksSignals(source) {
+  if (source.kind !== 'vcd' && source.kind !== 'csv') return false;
+  const names = signalNames(source);
+  return names.length > 0 && source.names.some(given => chosenName(source, given, names) === undefined);
+}
+
 /** A field with its label, before or after it. */
 function labelled(words, input, isAfter = false) {
   const label = document.createElement('label');
@@ -104,8 +114,7 @@ function numberField(value, read, act) {
 
 /** The choice of a line's signal among the names of the file. */
 function choiceOfSignal(source, line, names, again) {
-  const select = document.createElement('select'), given = source.names[line], word = name => wordOf(source, name);
-  const meant = meantBy(given, names) ?? names.find(name => word(name) === given);
+  const select = document.createElement('select'), given = source.names[line], word = name => wordOf(source, name), meant = chosenName(source, given, names);
   select.name = LINES[line];
   if (meant === undefined) select.add(new Option('choose …', given, true, true));
   for (const name of names) select.add(new Option(name, word(name), false, name === meant));

@@ -55,7 +55,13 @@ export function endLongJob() {
 export function coverProgress(what, next) {
   const bar = document.createElement('progress'), words = document.createElement('p');
   bar.setAttribute('aria-label', what);
-  const cancel = button('Cancel', () => { began = 0; restartWorker(); next(); });
+  const cancel = button('Cancel', () => {
+    began = 0;
+    cancel.disabled = true;
+    cover('Cancelling …', [cancel]);
+    restartWorker();
+    next();
+  });
   cover(`${what} …`, [bar, words, cancel]);
   return ({ done, words: said }) => { bar.value = done; words.textContent = said; };
 }
@@ -167,6 +173,13 @@ function hint() {
   if (matchMedia('(pointer: coarse)').matches) return 'Tap a frame for its marks.';
   const words = 'Point at the wave for its intervals; click a frame for its marks.';
   return followsPointer() ? words : `${words} In a trace this long pointing alone shows no marks and no line.`;
+}
+
+/** Says when what is pointed at elsewhere is on the wire, if the view of the wave does not have it. */
+export function tellOutside(span) {
+  if (wave.pointer) return;
+  $('under').className = '';
+  $('under').textContent = span ? `At ${(span[0] / 1000).toFixed(1)} ms, outside of the view.` : hint();
 }
 
 /** Shows what is under the pointer on the wave. */

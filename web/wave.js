@@ -9,6 +9,7 @@ import { ATN, CLOCK, DATA, delaysAt, edgeAt, Frames, halfOf, momentsOf } from '.
 const WIRES = [{ name: 'ATN', bit: ATN }, { name: 'CLOCK', bit: CLOCK }, { name: 'DATA', bit: DATA }];
 const NAMES_WIDTH = 58, RIGHT = 10;
 const BIT_WIDTH = 26;          // pixels: what the number and the value of a bit need
+const DIGIT_WIDTH = 14;        // pixels between the edges of CLOCK around them, so that they lie on neither
 
 /** A number with thin spaces between its thousands. */
 export const spaced = number => String(number).replace(/\B(?=(\d{3})+$)/g, '\u2009');
@@ -30,7 +31,7 @@ export class Wave {
   /** `onUnder` gets what is under the pointer, `onChoose` the index of the frame that is chosen, or -1. */
   constructor(canvas, onUnder, onChoose) {
     Object.assign(this, { canvas, onUnder, onChoose, frames: new Frames(), edges: null, delays: null, turns: [] });
-    Object.assign(this, { begin: 0, end: 0, from: 0, to: 1, moved: false, chosen: -1, pointer: null, mark: null, pointed: null });
+    Object.assign(this, { begin: 0, end: 0, from: 0, to: 1, moved: false, isWhole: false, chosen: -1, pointer: null, mark: null, pointed: null });
     // What is seen at first fits the width, so that frames have room for their names.
     whenResized(canvas, () => { if (this.edges && !this.moved) this.front(); else this.draw(); });
     whenSharper(() => this.draw());
@@ -54,7 +55,9 @@ export class Wave {
     const begin = edges.times.length ? edges.times[0] : 0;
     this.begin = Math.min(begin, 0);
     this.end = Math.max(last + Math.max((last - begin) * .01, 100), this.begin + 1000);
-    if (!this.moved || this.from >= this.end) this.front();
+    // (who saw all of a wave sees all of the next one)
+    if (this.moved && this.isWhole) this.all();
+    else if (!this.moved || this.from >= this.end) this.front();
     else this.draw();
   }
 
@@ -82,6 +85,7 @@ export class Wave {
     this.from = Math.min(Math.max(from, this.begin), this.end - width);
     this.to = this.from + width;
     this.moved ||= moved;
+    this.isWhole = width >= this.end - this.begin;
     this.draw();
   }
 
@@ -97,17 +101,17 @@ export class Wave {
 
   pan(part) { const width = this.to - this.from; this.see(this.from + part * width, this.to + part * width); }
 
-  /** Chooses a frame and shows it; `onChoose` is called if `tell`. */
+  /** Chooses a frame; where it is not seen the view moves to it, as wide as it is. `onChoose` is called if `tell`. */
   choose(index, tell = true) {
     this.chosen = index;
     this.span = null;
     const frame = this.frames.get(index);
     if (frame) {
-      const end = Number.isFinite(frame.end) ? frame.end : frame.look + 1000, long = end - frame.look;
-      // (where the frame is too narrow for its name, or wider than what is seen)
-      const seen = this.to - this.from, around = long * Math.max(this.width / this.nameWidth(frame) - 1, 1) / 2;
-      if (seen > long * Math.max((this.width + 1) / this.nameWidth(frame), 2) || seen < long * 1.2) this.see(frame.look - around, end + around);
-      else if (frame.look < this.from || end > this.to) this.see(frame.look + (long - this.to + this.from) / 2, frame.look + (long + this.to - this.from) / 2);
+      const end = Number.isFinite(frame.end) ? frame.end : frame.look + 1000, seen = this.to - this.from;
+      // (of a frame that is wider than the view a part is enough)
+      const isSeen = end - frame.look < seen ? frame.look >= this.from && end <= this.to : frame.look < this.to && end > this.from;
+      const from = Math.min((frame.look + end - seen) / 2, frame.look - seen * .05);
+      if (!isSeen) this.see(from, from + seen);
     }
     this.draw();
     if (tell) this.onChoose(index);
@@ -125,6 +129,13 @@ export class Wave {
     const isOwn = this.pointer && frames && frames[1] - frames[0] === 1;
     this.pointed = isOwn ? null : frames;
     this.draw();
+  }
+
+  /** When what is pointed at begins and ends, if that is outside of the view; or null. */
+  outside() {
+    if (!this.pointed || this.pointed[1] <= this.pointed[0]) return null;
+    const span = [this.frames.look(this.pointed[0]), Math.min(this.frames.end(this.pointed[1] - 1), this.end)];
+    return span[1] < this.from || span[0] > this.to ? span : null;
   }
 
   /** Puts the second cursor at a moment, from which times are measured; or takes it away (null). */
@@ -489,7 +500,7 @@ export class Wave {
       if (!frame.bits || (this.xOf(frame.last) - this.xOf(frame.pull)) / frame.bits < BIT_WIDTH) continue;
       for (let bit = 0; bit < frame.bits; bit++) {
         const rise = times[first + 2 * bit], fall = times[first + 2 * bit + 1] ?? this.end, x = (this.xOf(rise) + this.xOf(fall)) / 2;
-        if (!(rise < this.to && fall > this.from)) continue;
+        if (!(rise < this.to && fall > this.from) || this.xOf(fall) - this.xOf(rise) < DIGIT_WIDTH) continue;
         pen.fillStyle = this.ink('muted');
         pen.fillText(String(bit), x, top + 1.5 * each + 1);
         pen.fillStyle = this.ink('data');
@@ -577,6 +588,12 @@ export class Wave {
       pen.fillRect(NAMES_WIDTH + x, strip, 1, 8);
     }
     pen.globalAlpha = 1;
+    const outside = this.outside();
+    if (outside) {
+      const [left, right] = outside.map(moment => NAMES_WIDTH + (moment - this.begin) / whole * this.width);
+      pen.fillStyle = this.ink('found');
+      pen.fillRect(left - 1, strip - 2, Math.max(right - left, 3), 12);
+    }
     const x = NAMES_WIDTH + (this.from - this.begin) / whole * this.width, width = Math.max((this.to - this.from) / whole * this.width, 4);
     pen.strokeStyle = this.ink('accent');
     pen.lineWidth = 2;
