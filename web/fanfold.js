@@ -6,7 +6,6 @@ import { SHEET_TOP } from './sheets.js';
 const SHEET_WIDTH = 12600;         // nine and a half inches and a margin, in the picture's units
 export const SHEET_HEIGHT = 13860;      // eleven inches
 const EDGE = 630;                  // what is seen of the sheet before the first fold and of the one after the last; the strips with the holes
-export const PAPER_WIDTH = SHEET_WIDTH + 2 * EDGE;      // a sheet's paper and what is seen of the desk beside it
 const NAMESPACE = 'http://www.w3.org/2000/svg';
 
 /** How high the paper of a sheet is: whole sheets, and an edge of the paper above and below. */
@@ -26,7 +25,7 @@ export function arrange(picture, isStacked, enlarged = 1) {
     bottom = Math.max(bottom, SHEET_TOP + down + height);
   }
   if (!placed.length) return { sheets: placed, left: 0, width: picture.width, height: picture.height, notes: 0 };
-  const under = picture.height - SHEET_TOP - Math.max(...picture.sheets.map(sheet => sheet.height)), width = isStacked || placed.length === 1 ? PAPER_WIDTH : picture.width;
+  const under = picture.height - SHEET_TOP - Math.max(...picture.sheets.map(sheet => sheet.height)), width = isStacked || placed.length === 1 ? SHEET_WIDTH + 2 * EDGE : picture.width;
   return { sheets: placed, left: width === picture.width ? 0 : first.x - EDGE, width, height: bottom + under * enlarged, notes: bottom + under - picture.height };
 }
 

@@ -2,7 +2,7 @@
 // be seen; they are cut from its text, and nothing is drawn anew.
 
 import { DOT, LETTER_HEIGHT, markAt, MARKS_LEFT, MARKS_TOP, SHEET_TOP, sheetsOf, STEP } from './sheets.js';
-import { arrange, drawn, fanfold, PAPER_WIDTH, SHEET_HEIGHT, sheetAt } from './fanfold.js';
+import { arrange, drawn, fanfold, SHEET_HEIGHT, sheetAt } from './fanfold.js';
 import { whenResized, whenSharper } from './basics.js';
 import { HIGHEST } from './reader.js';
 
@@ -34,8 +34,8 @@ export class Paper {
     this.places = null;        // where the sheets lie
     this.enlarged = 1;         // how much larger the words below them are than in the picture, so that they can be read
     this.hasBars = false;      // whether the paper has green bars
-    this.size = 0;             // pixels of a pica; 0: the paper is as wide as there is room
-    this.isFitted = false;     // whether the printed width is, even where a dot has less than one of the screen's
+    this.size = 0;             // pixels of a pica; 0: the printed width is as wide as there is room
+    this.isFitted = false;     // whether it fits even where a dot has less than one of the screen's
     this.found = [];
     this.pointed = [];         // the marks that belong to what is pointed at
     this.focused = '';
@@ -134,11 +134,8 @@ export class Paper {
     this.room.replaceChildren(this.back, this.svg);
   }
 
-  /** The screen's dots that a dot of the printer has across where the paper fits the window; after `fit`, where the printed width does. */
-  fitting() {
-    const { clientWidth } = this.element, pixels = this.isFitted ? (clientWidth - 2 * MARGIN) / DOTS_ACROSS : clientWidth / PAPER_WIDTH * DOT;
-    return pixels * (devicePixelRatio || 1);
-  }
+  /** The screen's dots that a dot of the printer has across where the printed width fits the window. */
+  fitting() { return (this.element.clientWidth - 2 * MARGIN) * (devicePixelRatio || 1) / DOTS_ACROSS; }
 
   /**
    * The pixels of a unit, across and down. A dot has a whole number of the screen's dots, so that each is as sharp as the others, unless it
