@@ -107,8 +107,8 @@ named *.vcd or *.csv is read so without --from.
 --threshold with csv.
 Case and blanks around a name do not matter. Where no signal is called CLOCK,
 CLK is taken. After --invert any word but ATN, CLOCK, DATA or some of them, as
-in ATN,DATA, is the FILE. A table without a column of times has the rate of --rate, or of
-a remark such as `; Samplerate: 4 MHz`.
+in ATN,DATA, is the FILE. A table without a column of times has the rate of
+--rate, or of a remark such as `; Samplerate: 4 MHz`.
 
 Output: a line for each frame, `command 36`, `data 72` or `data 13 eoi`, then
 `lawful`. A story has the time when the talker offers each byte, the time when
