@@ -22,6 +22,7 @@ use Rattle.pr_options.specs.declared.outputs.CheckOutput.{CheckOutput}
 use Rattle.pr_options.specs.declared.outputs.CheckOutput.TheVariants as checked
 use Rattle.pr_options.specs.declared.outputs.DecodeOutput.{DecodeOutput}
 use Rattle.pr_options.specs.declared.outputs.DecodeOutput.TheVariants as reading
+use Rattle.pr_options.specs.declared.outputs.Hearing.{Hearing}
 use Rattle.pr_options.specs.declared.outputs.PagesOutput.{PagesOutput}
 use Rattle.pr_options.specs.declared.outputs.PagesOutput.TheVariants as output
 use Rattle.pr_capture.specs.Found.{found_source}
@@ -40,6 +41,7 @@ use Rattle.pr_jobs.specs.Report as check
 use Rattle.pr_jobs.specs.Raw.{AnswersRaw, IsRawFault}
 use Rattle.pr_recording.specs.declared.byte_log.Heard.{Heard}
 use Rattle.pr_recording.specs.declared.bytes.Overheard.{Overheard}
+use Rattle.pr_recording.specs.declared.listening.Listening.{Listening}
 use Rattle.pr_recording.specs.declared.pages.Reprinted.{Reprinted}
 use Rattle.pr_recording.specs.declared.wording.Wording.TheVariants.{Lines}
 use Rattle.pr_recording.specs.Bytes.{AnswersBytes, HasReadBytes}
@@ -149,6 +151,10 @@ abbrev pub AnswersTraced :
 AnswersTraced located start f text old new result =
     IsRan located (AnswersBus start f text old new) (AnswersBusAs start f text old new) result
 
+-- the printers that listen when a recording begins
+abbrev pub listening_of : Hearing → Listening
+listening_of h = record { printers = h.listening; lower = h.lower }
+
 -- what `decode` answers: the readings of a recording, the bytes that a printer hears in it, or the pages that printers print of it
 abbrev pub AnswersRecording :
     Shapes → TraceInput → DecodeOutput → List ℕ → Option (List ℕ) → Option (List ℕ) → Result Answer CliFault → Type 0
@@ -156,10 +162,10 @@ AnswersRecording shapes input (reading.Readings detail) text old new result =
     IsDone (AnswersDecode trace_limit (Lines detail) input text old new) result
 AnswersRecording shapes input reading.Json text old new result =
     IsRemarked (AnswersDecodeJson input text old new) result
-AnswersRecording shapes input (reading.Bytes device) text old new result =
-    IsOverheard (AnswersBytes input device text old new) result
-AnswersRecording shapes input (reading.Pages f) text old new result =
-    IsReprinted (reprint.AnswersPages shapes input f text old new) result
+AnswersRecording shapes input (reading.Bytes device hearing) text old new result =
+    IsOverheard (AnswersBytes input (listening_of hearing) device text old new) result
+AnswersRecording shapes input (reading.Pages f hearing) text old new result =
+    IsReprinted (reprint.AnswersPages shapes input (listening_of hearing) f text old new) result
 
 -- the answer of a job, by the input's bytes and by what the writer held before and after; for a run
 -- they are the bytes of a script text, also where the listing has another form; the format of a
@@ -246,7 +252,7 @@ IsPrintFault (output.Bytes device) fault = IsRunFault fault
 
 -- a fault of a recording, and of its pages where they are asked for
 abbrev pub IsRecordingFault : DecodeOutput → CliFault → Type 0
-IsRecordingFault (reading.Pages f) fault = reprint.IsReprintFault fault
+IsRecordingFault (reading.Pages f hearing) fault = reprint.IsReprintFault fault
 IsRecordingFault _ fault = IsDecodeFault fault
 
 -- a fault of the job; lack of memory is always `NoMemory` itself
@@ -259,8 +265,8 @@ IsJobFault (Raw lower f) fault = IsRawFault fault
 
 -- a recording has been read to its end, unless it has a fault
 abbrev pub ReadsRecording : DecodeOutput → Option (List ℕ) → Result Answer CliFault → Type 0
-ReadsRecording (reading.Bytes device) left result = IsOverheard (HasReadBytes left) result
-ReadsRecording (reading.Pages f) left result = IsReprinted (reprint.ReadsPages left) result
+ReadsRecording (reading.Bytes device hearing) left result = IsOverheard (HasReadBytes left) result
+ReadsRecording (reading.Pages f hearing) left result = IsReprinted (reprint.ReadsPages left) result
 ReadsRecording reading.Json left result = IsRemarked (λ answer. decode.ReadsAll left (without_odd answer)) result
 ReadsRecording _ left result = IsDone (decode.ReadsAll left) result
 

@@ -252,7 +252,7 @@ fn is_for_a_file(job: &Job<'_>) -> bool {
             _,
             PagesOutput::Pages(Format::Png(_) | Format::Pdf(_))
         ) | Job::Decode {
-            output: DecodeOutput::Pages(Format::Png(_) | Format::Pdf(_)),
+            output: DecodeOutput::Pages(Format::Png(_) | Format::Pdf(_), _),
             ..
         } | Job::Raw {
             format: Format::Png(_) | Format::Pdf(_),

@@ -47,7 +47,10 @@ const BOTH: Present = Present {
 const LISTED: &str = "--as list shows where";
 
 /// What it says to do about those that come before anybody is called.
-const EARLIER: &str = "begin the recording earlier";
+const FOUR_LISTENING: &str = "--listening 4 has printer 4 listen from the start";
+
+/// The same where printer 5 alone is shown.
+const FIVE_LISTENING: &str = "--listening 5 has printer 5 listen from the start";
 
 /// What it says to do about one that the recording's end cuts.
 const LONGER: &str = "record for longer";
@@ -119,11 +122,11 @@ pub fn drawn_by(job: &Job<'_>) -> Present {
     match job {
         Job::Pages(_, present, _, _, PagesOutput::Pages(format)) => drawn_in(*format, *present),
         Job::Decode {
-            output: DecodeOutput::Pages(format),
+            output: DecodeOutput::Pages(format, _),
             ..
         } => drawn_in(*format, BOTH),
         Job::Decode {
-            output: DecodeOutput::Bytes(device),
+            output: DecodeOutput::Bytes(device, _),
             ..
         } => shown_of(Some(*device), BOTH),
         _ => NO_PRINTER,
@@ -164,20 +167,20 @@ fn note_marks(rt: &impl Eprint, printer: u8, held: HeldMarks) {
 
 /// Writes what the pages of these printers lack that a recording has.
 pub fn note_reprinted(rt: &impl Eprint, said: Reprinted, drawn: Present) {
-    note_left(rt, said.left);
+    note_left(rt, said.left, drawn);
     note_nothing(rt, drawn, said.present);
     note_held(rt, said.end, drawn);
 }
 
 /// Writes what the bytes of this printer lack that a recording has.
 pub fn note_overheard(rt: &impl Eprint, said: Overheard, drawn: Present) {
-    note_left(rt, said.left);
+    note_left(rt, said.left, drawn);
     let heard = if said.has_byte { BOTH } else { NO_PRINTER };
     note_nothing(rt, drawn, heard);
 }
 
 /// Writes a note of each kind of bytes that are left out.
-fn note_left(rt: &impl Eprint, left: LeftOut) {
+fn note_left(rt: &impl Eprint, left: LeftOut, drawn: Present) {
     let lost = ("byte is", "bytes are");
     note_count(
         rt,
@@ -194,7 +197,12 @@ fn note_left(rt: &impl Eprint, left: LeftOut) {
     let cut = if left.has_cut { 1 } else { 0 };
     note_count(rt, cut, lost, " that the recording's end cuts", LONGER);
     let data = ("data byte is", "data bytes are");
-    note_count(rt, left.early, data, ", from before any LISTEN", EARLIER);
+    let listening = if drawn.four {
+        FOUR_LISTENING
+    } else {
+        FIVE_LISTENING
+    };
+    note_count(rt, left.early, data, ", from before any LISTEN", listening);
 }
 
 /// Writes a note of bytes that are left out, if there are any: how many, which, why, and what to do.

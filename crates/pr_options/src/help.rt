@@ -142,7 +142,9 @@ intervals. With --bounds guide they and the verdict are by the Guide alone, for
 real hardware. Both go with the list alone; json has a line for each byte with
 all its intervals.
 Or the pages that printers 4 and 5 print of the bytes; or with --as bytes the
-bytes that printer 4 hears, or the one of --device, for `print1525 raw`.
+bytes that printer 4 hears, or the one of --device, for `print1525 raw`. Notes
+on standard error say what they leave out of the recording. If it begins after
+LISTEN, --listening 4 prints its first bytes, with the character set of --set.
 A recording that cannot be read is refused at its first fault, after the lines
 of what comes before it.
 
