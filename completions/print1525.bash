@@ -54,7 +54,7 @@ _print1525() {
                 pages) words='-o --output --from --present --delays --status --as --explain -q --quiet --device --sheet --characters -h --help' ;;
                 bus) words='-o --output --from --present --delays --status --as --explain -q --quiet -h --help' ;;
                 check) words='-o --output --from --names --invert --from-time --rate --as --explain -q --quiet -h --help' ;;
-                decode) words='-o --output --from --names --invert --from-time --rate --as --explain -q --quiet --device --sheet --characters --intervals --bounds --listening --set -h --help' ;;
+                decode) words='-o --output --from --names --invert --from-time --rate --as --explain -q --quiet --device --sheet --characters --intervals --bounds --listening --set --strict -h --help' ;;
                 raw) words='-o --output --set --as --explain -q --quiet --device --sheet --characters -h --help' ;;
                 esac
             fi

@@ -52,6 +52,7 @@ complete -c print1525 -n '__fish_seen_subcommand_from decode' -l intervals -d 'L
 complete -c print1525 -n '__fish_seen_subcommand_from decode' -l bounds -x -a 'profile guide' -d 'Bounds of intervals and of the verdict: profile (this project\'s) or guide (those of the Programmer\'s Reference Guide)'
 complete -c print1525 -n '__fish_seen_subcommand_from decode' -l listening -x -d '4, 5 or 4,5: the printers that listen when the recording begins, as if it began with LISTEN'
 complete -c print1525 -n '__fish_seen_subcommand_from decode' -l set -x -a 'upper lower' -d 'The character set selected before the first byte: upper (graphic/upper case) or lower (lower/upper case)'
+complete -c print1525 -n '__fish_seen_subcommand_from decode' -l strict -d 'Ends with status 1 where pages or bytes leave out something of the recording, as notes say it'
 complete -c print1525 -n '__fish_seen_subcommand_from raw' -s o -l output -r -F -d 'The file to write, which is replaced when the text is whole [default: standard output, as with -]'
 complete -c print1525 -n '__fish_seen_subcommand_from raw' -l set -x -a 'upper lower' -d 'The character set selected before the first byte: upper (graphic/upper case) or lower (lower/upper case)'
 complete -c print1525 -n '__fish_seen_subcommand_from raw' -l as -x -a 'list text svg png pdf' -d 'list (every mark with its place), text (lines for a terminal), svg (a picture), png (a sheet as a bitmap) or pdf (sheets to print)'

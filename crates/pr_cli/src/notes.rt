@@ -1,5 +1,6 @@
 //! Notes: what is lawful and probably not what was meant, a line each on standard error.
 
+use crate::lacking::{BOTH, hears, holds};
 use pr_basic::cut_line;
 use pr_jobs::{HeldMarks, PagesEnd, shown_of};
 use pr_listing::{ListingForm, has_typed_strings, looks_like_disk, looks_saved};
@@ -35,12 +36,6 @@ const DISK_BYTES: &str = "this looks like an image of a disk, and not like a pri
 const NO_PRINTER: Present = Present {
     four: false,
     five: false,
-};
-
-/// Both printers.
-const BOTH: Present = Present {
-    four: true,
-    five: true,
 };
 
 /// What a note says to do about bytes that the list has.
@@ -155,7 +150,7 @@ pub fn note_held(rt: &impl Eprint, pages: PagesEnd, drawn: Present) {
 
 /// Writes a note of the marks that a printer holds, if there are any.
 fn note_marks(rt: &impl Eprint, printer: u8, held: HeldMarks) {
-    if held.characters == 0 && held.columns == 0 {
+    if !holds(held) {
         return;
     }
     let marks = Unprinted(held);
@@ -217,7 +212,7 @@ fn note_count(rt: &impl Eprint, count: u64, which: (&str, &str), why: &str, advi
 
 /// Writes a note where none of these printers hears a byte.
 fn note_nothing(rt: &impl Eprint, drawn: Present, heard: Present) {
-    if (drawn.four && heard.four) || (drawn.five && heard.five) {
+    if hears(drawn, heard) {
         return;
     }
     let printers = match (drawn.four, drawn.five) {

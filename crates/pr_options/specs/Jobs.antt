@@ -211,7 +211,7 @@ unmeasured rows =
 
 -- an option is given that only pages and bytes can have
 abbrev pub wants_printers : List Row → Bool
-wants_printers rows = is_given opt.Listening rows || is_given opt.Set rows
+wants_printers rows = is_given opt.Listening rows || (is_given opt.Set rows || is_given opt.Strict rows)
 
 -- no option of pages and bytes is given
 abbrev pub unprinted : List Row → Result (Unit {0}) JobFault
@@ -221,10 +221,12 @@ unprinted rows =
 
 -- a character set goes with printers that listen at first: any other is called, which selects one
 abbrev pub hearing : (lower : Bool) → (listening : Option Present) → List Row → Result Hearing JobFault
-hearing lower None rows = if is_given opt.Set rows then Err fault.NoListener else Ok unhearing
-hearing lower (Some printers) rows = Ok (record { listening = printers; lower = lower })
+hearing lower None rows = if is_given opt.Set rows then Err fault.NoListener
+    else Ok (record unhearing { is_strict = is_given opt.Strict rows })
+hearing lower (Some printers) rows =
+    Ok (record { listening = printers; lower = lower; is_strict = is_given opt.Strict rows })
 
--- what is known of printers when a recording begins
+-- how what printers hear of a recording is written
 abbrev pub wanted_hearing : (lower : Bool) → List Row → Result Hearing JobFault
 wanted_hearing lower rows = read_if_given opt.Listening listening_of rows >>= λ listening. hearing lower listening rows
 

@@ -73,7 +73,7 @@ listening_of = meaning_of ((codes "4", record { four = true; five = false })
 
 -- no printer listens then
 abbrev pub unhearing : Hearing
-unhearing = record { listening = record { four = false; five = false }; lower = false }
+unhearing = record { listening = record { four = false; five = false }; lower = false; is_strict = false }
 
 -- the output of `decode`: its readings as a list or as json, the bytes that a printer hears, or a format of the pages;
 -- a list without intervals, by this project's bounds, and bytes of printer 4, and no printer listens at first, if no

@@ -114,8 +114,8 @@ pub enum JobFault {
     /// `--intervals` or `--bounds` is given where no list of readings is written.
     #[error("--intervals and --bounds go with --as list")]
     NoReadings,
-    /// `--listening` or `--set` of `decode` is given where neither pages nor bytes are written.
-    #[error("--listening and --set go with --as text, svg, png, pdf or bytes")]
+    /// `--listening`, `--set` or `--strict` of `decode` is given where neither pages nor bytes are written.
+    #[error("--listening, --set and --strict go with --as text, svg, png, pdf or bytes")]
     NoPages,
     /// `--set` of `decode` is given where no printer listens at first.
     #[error("--set goes with --listening")]

@@ -26,6 +26,7 @@ PRINT1525_EXPLAIN=1 in the environment asks for the same as --explain.
 Exit status:
   0  done
   1  a BASIC error stopped the run; what was printed until then is written
+     (decode --strict: something of the recording is left out)
   2  the input or the command line is refused, with a line on standard error
   3  memory ran out, or a file cannot be opened, read or written
 
@@ -148,8 +149,8 @@ LISTEN, --listening 4 prints its first bytes, with the character set of --set.
 A recording that cannot be read is refused at its first fault, after the lines
 of what comes before it.
 
-Exit status: 0 read to its end, 2 refused, 3 memory ran out or a file cannot be
-opened, read or written.
+Exit status: 0 read to its end, 1 with --strict where something is left out, 2
+refused, 3 memory ran out or a file cannot be opened, read or written.
 
 Example:
   print1525 decode --intervals --bounds guide session.vcd

@@ -101,6 +101,7 @@ pub const UNHEARING: Hearing = Hearing {
         five: false,
     },
     lower: false,
+    is_strict: false,
 };
 
 /// The output of `decode`: its readings as a `list` or as `json`, the `bytes` that a printer hears, or a format of the

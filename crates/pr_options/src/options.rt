@@ -99,6 +99,7 @@ impl Subcommand {
                 Opt::Bounds,
                 Opt::Listening,
                 Opt::Set,
+                Opt::Strict,
             ],
             Subcommand::Raw => &[
                 Opt::Set,
@@ -167,6 +168,8 @@ pub enum Opt {
     Bounds,
     /// The printers that listen when a recording begins.
     Listening,
+    /// A flag: it is no success where something of a recording is left out.
+    Strict,
 }
 
 /// What follows the name of an option.
@@ -494,6 +497,9 @@ const LISTENING_HELP: &str = "4, 5 or 4,5: the printers that listen when the\n\
 
 const LISTENING_VALUES: &str = "4, 5 or 4,5";
 
+const STRICT_HELP: &str = "Ends with status 1 where pages or bytes leave out\n\
+     something of the recording, as notes say it";
+
 /// The row of an option with a value that no file's name gives.
 fn valued(
     name: &'static str,
@@ -618,6 +624,7 @@ impl Opt {
                 LISTENING_VALUES,
                 LISTENING_HELP,
             ),
+            Opt::Strict => bare(Kind::Flag, "strict", "", STRICT_HELP),
         }
     }
 }

@@ -22,13 +22,15 @@ pub enum CheckOutput {
     Json,
 }
 
-/// What is known of printers when a recording begins.
+/// How what printers hear of a recording is written.
 #[derive(Clone, Copy, Debug, PartialEq, Eq)]
 pub struct Hearing {
     /// The printers that listen then.
     pub listening: Present,
     /// Their character set is lower/upper case then, else graphic/upper case.
     pub lower: bool,
+    /// The program ends otherwise where something of the recording is left out.
+    pub is_strict: bool,
 }
 
 /// What `decode` writes of a recording.

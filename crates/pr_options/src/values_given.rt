@@ -181,7 +181,7 @@ pub fn decode_output_in(
     }
 }
 
-/// What is known of printers when a recording begins.
+/// How what printers hear of a recording is written.
 fn hearing_in(lower: bool, options: &ArgMatches<'_>) -> Result<Hearing, JobFault>
     ensures value { result ≡ wanted_hearing lower (rows_of (found_of options.now)) }
     ensures own { IfErr result IsOwn }
@@ -200,10 +200,18 @@ fn hearing(
     ensures value { result ≡ hearing lower listening (rows_of (found_of options.now)) }
     ensures own { IfErr result IsOwn }
 {
+    let is_strict = is_given(options, Opt::Strict);
     match listening {
-        Some(listening) => Ok(Hearing { listening, lower }),
+        Some(listening) => Ok(Hearing {
+            listening,
+            lower,
+            is_strict,
+        }),
         None if is_given(options, Opt::Set) => Err(JobFault::NoListener),
-        None => Ok(UNHEARING),
+        None => Ok(Hearing {
+            is_strict,
+            ..UNHEARING
+        }),
     }
 }
 
@@ -235,7 +243,9 @@ fn unprinted(options: &ArgMatches<'_>) -> Result<(), JobFault>
 fn wants_printers(options: &ArgMatches<'_>) -> bool
     ensures { result ≡ wants_printers (rows_of (found_of options.now)) }
 {
-    is_given(options, Opt::Listening) || is_given(options, Opt::Set)
+    is_given(options, Opt::Listening)
+        || is_given(options, Opt::Set)
+        || is_given(options, Opt::Strict)
 }
 
 /// What of the intervals of readings is written. Readings are no pictures: they show no part and draw no characters.
