@@ -43,6 +43,8 @@ _print1525() {
         decode/--device) words='4 5' ;;
         decode/--sheet) return ;;
         decode/--bounds) words='profile guide' ;;
+        decode/--listening) return ;;
+        decode/--set) words='upper lower' ;;
         raw/--set) words='upper lower' ;;
         raw/--as) words='list text svg png pdf' ;;
         raw/--device) words='4 5' ;;
@@ -54,7 +56,7 @@ _print1525() {
                 pages) words='-o --output --from --present --delays --status --as --explain -q --quiet --device --sheet --characters -h --help' ;;
                 bus) words='-o --output --from --present --delays --status --as --explain -q --quiet -h --help' ;;
                 check) words='-o --output --from --names --invert --from-time --rate --threshold --as --explain -q --quiet -h --help' ;;
-                decode) words='-o --output --from --names --invert --from-time --rate --threshold --as --explain -q --quiet --device --sheet --characters --intervals --bounds -h --help' ;;
+                decode) words='-o --output --from --names --invert --from-time --rate --threshold --as --explain -q --quiet --device --sheet --characters --intervals --bounds --listening --set --strict -h --help' ;;
                 raw) words='-o --output --set --as --explain -q --quiet --device --sheet --characters -h --help' ;;
                 esac
             fi

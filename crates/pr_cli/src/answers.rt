@@ -4,12 +4,13 @@ ghost use Rattle.std.specs.Prelude.{◌≡◌, None, take, IfErr, IfOk, IfSome};
 ghost use Rattle.std.specs.Io.KnownBytes.{Consumes};
 ghost use Rattle.pr_input.specs.Watched.{wrapped};
 ghost use Rattle.pr_cli.specs.Answered.{EndsTask};
-ghost use Rattle.pr_cli.specs.Jobs.{EndsJob, EndsListing, EndsRecording, EndsWork, finds_format, first_bytes, form_of, found_job, started_job};
-ghost use Rattle.pr_cli.specs.Statuses.{answer_end, fault_status, job_end, status_of};
+ghost use Rattle.pr_cli.specs.Jobs.{EndsJob, EndsListing, EndsRecording, EndsWork, finds_format, first_bytes, form_of, found_job, started_job, strict_of};
+ghost use Rattle.pr_cli.specs.Statuses.{answer_end, fault_status, job_end, status_of, strict_end};
 ghost use Rattle.pr_cli.specs.declared.statuses.End.TheVariants as end;
 
 use crate::characters::{shapes_for, shapes_given};
 use crate::jobs::{Answer, do_job, found_job};
+use crate::lacking::strict_of;
 use crate::notes::{
     ListingNote, drawn_by, note_held, note_listing, note_overheard, note_reprinted, note_stop,
     petcat_note, program_note,
@@ -255,7 +256,7 @@ fn is_for_a_file(job: &Job<'_>) -> bool {
             _,
             PagesOutput::Pages(Format::Png(_) | Format::Pdf(_))
         ) | Job::Decode {
-            output: DecodeOutput::Pages(Format::Png(_) | Format::Pdf(_)),
+            output: DecodeOutput::Pages(Format::Png(_) | Format::Pdf(_), _),
             ..
         } | Job::Raw {
             format: Format::Png(_) | Format::Pdf(_),
@@ -589,6 +590,7 @@ fn answer_over<R: Read + Drop, W: Write + Drop>(
     } = work;
     let subject = subject_of(&job);
     let drawn = drawn_by(&job);
+    let strict = strict_of(&job);
     let is_kept = !aside.is_file && (aside.is_explained || (aside.is_noted && has_notes(subject)));
     let kept = TeeReader::new(rt.alloc(), reader, is_kept);
     let mut input = Watched::new(Noting::new(kept));
@@ -598,7 +600,7 @@ fn answer_over<R: Read + Drop, W: Write + Drop>(
     let input = input.into_inner();
     let output = output.into_inner();
     let errors = (input.error(), output.error());
-    let end = tell_end(rt, subject, names, answer, errors, aside.is_quiet);
+    let end = tell_end(rt, subject, names, answer, errors, strict, aside.is_quiet);
     if aside.is_advised {
         advise_on(rt, answer, end);
     }
@@ -702,13 +704,17 @@ fn tell_end(
     names: Names<'_>,
     answer: Result<Answer, CliFault>,
     errors: (Option<Error>, Option<Error>),
+    strict: Option<Present>,
     is_quiet: bool,
 ) -> End
-    ensures { result ≡ job_end answer }
+    ensures { result ≡ job_end strict answer }
 {
     let (read_error, write_error) = errors;
     match answer {
-        Ok(answer) => tell_answer(rt, subject, answer, is_quiet),
+        Ok(answer) => {
+            let end = tell_answer(rt, subject, answer, is_quiet);
+            strict_end(strict, answer, end)
+        }
         Err(CliFault::ReadFailed) => {
             tell_failed(rt, CliFault::ReadFailed, names.input, read_error)
         }
@@ -719,7 +725,17 @@ fn tell_end(
     }
 }
 
-/// Gives how a job with this answer ends. Unless it is quiet, it notes first where the bytes of a printer do not say in
+/// How a job with this answer ends that is to lack nothing of these printers, where it would end so otherwise.
+fn strict_end(strict: Option<Present>, answer: Answer, end: End) -> End
+    ensures { end ≡ answer_end answer → result ≡ strict_end strict answer }
+{
+    match strict {
+        Some(shown) if answer.lacks(shown) => End::Lacking,
+        _ => end,
+    }
+}
+
+/// Gives how a job with this answer ends, strict or not. Unless it is quiet, it notes first where the bytes of a printer do not say in
 /// which character set they are printed, and then what is odd about a recording that was not listed.
 fn tell_answer(
     rt: &(impl Eprint + AllocGlobal),

@@ -6,7 +6,7 @@ ghost use Rattle.pr_jobs.specs.Does.{AreFresh, DoesJob};
 ghost use Rattle.pr_jobs.specs.Pages.{AnswersPages, IsRunFault, ReadsToEnd, WritesNothing};
 ghost use Rattle.pr_jobs.specs.Report.{IsReportFault};
 ghost use Rattle.pr_input.specs.Watched.{wrapped};
-ghost use Rattle.pr_cli.specs.Jobs.{AnswersJob, AnswersRecording, AnswersRun, AnswersTrace, AnswersTraced, IsJobFault, IsPrintFault, IsRecordingFault, KeepsOutput, KeepsRun, KeepsTrace, ReadsInput, ReadsRecording, ReadsTrace, found_job, restarted_job};
+ghost use Rattle.pr_cli.specs.Jobs.{AnswersJob, AnswersRecording, AnswersRun, AnswersTrace, AnswersTraced, IsJobFault, IsPrintFault, IsRecordingFault, KeepsOutput, KeepsRun, KeepsTrace, ReadsInput, ReadsRecording, ReadsTrace, found_job, listening_of, restarted_job};
 
 use pr_capture::{Source, TraceFormat, TraceInput, found_source};
 use pr_dots::Shapes;
@@ -14,9 +14,9 @@ use pr_jobs::{
     CliFault, Ending, PagesEnd, RunEnd, Start, Watched, bus_as_over, bus_over, check_as_over,
     check_over, pages_as_over, pages_over, raw_over,
 };
-use pr_options::{CheckOutput, DecodeOutput, Job, PagesOutput};
+use pr_options::{CheckOutput, DecodeOutput, Hearing, Job, PagesOutput};
 use pr_recording::{
-    Heard, Overheard, Reprinted, Wording, bytes_over, check_json_over, decode_json_over,
+    Heard, Listening, Overheard, Reprinted, Wording, bytes_over, check_json_over, decode_json_over,
     decode_over, reprint_over, run_bytes_over,
 };
 use pr_render::Format;
@@ -339,13 +339,26 @@ fn decode_recording<R: Read, W: Write>(
             let odd = decode_json_over(alloc, input, output, trace)?;
             Ok(Answer::Remarked(odd))
         }
-        DecodeOutput::Bytes(device) => {
-            let said = bytes_over(alloc, input, output, trace, device)?;
+        DecodeOutput::Bytes(device, hearing) => {
+            let listening = listening_of(hearing);
+            let said = bytes_over(alloc, input, output, trace, listening, device)?;
             Ok(Answer::Overheard(said))
         }
-        DecodeOutput::Pages(format) => {
-            let said = reprint_over(alloc, input, output, trace, format, shapes)?;
+        DecodeOutput::Pages(format, hearing) => {
+            let listening = listening_of(hearing);
+            let said = reprint_over(alloc, input, output, trace, listening, format, shapes)?;
             Ok(Answer::Reprinted(said))
         }
+    }
+}
+
+/// The printers that listen when a recording begins.
+fn listening_of(hearing: Hearing) -> Listening
+    ensures { result ≡ listening_of hearing }
+{
+    let Hearing { listening, lower } = hearing;
+    Listening {
+        printers: listening,
+        lower,
     }
 }

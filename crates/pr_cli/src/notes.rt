@@ -1,5 +1,6 @@
 //! Notes: what is lawful and probably not what was meant, a line each on standard error.
 
+use crate::lacking::{BOTH, hears, holds};
 use pr_basic::cut_line;
 use pr_capture::TraceInput;
 use pr_explain::unit_meant;
@@ -65,17 +66,14 @@ const NO_PRINTER: Present = Present {
     five: false,
 };
 
-/// Both printers.
-const BOTH: Present = Present {
-    four: true,
-    five: true,
-};
-
 /// What a note says to do about bytes that the list has.
 const LISTED: &str = "--as list shows where";
 
 /// What it says to do about those that come before anybody is called.
-const EARLIER: &str = "begin the recording earlier";
+const FOUR_LISTENING: &str = "--listening 4 has printer 4 listen from the start";
+
+/// The same where printer 5 alone is shown.
+const FIVE_LISTENING: &str = "--listening 5 has printer 5 listen from the start";
 
 /// What it says to do about one that the recording's end cuts.
 const LONGER: &str = "record for longer";
@@ -188,11 +186,11 @@ pub fn drawn_by(job: &Job<'_>) -> Present {
     match job {
         Job::Pages(_, present, _, _, PagesOutput::Pages(format)) => drawn_in(*format, *present),
         Job::Decode {
-            output: DecodeOutput::Pages(format),
+            output: DecodeOutput::Pages(format, _),
             ..
         } => drawn_in(*format, BOTH),
         Job::Decode {
-            output: DecodeOutput::Bytes(device),
+            output: DecodeOutput::Bytes(device, _),
             ..
         } => shown_of(Some(*device), BOTH),
         _ => NO_PRINTER,
@@ -221,7 +219,7 @@ pub fn note_held(rt: &impl Eprint, pages: PagesEnd, drawn: Present) {
 
 /// Writes a note of the marks that a printer holds, if there are any.
 fn note_marks(rt: &impl Eprint, printer: u8, held: HeldMarks) {
-    if held.characters == 0 && held.columns == 0 {
+    if !holds(held) {
         return;
     }
     let marks = Unprinted(held);
@@ -233,20 +231,20 @@ fn note_marks(rt: &impl Eprint, printer: u8, held: HeldMarks) {
 
 /// Writes what the pages of these printers lack that a recording has.
 pub fn note_reprinted(rt: &impl Eprint, said: Reprinted, drawn: Present) {
-    note_left(rt, said.left);
+    note_left(rt, said.left, drawn);
     note_nothing(rt, drawn, said.present);
     note_held(rt, said.end, drawn);
 }
 
 /// Writes what the bytes of this printer lack that a recording has.
 pub fn note_overheard(rt: &impl Eprint, said: Overheard, drawn: Present) {
-    note_left(rt, said.left);
+    note_left(rt, said.left, drawn);
     let heard = if said.has_byte { BOTH } else { NO_PRINTER };
     note_nothing(rt, drawn, heard);
 }
 
 /// Writes a note of each kind of bytes that are left out.
-fn note_left(rt: &impl Eprint, left: LeftOut) {
+fn note_left(rt: &impl Eprint, left: LeftOut, drawn: Present) {
     let lost = ("byte is", "bytes are");
     note_count(
         rt,
@@ -263,7 +261,12 @@ fn note_left(rt: &impl Eprint, left: LeftOut) {
     let cut = if left.has_cut { 1 } else { 0 };
     note_count(rt, cut, lost, " that the recording's end cuts", LONGER);
     let data = ("data byte is", "data bytes are");
-    note_count(rt, left.early, data, ", from before any LISTEN", EARLIER);
+    let listening = if drawn.four {
+        FOUR_LISTENING
+    } else {
+        FIVE_LISTENING
+    };
+    note_count(rt, left.early, data, ", from before any LISTEN", listening);
 }
 
 /// Writes a note of bytes that are left out, if there are any: how many, which, why, and what to do.
@@ -278,7 +281,7 @@ fn note_count(rt: &impl Eprint, count: u64, which: (&str, &str), why: &str, advi
 
 /// Writes a note where none of these printers hears a byte.
 fn note_nothing(rt: &impl Eprint, drawn: Present, heard: Present) {
-    if (drawn.four && heard.four) || (drawn.five && heard.five) {
+    if hears(drawn, heard) {
         return;
     }
     let printers = match (drawn.four, drawn.five) {

@@ -31,6 +31,7 @@ use Rattle.pr_report.specs.declared.detail.Bounds.{Bounds}
 use Rattle.pr_report.specs.declared.detail.Bounds.TheVariants.{Profile, Guide}
 use Rattle.pr_options.specs.declared.outputs.DecodeOutput.{DecodeOutput}
 use Rattle.pr_options.specs.declared.outputs.DecodeOutput.TheVariants as reading
+use Rattle.pr_options.specs.declared.outputs.Hearing.{Hearing}
 use Rattle.pr_options.specs.declared.outputs.PagesOutput.{PagesOutput}
 use Rattle.pr_options.specs.declared.outputs.PagesOutput.TheVariants as pages
 
@@ -69,14 +70,25 @@ abbrev pub pages_output_of : Text → Option PagesOutput
 pages_output_of text =
     if bytes_eq text (codes "bytes") then Some (pages.Bytes device.Four) else option_map (λ format. pages.Pages format) (format_of text)
 
+-- which printers listen when a recording begins: 4, 5 or 4,5
+abbrev pub listening_of : Text → Option Present
+listening_of = meaning_of ((codes "4", record { four = true; five = false })
+    ∷ (codes "5", record { four = false; five = true })
+    ∷ (codes "4,5", record { four = true; five = true }) ∷ [])
+
+-- no printer listens then
+abbrev pub unhearing : Hearing
+unhearing = record { listening = record { four = false; five = false }; lower = false; is_strict = false }
+
 -- the output of `decode`: its readings as a list or as json, the bytes that a printer hears, or a format of the pages;
--- a list without intervals, by this project's bounds, and bytes of printer 4, if no option says more
+-- a list without intervals, by this project's bounds, and bytes of printer 4, and no printer listens at first, if no
+-- option says more
 abbrev pub decode_output_of : Text → Option DecodeOutput
 decode_output_of text =
     if bytes_eq text (codes "list") then Some (reading.Readings (record { intervals = false; bounds = Profile }))
     else (if bytes_eq text (codes "json") then Some reading.Json
-    else (if bytes_eq text (codes "bytes") then Some (reading.Bytes device.Four)
-    else option_map (λ format. reading.Pages format) (format_of text)))
+    else (if bytes_eq text (codes "bytes") then Some (reading.Bytes device.Four unhearing)
+    else option_map (λ format. reading.Pages format unhearing) (format_of text)))
 
 -- the bounds that intervals are measured against: this project's profile or the Programmer's Reference Guide
 abbrev pub bounds_of : Text → Option Bounds

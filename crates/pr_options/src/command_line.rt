@@ -114,6 +114,12 @@ pub enum JobFault {
     /// `--intervals` or `--bounds` is given where no list of readings is written.
     #[error("--intervals and --bounds go with --as list")]
     NoReadings,
+    /// `--listening`, `--set` or `--strict` of `decode` is given where neither pages nor bytes are written.
+    #[error("--listening, --set and --strict go with --as text, svg, png, pdf or bytes")]
+    NoPages,
+    /// `--set` of `decode` is given where no printer listens at first.
+    #[error("--set goes with --listening")]
+    NoListener,
     /// Memory was refused.
     #[error("out of memory")]
     NoMemory,
@@ -198,8 +204,8 @@ impl From<DelayFault> for JobFault {
 /// only for words that clap takes, and report the first bad value: of [`JobFault::BadPresent`],
 /// [`JobFault::BadDelays`], [`JobFault::BadStatus`] and then of [`JobFault::Bad`], in the order of [`Opt`]. What does
 /// not go together comes after the values that it is judged by: [`JobFault::NoRecording`] and [`JobFault::NoTable`]
-/// after [`Opt::Threshold`], [`JobFault::NoPart`] and [`JobFault::NoPicture`] after [`Opt::Sheet`], and
-/// [`JobFault::NoReadings`] at last.
+/// after [`Opt::Threshold`], [`JobFault::NoPart`] and [`JobFault::NoPicture`] after [`Opt::Sheet`],
+/// [`JobFault::NoReadings`] after [`Opt::Bounds`], and [`JobFault::NoPages`] or [`JobFault::NoListener`] at last.
 pub fn read_task<'a>(alloc: Global, words: &'a [&'a str]) -> Result<Task<'a>, JobFault>
     ensures ok { IfOk result (λ task. asked (map (λ s. s.now) words.entry.now) ≡ Some (Ok (task_view task))) }
     ensures taken { OnOk result (fault_of print1525 (map (λ s. s.now) words.entry.now) ≡ []) }
@@ -323,7 +329,7 @@ fn job_of<'a>(alloc: Global, name: &str, options: &ArgMatches<'a>) -> Result<Job
     let lower = read_set(value_in(options, Opt::Set)).ok_or(Opt::Set)?;
     match name {
         "check" => check_job(options),
-        "decode" => decode_job(options),
+        "decode" => decode_job(lower, options),
         "bus" => bus_job(run, options),
         "raw" => raw_job(lower, options),
         _ => pages_job(run, options),
@@ -386,14 +392,14 @@ fn check_job<'a>(options: &ArgMatches<'a>) -> Result<Job<'a>, JobFault>
 }
 
 /// The job of `decode`.
-fn decode_job<'a>(options: &ArgMatches<'a>) -> Result<Job<'a>, JobFault>
-    ensures value { job_result result ≡ wanted_decode (rows_of (found_of options.now)) }
+fn decode_job<'a>(lower: bool, options: &ArgMatches<'a>) -> Result<Job<'a>, JobFault>
+    ensures value { job_result result ≡ wanted_decode lower (rows_of (found_of options.now)) }
     ensures own { IfErr result IsOwn }
 {
     let source = read_reading_source(value_in(options, Opt::ReadingFrom)).ok_or(Opt::ReadingFrom)?;
     let input = input_of(source.unwrap_or(unless_found(options)), options)?;
     let plain = read_decode_output(value_in(options, Opt::ReadingAs)).ok_or(Opt::ReadingAs)?;
-    let output = decode_output_in(plain, options)?;
+    let output = decode_output_in(plain, lower, options)?;
     Ok(Job::Decode {
         is_found: source.is_none(),
         input,

@@ -26,6 +26,7 @@ PRINT1525_EXPLAIN=1 in the environment asks for the same as --explain.
 Exit status:
   0  done
   1  a BASIC error stopped the run; what was printed until then is written
+     (decode --strict: something of the recording is left out)
   2  the input or the command line is refused, with a line on standard error
   3  memory ran out, or a file cannot be opened, read or written
 
@@ -144,12 +145,14 @@ intervals. With --bounds guide they and the verdict are by the Guide alone, for
 real hardware. Both go with the list alone; json has a line for each byte with
 all its intervals.
 Or the pages that printers 4 and 5 print of the bytes; or with --as bytes the
-bytes that printer 4 hears, or the one of --device, for `print1525 raw`.
+bytes that printer 4 hears, or the one of --device, for `print1525 raw`. Notes
+on standard error say what they leave out of the recording. If it begins after
+LISTEN, --listening 4 prints its first bytes, with the character set of --set.
 A recording that cannot be read is refused at its first fault, after the lines
 of what comes before it.
 
-Exit status: 0 read to its end, 2 refused, 3 memory ran out or a file cannot be
-opened, read or written.
+Exit status: 0 read to its end, 1 with --strict where something is left out, 2
+refused, 3 memory ran out or a file cannot be opened, read or written.
 
 Example:
   print1525 decode --intervals --bounds guide session.vcd

@@ -37,4 +37,4 @@ pub use command_line::{
 pub use delays::{DelayFault, read_delays};
 pub use option_values::{read_inverted, read_present, read_status};
 pub use options::Opt;
-pub use outputs::{CheckOutput, DecodeOutput, PagesOutput};
+pub use outputs::{CheckOutput, DecodeOutput, Hearing, PagesOutput};

@@ -1,11 +1,11 @@
 //! The values of the program's options.
 
-ghost use Rattle.std.specs.Prelude.{◌≡◌, ◌∷◌, [], false, option_map, IfSome};
+ghost use Rattle.std.specs.Prelude.{[], false, option_map, ◌∷◌, ◌≡◌, IfSome};
 ghost use Rattle.pr_capture.specs.Recording.{alike};
-ghost use Rattle.pr_options.specs.Options.{before_of, bounds_of, decode_output_of, device_of, form_of, format_of, from_time_of, inverted_of, mode_of, moment_of, pages_output_of, present_of, rate_of, reading_source_of, report_of, scaled, set_of, sheet_numbered, sheet_of, source_of, start_of, threshold_between, threshold_in, threshold_of, trace_format_of, with_line};
+ghost use Rattle.pr_options.specs.Options.{before_of, bounds_of, decode_output_of, device_of, form_of, format_of, from_time_of, inverted_of, listening_of, mode_of, moment_of, pages_output_of, present_of, rate_of, reading_source_of, report_of, scaled, set_of, sheet_numbered, sheet_of, source_of, start_of, threshold_between, threshold_in, threshold_of, trace_format_of, with_line};
 ghost use Rattle.pr_options.specs.SignalNames.{are_names, differ, is_clock_twice, is_name, names_of, names_of_signals, three_names};
 
-use crate::outputs::{CheckOutput, DecodeOutput, PagesOutput};
+use crate::outputs::{CheckOutput, DecodeOutput, Hearing, PagesOutput};
 use crate::parts::{all_digits, cut};
 use pr_basic::StatusMode;
 use pr_capture::{Probes, Signals, Source, Threshold, TraceFormat, Volts, read_rate, read_volts};
@@ -95,9 +95,19 @@ pub fn read_pages_output(text: &str) -> Option<PagesOutput>
     }
 }
 
+/// No printer listens when a recording begins.
+pub const UNHEARING: Hearing = Hearing {
+    listening: Present {
+        four: false,
+        five: false,
+    },
+    lower: false,
+    is_strict: false,
+};
+
 /// The output of `decode`: its readings as a `list` or as `json`, the `bytes` that a printer hears, or a format of the
-/// pages (profile); a list without intervals, by this project's bounds, and bytes of printer 4, if no option says
-/// more. None for any other text.
+/// pages (profile); a list without intervals, by this project's bounds, and bytes of printer 4, and no printer listens
+/// at first, if no option says more. None for any other text.
 pub fn read_decode_output(text: &str) -> Option<DecodeOutput>
     ensures { result ≡ decode_output_of text.now }
 {
@@ -107,11 +117,32 @@ pub fn read_decode_output(text: &str) -> Option<DecodeOutput>
             bounds: Bounds::Profile,
         })),
         "json" => Some(DecodeOutput::Json),
-        "bytes" => Some(DecodeOutput::Bytes(Device::Four)),
+        "bytes" => Some(DecodeOutput::Bytes(Device::Four, UNHEARING)),
         _ => {
             let format = read_format(text)?;
-            Some(DecodeOutput::Pages(format))
+            Some(DecodeOutput::Pages(format, UNHEARING))
         }
+    }
+}
+
+/// The printers that listen when a recording begins: `4`, `5` or `4,5` (profile). None for any other text.
+pub fn read_listening(text: &str) -> Option<Present>
+    ensures { result ≡ listening_of text.now }
+{
+    match text {
+        "4" => Some(Present {
+            four: true,
+            five: false,
+        }),
+        "5" => Some(Present {
+            four: false,
+            five: true,
+        }),
+        "4,5" => Some(Present {
+            four: true,
+            five: true,
+        }),
+        _ => None,
     }
 }
 

@@ -47,7 +47,7 @@ impl Subcommand {
         }
     }
 
-    /// Its options, in the order in which help lists them, which is that of [`Opt`].
+    /// Its options, in the order in which help lists them, which is that of [`Opt`], but for `--set` of `decode`.
     pub fn options(self) -> &'static [Opt]
         ensures { result.now ≡ options_of self }
     {
@@ -99,6 +99,9 @@ impl Subcommand {
                 Opt::Characters,
                 Opt::Intervals,
                 Opt::Bounds,
+                Opt::Listening,
+                Opt::Set,
+                Opt::Strict,
             ],
             Subcommand::Raw => &[
                 Opt::Set,
@@ -167,6 +170,10 @@ pub enum Opt {
     Intervals,
     /// The bounds that the intervals of a recording are measured against.
     Bounds,
+    /// The printers that listen when a recording begins.
+    Listening,
+    /// A flag: it is no success where something of a recording is left out.
+    Strict,
 }
 
 /// What follows the name of an option.
@@ -506,6 +513,14 @@ const BOUNDS_HELP: &str = "Bounds of intervals and of the verdict: profile\n\
 
 const BOUNDS_VALUES: &str = "profile or guide";
 
+const LISTENING_HELP: &str = "4, 5 or 4,5: the printers that listen when the\n\
+     recording begins, as if it began with LISTEN";
+
+const LISTENING_VALUES: &str = "4, 5 or 4,5";
+
+const STRICT_HELP: &str = "Ends with status 1 where pages or bytes leave out\n\
+     something of the recording, as notes say it";
+
 /// The row of an option with a value that no file's name gives.
 fn valued(
     name: &'static str,
@@ -633,6 +648,14 @@ impl Opt {
             Opt::Characters => bare(Kind::File, "characters", "FILE", CHARACTERS_HELP),
             Opt::Intervals => bare(Kind::Flag, "intervals", "", INTERVALS_HELP),
             Opt::Bounds => valued("bounds", "BOUNDS", "profile", BOUNDS_VALUES, BOUNDS_HELP),
+            Opt::Listening => valued(
+                "listening",
+                "PRINTERS",
+                "",
+                LISTENING_VALUES,
+                LISTENING_HELP,
+            ),
+            Opt::Strict => bare(Kind::Flag, "strict", "", STRICT_HELP),
         }
     }
 }

@@ -16,5 +16,6 @@ pub mod BusPrinting
 pub mod Taken
 pub mod Logging
 pub mod LeftLogging
+pub mod ListeningTakes
 pub mod RunLogging
 pub mod RunAnswering

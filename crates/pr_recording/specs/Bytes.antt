@@ -20,8 +20,10 @@ use Rattle.pr_jobs.specs.declared.fault.CliFault.TheVariants.{Script, Trace, Wav
 use Rattle.pr_recording.specs.declared.byte_log.Heard.{Heard}
 use Rattle.pr_recording.specs.declared.bytes.Overheard.{Overheard}
 use Rattle.pr_recording.specs.declared.left_out.LeftOut.{LeftOut}
+use Rattle.pr_recording.specs.declared.listening.Listening.{Listening}
 use Rattle.pr_recording.specs.Decoded.{back_in, readings_up_to, stop_at}
 use Rattle.pr_recording.specs.LeftOut.{left_out_of}
+use Rattle.pr_recording.specs.Listening.{with_calls}
 use Rattle.pr_recording.specs.PrintedPages.{heard_in}
 
 -- the number of a printer
@@ -88,15 +90,15 @@ LeavesBytes len stop inputs odd left old new (Err NoMemory) = Keeps old new
 LeavesBytes len stop inputs odd left old new (Err ReadFailed) = Keeps old new
 LeavesBytes len stop inputs odd left old new (Err WriteFailed) = AppendsFront old new (bytes_of inputs)
 
--- the answer, by the text and by what the writer held before and after
-pub record AnswersBytes (input : TraceInput) (device : Device) (text : List ℕ) (old new : Option (List ℕ))
+-- the answer, by the printers that listen at first, by the text and by what the writer held before and after
+pub record AnswersBytes (input : TraceInput) (listening : Listening) (device : Device) (text : List ℕ) (old new : Option (List ℕ))
     (result : Result Overheard CliFault) : Type 0 where
   pub edges : List Edge
   pub own : Option CliFault
   pub says : Says input text edges own
   pub leaves :
       let stop = stop_at (back_in edges) own in
-      let readings = readings_up_to stop edges in
+      let readings = with_calls listening (readings_up_to stop edges) in
       LeavesBytes (length text) stop (heard_in (number_of device) readings) (oddities_of edges (readings_of edges))
       (left_out_of readings) old new result
 

@@ -6,9 +6,11 @@ use Rattle.pr_wire.specs.declared.Edge.{Edge}
 use Rattle.pr_decode.specs.declared.reading.Reading.{Reading}
 use Rattle.pr_decode.specs.Readings.{readings_of}
 use Rattle.pr_recording.specs.declared.left_out.LeftOut.{LeftOut}
+use Rattle.pr_recording.specs.declared.listening.Listening.{Listening}
 use Rattle.pr_recording.specs.declared.pages.Reprinted.{Reprinted}
 use Rattle.pr_recording.specs.declared.printer_pair.PrintedPages.{PrintedPages}
 use Rattle.pr_recording.specs.LeftOut.{left_out_of}
+use Rattle.pr_recording.specs.Listening.{with_calls}
 use Rattle.pr_recording.specs.PrintedPages.{ArePapers}
 use Rattle.pr_report.specs.Oddities.{oddities_of}
 use Rattle.pr_report.specs.declared.oddities.Oddities.{Oddities}
@@ -89,15 +91,15 @@ LeavesPages len stop shapes format rs odd old new (Err NoMemory) = Keeps old new
 LeavesPages len stop shapes format rs odd old new (Err ReadFailed) = Keeps old new
 LeavesPages len stop shapes format rs odd old new (Err WriteFailed) = WritesFrontOfPages shapes format rs old new
 
--- the answer, by the text and by what the writer held before and after
-pub record AnswersPages (shapes : Shapes) (input : TraceInput) (format : Format) (text : List ℕ)
+-- the answer, by the printers that listen at first, by the text and by what the writer held before and after
+pub record AnswersPages (shapes : Shapes) (input : TraceInput) (listening : Listening) (format : Format) (text : List ℕ)
     (old new : Option (List ℕ)) (result : Result Reprinted CliFault) : Type 0 where
   pub edges : List Edge
   pub own : Option CliFault
   pub says : Says input text edges own
   pub leaves :
       let stop = stop_at (back_in edges) own in
-      LeavesPages (length text) stop shapes format (readings_up_to stop edges)
+      LeavesPages (length text) stop shapes format (with_calls listening (readings_up_to stop edges))
       (oddities_of edges (readings_of edges)) old new result
 
 -- the recording has been read to its end where all of it is answered

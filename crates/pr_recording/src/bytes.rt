@@ -13,6 +13,7 @@ use crate::both::Both;
 use crate::byte_log::{Heard, HeardBytes};
 use crate::device_log::DeviceLog;
 use crate::left_out::{LeftOut, LeftOutLog};
+use crate::listening::{Listening, call_first};
 use crate::tape::TapeEnd;
 use pr_base::{FIRST_PRINTER, SECOND_PRINTER};
 use pr_capture::TraceInput;
@@ -36,7 +37,8 @@ pub struct Overheard {
 }
 
 /// Reads any recording of the bus, in any format, and writes the bytes that a printer hears in it, as they are: of
-/// the bytes that were acknowledged, the data bytes that come while the printer listens. `raw` prints them.
+/// the bytes that were acknowledged, the data bytes that come while the printer listens, where these printers listen when
+/// the recording begins. `raw` prints them.
 ///
 /// The secondary address that selects a character set is no byte: the answer says in which set the first byte comes,
 /// and whether a byte comes in the other one. It says too what is odd about the recording, and what the bytes lack of it.
@@ -63,13 +65,14 @@ pub fn bytes_over<R: Read, W: Write>(
     input: &mut Watched<R>,
     output: &mut Watched<W>,
     trace: TraceInput<'_>,
+    listening: Listening,
     device: Device,
 ) -> Result<Overheard, CliFault>
     // the caller's part
     requires fresh { AreFresh input.old output.old }
     // what it gives
     ensures bytes { IfSome (R.remaining (wrapped input.old)) (λ text.
-        AnswersBytes trace.entry device text (W.contents (wrapped output.old)) (W.contents (wrapped output.new)) result) }
+        AnswersBytes trace.entry listening device text (W.contents (wrapped output.old)) (W.contents (wrapped output.new)) result) }
     ensures at_end { HasReadBytes (R.remaining (wrapped input.new)) result }
     // when it refuses, and what that leaves
     ensures does { DoesJob IsDecodeFault input.new output.new result }
@@ -79,6 +82,7 @@ pub fn bytes_over<R: Read, W: Write>(
         first: DeviceLog::new(alloc, number_of(device)),
         second: LeftOutLog::new(),
     };
+    call_first(&mut taker, listening)?;
     let end = read_into(alloc, input, trace, CHECK_LIMIT, &mut taker)?;
     let Both { first, second } = taker;
     write_heard(output, first.finish(), second.finish(), end)

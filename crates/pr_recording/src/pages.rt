@@ -10,6 +10,7 @@ ghost use Rattle.pr_recording.specs.Writes.{WritesPrint};
 use crate::blocks::read_into;
 use crate::both::Both;
 use crate::left_out::{LeftOut, LeftOutLog};
+use crate::listening::{Listening, call_first};
 use crate::printer_pair::{PrintedPages, PrinterPair};
 use crate::tape::TapeEnd;
 use pr_capture::TraceInput;
@@ -41,7 +42,8 @@ pub struct Reprinted {
 }
 
 /// Reads any recording of the bus, in any format, and writes the pages that printers 4 and 5 print of it,
-/// in this format: of the bytes that were acknowledged, those that each of them hears. The sheets are
+/// in this format: of the bytes that were acknowledged, those that each of them hears, where these printers listen
+/// when the recording begins. The sheets are
 /// those of the printers that hear a byte; there are no statuses, no bytes on the screen and no stop.
 /// Pictures draw characters in these shapes. The answer is what is odd about the recording, and what the pages lack.
 ///
@@ -68,6 +70,7 @@ pub fn reprint_over<R: Read, W: Write>(
     input: &mut Watched<R>,
     output: &mut Watched<W>,
     trace: TraceInput<'_>,
+    listening: Listening,
     format: Format,
     shapes: &Shapes,
 ) -> Result<Reprinted, CliFault>
@@ -75,7 +78,7 @@ pub fn reprint_over<R: Read, W: Write>(
     requires fresh { AreFresh input.old output.old }
     // what it gives
     ensures pages { IfSome (R.remaining (wrapped input.old)) (λ text.
-        AnswersPages shapes.now trace.entry format text (W.contents (wrapped output.old)) (W.contents (wrapped output.new)) result) }
+        AnswersPages shapes.now trace.entry listening format text (W.contents (wrapped output.old)) (W.contents (wrapped output.new)) result) }
     ensures at_end { ReadsPages (R.remaining (wrapped input.new)) result }
     // when it refuses, and what that leaves
     ensures does { DoesJob IsReprintFault input.new output.new result }
@@ -85,6 +88,7 @@ pub fn reprint_over<R: Read, W: Write>(
         first: PrinterPair::new(alloc),
         second: LeftOutLog::new(),
     };
+    call_first(&mut taker, listening)?;
     let end = read_into(alloc, input, trace, PRINT_LIMIT, &mut taker)?;
     let Both { first, second } = taker;
     write_pages(
