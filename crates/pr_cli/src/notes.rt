@@ -37,6 +37,12 @@ const NO_PRINTER: Present = Present {
     five: false,
 };
 
+/// Printer 4, which has the page of a printer's bytes.
+const FOUR_ALONE: Present = Present {
+    four: true,
+    five: false,
+};
+
 /// Both printers.
 const BOTH: Present = Present {
     four: true,
@@ -126,6 +132,7 @@ pub fn drawn_by(job: &Job<'_>) -> Present {
             output: DecodeOutput::Bytes(device),
             ..
         } => shown_of(Some(*device), BOTH),
+        Job::Raw { format, .. } => drawn_in(*format, FOUR_ALONE),
         _ => NO_PRINTER,
     }
 }
