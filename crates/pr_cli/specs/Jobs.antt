@@ -105,6 +105,12 @@ IsPrinted located answers ends (Ok (answer.Printed end)) = ends (Ok end)
 IsPrinted located answers ends (Ok _) = ⊥
 IsPrinted located answers ends (Err fault) = ends (Err fault)
 
+-- an answer of the page of a printer's bytes, with what the printer holds
+abbrev pub IsRaw : (Result PagesEnd CliFault → Type 0) → Result Answer CliFault → Type 0
+IsRaw answers (Ok (answer.Printed end)) = answers (Ok end)
+IsRaw answers (Ok _) = ⊥
+IsRaw answers (Err fault) = answers (Err fault)
+
 -- an answer with a printer's bytes
 abbrev pub IsHeard : (Result (RunEnd × Heard) CliFault → Type 0) → Result Answer CliFault → Type 0
 IsHeard answers (Ok (answer.Heard end heard)) = answers (Ok (end, heard))
@@ -184,7 +190,7 @@ AnswersJob located shapes (Check input output) text old new result =
 AnswersJob located shapes (Decode is_found input output) text old new result =
     AnswersRecording shapes input output text old new result
 AnswersJob located shapes (Raw lower f) text old new result =
-    IsDone (AnswersRaw shapes lower f text old new) result
+    IsRaw (AnswersRaw shapes lower f text old new) result
 
 -- the printers whose pages a format shows, of both
 abbrev pub both : Present

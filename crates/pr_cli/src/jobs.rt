@@ -31,7 +31,7 @@ pub enum Answer {
     Ended(Ending),
     /// It wrote what was asked for of a run that ended so.
     Ran(RunEnd),
-    /// It wrote the pages of a run that ended so.
+    /// It wrote the pages of a run that ended so, or the page of a printer's bytes, which no error stops.
     Printed(PagesEnd),
     /// It wrote the bytes that a printer hears in a run, which do not say what [`Heard`] does.
     Heard(RunEnd, Heard),
@@ -151,8 +151,8 @@ pub fn do_job<R: Read, W: Write>(
             ..
         } => decode_recording(alloc, input, output, trace, wanted, shapes),
         Job::Raw { lower, format } => {
-            raw_over(alloc, input, output, lower, format, shapes)?;
-            Ok(Answer::Ended(Ending::Done))
+            let page = raw_over(alloc, input, output, lower, format, shapes)?;
+            Ok(Answer::Printed(page))
         }
     }
 }

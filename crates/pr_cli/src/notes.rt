@@ -66,6 +66,12 @@ const NO_PRINTER: Present = Present {
     five: false,
 };
 
+/// Printer 4, which has the page of a printer's bytes.
+const FOUR_ALONE: Present = Present {
+    four: true,
+    five: false,
+};
+
 /// What a note says to do about bytes that the list has.
 const LISTED: &str = "--as list shows where";
 
@@ -193,6 +199,7 @@ pub fn drawn_by(job: &Job<'_>) -> Present {
             output: DecodeOutput::Bytes(device, _),
             ..
         } => shown_of(Some(*device), BOTH),
+        Job::Raw { format, .. } => drawn_in(*format, FOUR_ALONE),
         _ => NO_PRINTER,
     }
 }

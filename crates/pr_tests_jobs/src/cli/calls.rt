@@ -304,14 +304,10 @@ impl Call {
                 let trace = TraceInput { source, ..USUAL };
                 done(check_as_over(alloc, input, output, trace, report))
             }
-            Call::Raw(format) => done(raw_over(
-                alloc,
-                input,
-                output,
-                false,
-                format,
-                &Shapes::own(),
-            )),
+            Call::Raw(format) => {
+                let end = raw_over(alloc, input, output, false, format, &Shapes::own())?;
+                Ok(end.run.ending())
+            }
         }
     }
 
