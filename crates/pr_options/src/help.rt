@@ -103,10 +103,10 @@ A table has a row of names, then a row for each sample: its time, in the unit
 of the column's name or in seconds, and a level, 0 or 1, of each signal. A FILE
 named *.vcd or *.csv is read so without --from.
 
---names, --invert and --from-time go with --from vcd or csv, --rate with csv.
-Case and blanks around a name do not matter. Where no signal is called CLOCK,
-CLK is taken. A table without a column of times has the rate of --rate, or of
-a remark such as `; Samplerate: 4 MHz`.
+--names, --invert, --from-time and --glitch go with --from vcd or csv, --rate
+with csv. Case and blanks around a name do not matter. Where no signal is
+called CLOCK, CLK is taken. A table without a column of times has the rate of
+--rate, or of a remark such as `; Samplerate: 4 MHz`.
 
 Output: a line for each frame, `command 36`, `data 72` or `data 13 eoi`, then
 `lawful`. A story has the time when the talker offers each byte, the time when
@@ -131,7 +131,7 @@ in a format of `print1525 check`. Without --from the ending of FILE says which,
 or the first bytes do: `$` begins a dump, also after sigrok-cli's line
 `META samplerate: ..`; that line, `;` or `#` begins a table, or it has a comma,
 a semicolon or a tab in its first line. Otherwise it is a trace text, or with
---names, --invert, --from-time or --rate a table.
+--names, --invert, --from-time, --glitch or --rate a table.
 
 Output: a line for each byte, as in a story of `print1525 check`;
 unacknowledged and incomplete bytes (glitches); how many there are; and a

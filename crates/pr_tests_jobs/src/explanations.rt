@@ -22,6 +22,7 @@ const TEXT: TraceInput<'static> = TraceInput {
         is_inverted: false,
     },
     start: 0,
+    pulse: 0,
     rate: None,
 };
 

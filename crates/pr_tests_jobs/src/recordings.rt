@@ -17,6 +17,7 @@ const TEXT: TraceInput<'_> = TraceInput {
         is_inverted: false,
     },
     start: 0,
+    pulse: 0,
     rate: None,
 };
 

@@ -236,6 +236,7 @@ pub const USUAL: TraceInput<'static> = TraceInput {
         is_inverted: false,
     },
     start: 0,
+    pulse: 0,
     rate: None,
 };
 
