@@ -136,4 +136,5 @@ pub record IsInput (source : Source) (atn clock line : List ℕ) (is_inverted : 
   pub of_line : input.signals.line.now ≡ line
   pub of_probes : input.signals.probes ≡ alike is_inverted
   pub of_start : input.start ≡ start
+  pub of_pulse : input.pulse ≡ 0
   pub of_rate : input.rate ≡ rate_of rate

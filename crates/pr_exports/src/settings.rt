@@ -234,6 +234,7 @@ pub fn input_for<'a>(
             probes: Probes::alike(is_inverted),
         },
         start,
+        pulse: 0,
         rate: rate_for(rate),
     }
 }

@@ -26,7 +26,7 @@ use Rattle.pr_options.specs.Rows as option
 use Rattle.pr_options.specs.CommandLine.{print1525}
 use Rattle.pr_options.specs.DelayLists.{delays_of}
 use Rattle.pr_options.specs.Given.{characters_in, file_in, is_given, value_in}
-use Rattle.pr_options.specs.Options.{before_of, bounds_of, decode_output_of, device_of, form_of, format_of, from_time_of, inverted_of, listening_of, mode_of, pages_output_of, present_of, rate_of, reading_source_of, report_of, set_of, sheet_of, source_of, threshold_of, trace_format_of, unhearing}
+use Rattle.pr_options.specs.Options.{before_of, bounds_of, decode_output_of, device_of, form_of, format_of, from_time_of, glitch_of, inverted_of, listening_of, mode_of, pages_output_of, present_of, rate_of, reading_source_of, report_of, set_of, sheet_of, source_of, threshold_of, trace_format_of, unhearing}
 use Rattle.pr_options.specs.SignalNames.{Names, names_of, names_of_signals}
 use Rattle.pr_options.specs.Values.{bad}
 use Rattle.pr_options.specs.declared.command_line.Job.{Job}
@@ -54,6 +54,7 @@ pub record InputView : Type 0 where
   pub names : Names
   pub probes : Probes
   pub start : ℕ
+  pub pulse : ℕ
   pub rate : Option ℕ
 
 -- a job in plain values
@@ -80,6 +81,7 @@ input_view i = record {
   names = names_of_signals i.signals;
   probes = i.signals.probes;
   start = i.start;
+  pulse = i.pulse;
   rate = i.rate;
 }
 
@@ -133,7 +135,8 @@ wanted_run rows =
 
 -- an option is given that only a recording can have
 abbrev pub wants_recording : List Row → Bool
-wants_recording rows = is_given opt.Invert rows || (is_given opt.Names rows || is_given opt.FromTime rows)
+wants_recording rows = is_given opt.Invert rows
+    || (is_given opt.Names rows || (is_given opt.FromTime rows || is_given opt.Glitch rows))
 
 -- an option is given that only a table can have
 abbrev pub wants_table : List Row → Bool
@@ -152,6 +155,7 @@ wanted_input source rows =
     read opt.Names names_of rows >>= λ names.
     read opt.Invert inverted_of rows >>= λ probes.
     read opt.FromTime from_time_of rows >>= λ start.
+    read opt.Glitch glitch_of rows >>= λ pulse.
     read opt.Rate rate_of rows >>= λ rate.
     read opt.Threshold threshold_of rows >>= λ threshold.
     fitting source rows >>= λ fits.
@@ -160,6 +164,7 @@ wanted_input source rows =
       names = names;
       probes = record probes { threshold = threshold };
       start = start;
+      pulse = pulse;
       rate = rate;
     })
 

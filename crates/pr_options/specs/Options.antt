@@ -1,5 +1,6 @@
 -- Trusted: the values of the program's options.
 use Rattle.std.specs.Prelude.{ℕ, ◌*◌, ◌^◌, ◌==◌, ◌&&◌, ◌∷◌, [], Bool, List, length, nat_lt, Option, Some, None, true, false, codes, if◌then◌else◌, find, option_and_then, option_map}
+use Rattle.std.specs.Int.{div_ceil}
 use Rattle.std.specs.List.{after_first, before_first, list_all, slice_split}
 use Rattle.std.specs.Str.{bytes_eq}
 use Rattle.clap.specs.Words.{Text}
@@ -186,6 +187,12 @@ before_of text = if is_back text then moment_of (after_first (λ b. b == 45) tex
 -- it is 0, the recording's first moment, until that of its own moment 0 is known
 abbrev pub from_time_of : Text → Option ℕ
 from_time_of text = if is_back text then option_map (λ n. 0) (before_of text) else moment_of text
+
+-- the longest pulse that is left out, in microseconds: a time as above, or nanoseconds, as in 200ns, rounded up
+abbrev pub glitch_of : Text → Option ℕ
+glitch_of text =
+    if bytes_eq (after_first (λ b. b == 110) text) (codes "s")
+    then option_map (λ n. div_ceil n 1000) (start_of (before_first (λ b. b == 110) text)) else moment_of text
 
 -- the sheet of a number; sheets count from 1
 abbrev pub sheet_numbered : ℕ → Option ℕ

@@ -15,7 +15,7 @@ use crate::clap_command::make_command;
 use crate::delays::{DelayFault, read_delays};
 use crate::option_values::{
     read_before, read_decode_output, read_form, read_format, read_from_time, read_given_rate,
-    read_inverted, read_pages_output, read_present, read_reading_source, read_report, read_set,
+    read_glitch, read_inverted, read_pages_output, read_present, read_reading_source, read_report, read_set,
     read_source, read_status, read_threshold, read_trace_format,
 };
 use crate::options::{INPUT, OUTPUT, Opt};
@@ -99,8 +99,8 @@ pub enum JobFault {
     /// The value of any other option is none of its values, which [`JobFault::good_values`] has.
     #[error("bad --{0}")]
     Bad(Opt),
-    /// `--names`, `--invert` or `--from-time` is given where the trace is a text.
-    #[error("--names, --invert and --from-time go with --from vcd or csv")]
+    /// `--names`, `--invert`, `--from-time` or `--glitch` is given where the trace is a text.
+    #[error("--names, --invert, --from-time and --glitch go with --from vcd or csv")]
     NoRecording,
     /// `--rate` or `--threshold` is given where the trace is a text or a dump.
     #[error("--rate and --threshold go with --from csv")]
@@ -362,6 +362,7 @@ fn input_of<'a>(source: Source, options: &ArgMatches<'a>) -> Result<TraceInput<'
     let named = signals_in(options)?;
     let probes = read_inverted(value_in(options, Opt::Invert)).ok_or(Opt::Invert)?;
     let start = read_from_time(value_in(options, Opt::FromTime)).ok_or(Opt::FromTime)?;
+    let pulse = read_glitch(value_in(options, Opt::Glitch)).ok_or(Opt::Glitch)?;
     let rate = read_given_rate(value_in(options, Opt::Rate)).ok_or(Opt::Rate)?;
     let threshold = read_threshold(value_in(options, Opt::Threshold)).ok_or(Opt::Threshold)?;
     fitting(source, options)?;
@@ -376,6 +377,7 @@ fn input_of<'a>(source: Source, options: &ArgMatches<'a>) -> Result<TraceInput<'
         source,
         signals,
         start,
+        pulse,
         rate,
     })
 }

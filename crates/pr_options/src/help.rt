@@ -104,8 +104,8 @@ A table has a row of names, then a row for each sample: its time, in the unit
 of the column's name or in seconds, and a level, 0 or 1, of each signal. A FILE
 named *.vcd or *.csv is read so without --from.
 
---names, --invert and --from-time go with --from vcd or csv, --rate and
---threshold with csv.
+--names, --invert, --from-time and --glitch go with --from vcd or csv, --rate
+and --threshold with csv.
 Case and blanks around a name do not matter. Where no signal is called CLOCK,
 CLK is taken. After --invert any word but ATN, CLOCK, DATA or some of them, as
 in ATN,DATA, is the FILE. A table without a column of times has the rate of
@@ -134,7 +134,7 @@ in a format of `print1525 check`. Without --from the ending of FILE says which,
 or the first bytes do: `$` begins a dump, also after sigrok-cli's line
 `META samplerate: ..`; that line, `;` or `#` begins a table, or it has a comma,
 a semicolon or a tab in its first line. Otherwise it is a trace text, or with
---names, --invert, --from-time, --rate or --threshold a table.
+--names, --invert, --from-time, --glitch, --rate or --threshold a table.
 
 Output: a line for each byte, as in a story of `print1525 check`;
 unacknowledged and incomplete bytes (glitches); how many there are; and a

@@ -2,7 +2,8 @@
 
 ghost use Rattle.std.specs.Prelude.{[], false, option_map, ◌∷◌, ◌≡◌, IfSome};
 ghost use Rattle.pr_capture.specs.Recording.{alike};
-ghost use Rattle.pr_options.specs.Options.{before_of, bounds_of, decode_output_of, device_of, form_of, format_of, from_time_of, inverted_of, listening_of, mode_of, moment_of, pages_output_of, present_of, rate_of, reading_source_of, report_of, scaled, set_of, sheet_numbered, sheet_of, source_of, start_of, threshold_between, threshold_in, threshold_of, trace_format_of, with_line};
+ghost use Rattle.pr_options.specs.Options.{before_of, bounds_of, decode_output_of, device_of, form_of, format_of, from_time_of, glitch_of, inverted_of, listening_of, mode_of, moment_of, pages_output_of, present_of, rate_of, reading_source_of, report_of, scaled, set_of, sheet_numbered, sheet_of, source_of, start_of, threshold_between, threshold_in, threshold_of, trace_format_of, with_line};
+ghost use Rattle.std.specs.Int.{div_ceil};
 ghost use Rattle.pr_options.specs.SignalNames.{are_names, differ, is_clock_twice, is_name, names_of, names_of_signals, three_names};
 
 use crate::outputs::{CheckOutput, DecodeOutput, Hearing, PagesOutput};
@@ -456,5 +457,28 @@ pub fn read_before(text: &str) -> Option<u64>
         read_moment(behind)
     } else {
         None
+    }
+}
+
+/// The longest pulse that is left out, in microseconds: a time as [`read_moment`] reads it, or a number of nanoseconds
+/// and `ns`, rounded up (profile). None for any other text.
+pub fn read_glitch(text: &str) -> Option<u64>
+    ensures { result ≡ glitch_of text.now }
+{
+    let (nanos, behind) = cut(text, 'n');
+    if behind == "s" {
+        in_micros(read_start(nanos))
+    } else {
+        read_moment(text)
+    }
+}
+
+/// Nanoseconds in microseconds, rounded up.
+fn in_micros(nanos: Option<u64>) -> Option<u64>
+    ensures { result ≡ option_map (λ n. div_ceil n 1000) nanos }
+{
+    match nanos {
+        Some(nanos) => Some(nanos.div_ceil(1000)),
+        None => None,
     }
 }

@@ -78,6 +78,7 @@ impl Subcommand {
                 Opt::Names,
                 Opt::Invert,
                 Opt::FromTime,
+                Opt::Glitch,
                 Opt::Rate,
                 Opt::Threshold,
                 Opt::ReportAs,
@@ -89,6 +90,7 @@ impl Subcommand {
                 Opt::Names,
                 Opt::Invert,
                 Opt::FromTime,
+                Opt::Glitch,
                 Opt::Rate,
                 Opt::Threshold,
                 Opt::ReadingAs,
@@ -140,6 +142,8 @@ pub enum Opt {
     Invert,
     /// The moment of a recording at which the trace starts.
     FromTime,
+    /// The longest pulse of a line that is left out of a recording.
+    Glitch,
     /// The samples in a second of a recording without times.
     Rate,
     /// By which volts a line is 1 or 0 in a table of volts.
@@ -437,6 +441,12 @@ const FROM_TIME_HELP: &str = "The time of the recording at which the trace\n\
 
 const FROM_TIME_VALUES: &str = "microseconds below 2^64, as in 1500, 5ms, 2s or -500";
 
+const GLITCH_HELP: &str = "Leave out pulses of a line up to this length, as\n\
+     cross-talk makes them: a time as in 200ns or 2us,\n\
+     rounded up to whole microseconds";
+
+const GLITCH_VALUES: &str = "microseconds below 2^64, as in 2, 200ns, 2us or 1ms";
+
 const RATE_HELP: &str = "The samples in a second of a table that has no\n\
      times, such as 4e6, 4M, 4MHz, 4MS/s or 500k, or\n\
      none (its remarks say it)";
@@ -607,6 +617,7 @@ impl Opt {
                 ..valued("invert", "LINES", "", INVERT_VALUES, INVERT_HELP)
             },
             Opt::FromTime => valued("from-time", "TIME", "0", FROM_TIME_VALUES, FROM_TIME_HELP),
+            Opt::Glitch => valued("glitch", "TIME", "0", GLITCH_VALUES, GLITCH_HELP),
             Opt::Rate => valued("rate", "RATE", "none", RATE_VALUES, RATE_HELP),
             Opt::Threshold => valued(
                 "threshold",

@@ -305,6 +305,7 @@ fn wants_recording(options: &ArgMatches<'_>) -> bool
     is_given(options, Opt::Invert)
         || is_given(options, Opt::Names)
         || is_given(options, Opt::FromTime)
+        || is_given(options, Opt::Glitch)
 }
 
 /// The file that words name by this argument. None where they name none, or give `-`.

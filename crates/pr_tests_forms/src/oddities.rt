@@ -34,6 +34,7 @@ fn input(source: Source, is_inverted: bool) -> TraceInput<'static> {
             probes: Probes::alike(is_inverted),
         },
         start: 0,
+        pulse: 0,
         rate: None,
     }
 }

@@ -27,6 +27,7 @@ const TEXT: TraceInput<'static> = TraceInput {
         },
     },
     start: 0,
+    pulse: 0,
     rate: None,
 };
 

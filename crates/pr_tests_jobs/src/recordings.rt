@@ -22,6 +22,7 @@ const TEXT: TraceInput<'_> = TraceInput {
         },
     },
     start: 0,
+    pulse: 0,
     rate: None,
 };
 

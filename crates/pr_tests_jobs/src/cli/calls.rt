@@ -241,6 +241,7 @@ pub const USUAL: TraceInput<'static> = TraceInput {
         },
     },
     start: 0,
+    pulse: 0,
     rate: None,
 };
 
