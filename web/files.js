@@ -25,11 +25,11 @@ let taken = 0;                       // how many files were dropped
 export const leaveReads = () => { taken++; notice('others', ''); };
 
 /** Takes the first of some files; of the others it says that they are left out. */
-export function takeFiles(files) {
+export async function takeFiles(files) {
   const [first, ...others] = files;
   if (!first) return;
-  takeFile(first);
-  tellOnce('others', others.length ? `One file is shown at a time: ${first.name}. Left out: ${others.map(({ name }) => name).join(', ')}.` : '');
+  await takeFile(first);
+  if (others.length) tellOnce('others', `One file is shown at a time: ${first.name}. Left out: ${others.map(({ name }) => name).join(', ')}.`);
 }
 
 const LARGE = 10e6;        // bytes: a file that seems to be a printer's bytes, and is longer, is asked about first
