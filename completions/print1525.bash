@@ -31,16 +31,22 @@ _print1525() {
         check/--from) words='text vcd csv' ;;
         check/--names) return ;;
         check/--from-time) return ;;
+        check/--glitch) return ;;
         check/--rate) return ;;
+        check/--threshold) return ;;
         check/--as) words='frames story json' ;;
         decode/--from) words='auto text vcd csv' ;;
         decode/--names) return ;;
         decode/--from-time) return ;;
+        decode/--glitch) return ;;
         decode/--rate) return ;;
+        decode/--threshold) return ;;
         decode/--as) words='list text svg png pdf json bytes' ;;
         decode/--device) words='4 5' ;;
         decode/--sheet) return ;;
         decode/--bounds) words='profile guide' ;;
+        decode/--listening) return ;;
+        decode/--set) words='upper lower' ;;
         raw/--set) words='upper lower' ;;
         raw/--as) words='list text svg png pdf' ;;
         raw/--device) words='4 5' ;;
@@ -51,8 +57,8 @@ _print1525() {
                 case $command in
                 pages) words='-o --output --from --present --delays --status --as --explain -q --quiet --device --sheet --characters -h --help' ;;
                 bus) words='-o --output --from --present --delays --status --as --explain -q --quiet -h --help' ;;
-                check) words='-o --output --from --names --invert --from-time --rate --as --explain -q --quiet -h --help' ;;
-                decode) words='-o --output --from --names --invert --from-time --rate --as --explain -q --quiet --device --sheet --characters --intervals --bounds -h --help' ;;
+                check) words='-o --output --from --names --invert --from-time --glitch --rate --threshold --as --explain -q --quiet -h --help' ;;
+                decode) words='-o --output --from --names --invert --from-time --glitch --rate --threshold --as --explain -q --quiet --device --sheet --characters --intervals --bounds --listening --set --strict -h --help' ;;
                 raw) words='-o --output --set --as --explain -q --quiet --device --sheet --characters -h --help' ;;
                 esac
             fi

@@ -99,7 +99,8 @@ extern "C" {
 /* What a call returns: the exit statuses of the program print1525. */
 enum print1525_status {
     PRINT1525_DONE = 0,    /* the buffer has the text, or what else the call gives */
-    PRINT1525_STOPPED = 1, /* the same, and a BASIC error stopped the run: the fault says which */
+    PRINT1525_STOPPED = 1, /* the same, and a BASIC error stopped the run: the fault says which; or decode --strict left something
+                            * out, without a fault */
     PRINT1525_REFUSED = 2, /* the call refuses what it was passed: the fault says why */
     PRINT1525_FAILED = 3   /* there is no memory, or no room in the buffer: the fault says which */
 };

@@ -163,7 +163,7 @@ def as_program(lines, rng):
 
 def as_tape(program, rng):
     """A saved program in a T64 file: entries that are empty or a snapshot's, that of the program, and that of another
-    program beside it. Some end addresses are the wrong one of old tools."""
+    program beside it. Some end addresses are one or two bytes too small, or the wrong one of old tools."""
     bytes_of_program, other = program[2:], bytes([14, 8, 10, 0, 153, 34, 78, 79, 34, 0, 0, 0])
     kinds = [rng.choice([0, 3]) for _ in range(rng.randrange(3))] + [1, 1]
     first = 64 + 32 * len(kinds)
@@ -173,7 +173,7 @@ def as_tape(program, rng):
     for i, kind in enumerate(kinds):
         is_program = i == len(kinds) - 2
         size = len(bytes_of_program) if is_program else len(other)
-        stop = 0x0801 + size if rng.random() < 0.7 else 0xC3C6
+        stop = 0x0801 + size - rng.choice([0, 0, 1, 2]) if rng.random() < 0.7 else 0xC3C6
         place = places[other_first != is_program] if kind == 1 else first
         out += bytes([kind, 130, 1, 8, stop & 255, stop >> 8, 0, 0]) + place.to_bytes(4, "little") + bytes(4) + b"A".ljust(16)
     return out + (other + bytes_of_program if other_first else bytes_of_program + other)

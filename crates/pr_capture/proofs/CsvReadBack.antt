@@ -1,12 +1,13 @@
 -- A table that holds samples is read back as these samples.
 use Rattle.std.proofs.Common.{◌≡◌, ℕ, zero, suc, ◌+◌, ◌-◌, ◌*◌, ◌/◌, ◌%◌, ◌<◌, ◌≤◌, ◌==◌, Bool, true, false, List, [], ◌∷◌, ◌++◌, length, take, refl, ap, sym, subst, ◌∙◌, arith, append_assoc, append-nil, length-append, nat_lt, Option, Some, None, inl, inr, lit<}
 use Rattle.std.proofs.Math.Seq.{take-append_seam}
-use Rattle.std.specs.Prelude.{◌⊎◌, codes, if◌then◌else◌, is_some, nat_le, Ok}
+use Rattle.std.specs.Prelude.{◌⊎◌, codes, if◌then◌else◌, is_some, nat_le, Result, Ok, Err}
 use Rattle.std.specs.List.{list_all}
 use Rattle.std.proofs.lemmas.Grind.{common_steps}
 use Rattle.std.proofs.lemmas.List.{take_all}
 use Rattle.std.proofs.lemmas.List.Folds.{list_all-append}
 use Rattle.pr_wire.specs.declared.Edge.{Edge}
+use Rattle.pr_wire.specs.declared.Levels.{Levels}
 use Rattle.pr_wire.specs.Levels.{edge_at}
 use Rattle.pr_base.specs.Digits.{is_digit}
 use Rattle.pr_base.specs.Lines.{lines_of}
@@ -14,15 +15,17 @@ use Rattle.pr_capture.specs.declared.csv.Columns.{Columns}
 use Rattle.pr_capture.specs.declared.csv.Layout.{Layout}
 use Rattle.pr_capture.specs.declared.csv.Moment.{Moment}
 use Rattle.pr_capture.specs.declared.csv.Scale.TheVariants.{Timed}
+use Rattle.pr_capture.specs.declared.fault.CaptureFault.{CaptureFault}
+use Rattle.pr_capture.specs.declared.fault.CaptureFault.TheVariants.{NoSignal}
 use Rattle.pr_capture.specs.declared.fault.Wire.TheVariants.{Atn, Clock, Data}
 use Rattle.pr_capture.specs.declared.signals.Signals.{Signals}
-use Rattle.pr_capture.specs.Csv.{clock_name, column_in, column_of, csv_contents, fields_of, first_contents, first_moment, is_in_front, is_inner, is_silent, layout_by, layout_in, layout_of, moment_at, opened, row_contents, row_of, sample_of, separator_of}
+use Rattle.pr_capture.specs.Csv.{clock_name, column_in, column_of, csv_contents, fields_of, first_contents, first_moment, has_return, is_in_front, is_inner, is_silent, layout_by, layout_in, layout_of, moment_at, opened, row_contents, row_of, sample_of, separator_of}
 use Rattle.pr_capture.specs.Numbers.{number_from, number_of_first, onward, with_zeros}
 use Rattle.pr_capture.specs.TableTimes.{bare_unit, instant_in, micros_of, no_remarks, start_of, time_unit}
 use Rattle.pr_capture.specs.CsvLaws.{InOrder, csv_names, csv_of, csv_row, csv_rows, digits_of, level_byte, separator_byte, time_field, time_name, Separator, TimeUnit}
 use Rattle.pr_capture.specs.CsvLaws.Separator.{Comma, Semicolon, Tab}
 use Rattle.pr_capture.specs.CsvLaws.TimeUnit.{Seconds, Milliseconds, Microseconds, Nanoseconds, Picoseconds}
-use Rattle.pr_capture.specs.Recording.{◌>>=◌, second_name, with_samples, without_front}
+use Rattle.pr_capture.specs.Recording.{◌>>=◌, alike, second_name, with_samples, without_front}
 use Rattle.pr_capture.specs.Samples.{changes_after, edges_of, last_at_each}
 use Rattle.pr_capture.specs.VcdReadingLaws.{IsAsWritten, RunsOn}
 use Rattle.pr_capture.proofs.CsvReading.{inner-line}
@@ -233,47 +236,47 @@ level_fields sep e = level_byte e.levels.atn ∷ sep ∷ level_byte e.levels.clo
 
 -- the columns of the names that are written
 abbrev columns : Columns
-columns = record { atn = 1; clock = 2; line = 3; has_other_first = false }
+columns = record { atn = 1; clock = 2; line = 3; has_other_first = false; are_rated = false }
 
 -- and the layout
 abbrev layout : Separator → TimeUnit → Layout
-layout p u = record { columns = columns; separator = separator_byte p; scale = Timed (place_of_unit u) }
+layout p u = record { columns = columns; separator = separator_byte p; scale = Timed (place_of_unit u); times = 0 }
 
 -- a moment of a table that starts at 0: none was given yet, or one was
-abbrev moment : (start : Option ℕ) → (before : ℕ) → Moment
-moment start before = record { start = start; before = before; count = 0 }
+abbrev moment : (start : Option ℕ) → (before : ℕ) → Levels → Moment
+moment start before k = record { start = start; before = before; count = 0; levels = k }
 
 abbrev AtZero : Option ℕ → Type 0
 AtZero start = (start ≡ None) ⊎ (start ≡ Some 0)
 
 -- the levels are read
-levels-read : (p : Separator) (n t : ℕ) (time : List ℕ) (a c l : Bool)
-    → sample_of columns false n (time ∷ fields_of (separator_byte p) false (level_byte a ∷ separator_byte p ∷ level_byte c ∷ separator_byte p ∷ level_byte l ∷ [])) t
+levels-read : (p : Separator) (u : TimeUnit) (k : Levels) (n t : ℕ) (time : List ℕ) (a c l : Bool)
+    → sample_of (layout p u) (alike false) k n (time ∷ fields_of (separator_byte p) false (level_byte a ∷ separator_byte p ∷ level_byte c ∷ separator_byte p ∷ level_byte l ∷ [])) t
     ≡ Ok (edge_at t a c l)
-levels-read Comma n t time true true true = refl
-levels-read Comma n t time true true false = refl
-levels-read Comma n t time true false true = refl
-levels-read Comma n t time true false false = refl
-levels-read Comma n t time false true true = refl
-levels-read Comma n t time false true false = refl
-levels-read Comma n t time false false true = refl
-levels-read Comma n t time false false false = refl
-levels-read Semicolon n t time true true true = refl
-levels-read Semicolon n t time true true false = refl
-levels-read Semicolon n t time true false true = refl
-levels-read Semicolon n t time true false false = refl
-levels-read Semicolon n t time false true true = refl
-levels-read Semicolon n t time false true false = refl
-levels-read Semicolon n t time false false true = refl
-levels-read Semicolon n t time false false false = refl
-levels-read Tab n t time true true true = refl
-levels-read Tab n t time true true false = refl
-levels-read Tab n t time true false true = refl
-levels-read Tab n t time true false false = refl
-levels-read Tab n t time false true true = refl
-levels-read Tab n t time false true false = refl
-levels-read Tab n t time false false true = refl
-levels-read Tab n t time false false false = refl
+levels-read Comma u k n t time true true true = refl
+levels-read Comma u k n t time true true false = refl
+levels-read Comma u k n t time true false true = refl
+levels-read Comma u k n t time true false false = refl
+levels-read Comma u k n t time false true true = refl
+levels-read Comma u k n t time false true false = refl
+levels-read Comma u k n t time false false true = refl
+levels-read Comma u k n t time false false false = refl
+levels-read Semicolon u k n t time true true true = refl
+levels-read Semicolon u k n t time true true false = refl
+levels-read Semicolon u k n t time true false true = refl
+levels-read Semicolon u k n t time true false false = refl
+levels-read Semicolon u k n t time false true true = refl
+levels-read Semicolon u k n t time false true false = refl
+levels-read Semicolon u k n t time false false true = refl
+levels-read Semicolon u k n t time false false false = refl
+levels-read Tab u k n t time true true true = refl
+levels-read Tab u k n t time true true false = refl
+levels-read Tab u k n t time true false true = refl
+levels-read Tab u k n t time true false false = refl
+levels-read Tab u k n t time false true true = refl
+levels-read Tab u k n t time false true false = refl
+levels-read Tab u k n t time false false true = refl
+levels-read Tab u k n t time false false false = refl
 
 -- it starts at 0 after such a time
 start-zero : (start : Option ℕ) (t : ℕ) → AtZero start → start_of start (behind_start t) ≡ 0
@@ -281,30 +284,30 @@ start-zero start t (inl h) = rw h refl
 start-zero start t (inr h) = rw h refl
 
 -- a time is counted from there
-moment-read : (n before t : ℕ) (start : Option ℕ) → AtZero start → before ≤ t → t < 18446744073709551616
-    → moment_at n (moment start before) (Some (behind_start t)) ≡ Ok (moment (Some 0) t)
-moment-read n before t start z later fits =
+moment-read : (n before t : ℕ) (start : Option ℕ) (k : Levels) → AtZero start → before ≤ t → t < 18446744073709551616
+    → moment_at n (moment start before k) (Some (behind_start t)) ≡ Ok (moment (Some 0) t k)
+moment-read n before t start k z later fits =
     let zero-on : 0 + t ≡ t = omega arith in
     let room : nat_lt (0 + t) 18446744073709551616 ≡ true = rw zero-on (grind (arith, common_steps)) in
     let on : nat_lt t before ≡ false = grind (arith, common_steps) in
     rw (start-zero start t z, room, zero-on, on) refl
 
 -- a row is read
-row-read : (p : Separator) (u : TimeUnit) (n before : ℕ) (start : Option ℕ) (e : Edge) → AtZero start → before ≤ e.time → e.time < 18446744073709551616
-    → row_of (layout p u) false n (moment start before) (fields_of (separator_byte p) false (csv_row (separator_byte p) u e))
-    ≡ Ok (record { sample = e; moment = moment (Some 0) e.time })
-row-read p u n before start e z later fits =
+row-read : (p : Separator) (u : TimeUnit) (n before : ℕ) (start : Option ℕ) (k : Levels) (e : Edge) → AtZero start → before ≤ e.time → e.time < 18446744073709551616
+    → row_of (layout p u) (alike false) n (moment start before k) (fields_of (separator_byte p) false (csv_row (separator_byte p) u e))
+    ≡ Ok (record { sample = e; moment = moment (Some 0) e.time e.levels })
+row-read p u n before start k e z later fits =
     let sep : ℕ = separator_byte p in
     let plain : list_all (is_inside sep) (time_field u e.time) ≡ true = time-all (is_inside sep) (digit-plain p) (point-plain p) u e.time in
     let split : fields_of sep false (csv_row sep u e) ≡ time_field u e.time ∷ fields_of sep false (level_fields sep e) =
     field-first sep (time_field u e.time) (level_fields sep e) plain in
     let fs : List (List ℕ) = time_field u e.time ∷ fields_of sep false (level_fields sep e) in
-    let timed : moment_at n (moment start before) (instant_in sep (place_of_unit u) (without_front (time_field u e.time))) ≡ Ok (moment (Some 0) e.time) =
-    ap (moment_at n (moment start before)) (time-read sep u e.time fits) ∙ moment-read n before e.time start z later fits in
-    ap (row_of (layout p u) false n (moment start before)) split
-    ∙ (ap (λ o. o >>= λ next. sample_of columns false n fs next.before >>= λ v. Ok (record { sample = v; moment = next })) timed
-    ∙ ap (λ o. o >>= λ v. Ok (record { sample = v; moment = moment (Some 0) e.time }))
-    (levels-read p n e.time (time_field u e.time) e.levels.atn e.levels.clock e.levels.line))
+    let timed : moment_at n (moment start before k) (instant_in sep (place_of_unit u) (without_front (time_field u e.time))) ≡ Ok (moment (Some 0) e.time k) =
+    ap (moment_at n (moment start before k)) (time-read sep u e.time fits) ∙ moment-read n before e.time start k z later fits in
+    ap (row_of (layout p u) (alike false) n (moment start before k)) split
+    ∙ (ap (λ o. o >>= λ next. sample_of (layout p u) (alike false) k n fs next.before >>= λ v. Ok (record { sample = v; moment = record next { levels = v.levels } })) timed
+    ∙ ap (λ o. o >>= λ v. Ok (record { sample = v; moment = moment (Some 0) e.time v.levels }))
+    (levels-read p u k n e.time (time_field u e.time) e.levels.atn e.levels.clock e.levels.line))
 
 row-silent : (sep : ℕ) (u : TimeUnit) (e : Edge) → is_silent (csv_row sep u e) ≡ false
 row-silent sep u e =
@@ -337,21 +340,21 @@ unfolding lines_of
 no-lines = refl
 
 -- a row that is read, and those after it
-one-row : (y : Layout) (n before : ℕ) (start : Option ℕ) (line : List ℕ) (ls : List (List ℕ)) (e : Edge) → is_silent line ≡ false
-    → row_of y false n (moment start before) (fields_of y.separator false line) ≡ Ok (record { sample = e; moment = moment (Some 0) e.time })
-    → row_contents y false n (moment start before) (line ∷ ls)
-    ≡ with_samples (e ∷ []) (row_contents y false (n + 1) (moment (Some 0) e.time) ls)
-one-row y n before start line ls e loud reads = rw (loud, reads) refl
+one-row : (y : Layout) (n before : ℕ) (start : Option ℕ) (k : Levels) (line : List ℕ) (ls : List (List ℕ)) (e : Edge) → is_silent line ≡ false
+    → row_of y (alike false) n (moment start before k) (fields_of y.separator false line) ≡ Ok (record { sample = e; moment = moment (Some 0) e.time e.levels })
+    → row_contents y (alike false) n (moment start before k) (line ∷ ls)
+    ≡ with_samples (e ∷ []) (row_contents y (alike false) (n + 1) (moment (Some 0) e.time e.levels) ls)
+one-row y n before start k line ls e loud reads = rw (loud, reads) refl
 
 -- all rows are read
-rows-read : (p : Separator) (u : TimeUnit) (n before : ℕ) (start : Option ℕ) (es : List Edge) → AtZero start → InOrder before es
-    → row_contents (layout p u) false n (moment start before) (lines_of (csv_rows (separator_byte p) u es)) ≡ record { samples = es; fault = None }
-rows-read p u n before start [] z h = rw no-lines refl
-rows-read p u n before start (e ∷ es) z h =
+rows-read : (p : Separator) (u : TimeUnit) (n before : ℕ) (start : Option ℕ) (k : Levels) (es : List Edge) → AtZero start → InOrder before es
+    → row_contents (layout p u) (alike false) n (moment start before k) (lines_of (csv_rows (separator_byte p) u es)) ≡ record { samples = es; fault = None }
+rows-read p u n before start k [] z h = rw no-lines refl
+rows-read p u n before start k (e ∷ es) z h =
     let sep : ℕ = separator_byte p in
-    ap (row_contents (layout p u) false n (moment start before)) (inner-line (csv_row sep u e) (csv_rows sep u es) (row-inner p u e))
-    ∙ (one-row (layout p u) n before start (csv_row sep u e) (lines_of (csv_rows sep u es)) e (row-silent sep u e) (row-read p u n before start e z h.0 h.1)
-    ∙ ap (with_samples (e ∷ [])) (rows-read p u (n + 1) e.time (Some 0) es (inr refl) h.2))
+    ap (row_contents (layout p u) (alike false) n (moment start before k)) (inner-line (csv_row sep u e) (csv_rows sep u es) (row-inner p u e))
+    ∙ (one-row (layout p u) n before start k (csv_row sep u e) (lines_of (csv_rows sep u es)) e (row-silent sep u e) (row-read p u n before start k e z h.0 h.1)
+    ∙ ap (with_samples (e ∷ [])) (rows-read p u (n + 1) e.time (Some 0) e.levels es (inr refl) h.2))
 
 -- The whole.
 
@@ -360,26 +363,27 @@ pub record NamesAre (p : Separator) (u : TimeUnit) : Type 0 where
   pub inner : list_all is_inner (csv_names (separator_byte p) u) ≡ true
   pub loud : is_in_front (csv_names (separator_byte p) u) ≡ false
   pub opens : opened (csv_names (separator_byte p) u) ≡ Ok (csv_names (separator_byte p) u)
+  pub whole : has_return (csv_names (separator_byte p) u) ≡ false
   pub separator : separator_of (csv_names (separator_byte p) u) ≡ separator_byte p
   pub fields : fields_of (separator_byte p) false (csv_names (separator_byte p) u)
       ≡ time_name u ∷ codes "ATN" ∷ codes "CLOCK" ∷ codes "DATA" ∷ []
 
 names-are : (p : Separator) (u : TimeUnit) → NamesAre p u
-names-are Comma Seconds = record { inner = refl; loud = refl; opens = refl; separator = refl; fields = refl }
-names-are Comma Milliseconds = record { inner = refl; loud = refl; opens = refl; separator = refl; fields = refl }
-names-are Comma Microseconds = record { inner = refl; loud = refl; opens = refl; separator = refl; fields = refl }
-names-are Comma Nanoseconds = record { inner = refl; loud = refl; opens = refl; separator = refl; fields = refl }
-names-are Comma Picoseconds = record { inner = refl; loud = refl; opens = refl; separator = refl; fields = refl }
-names-are Semicolon Seconds = record { inner = refl; loud = refl; opens = refl; separator = refl; fields = refl }
-names-are Semicolon Milliseconds = record { inner = refl; loud = refl; opens = refl; separator = refl; fields = refl }
-names-are Semicolon Microseconds = record { inner = refl; loud = refl; opens = refl; separator = refl; fields = refl }
-names-are Semicolon Nanoseconds = record { inner = refl; loud = refl; opens = refl; separator = refl; fields = refl }
-names-are Semicolon Picoseconds = record { inner = refl; loud = refl; opens = refl; separator = refl; fields = refl }
-names-are Tab Seconds = record { inner = refl; loud = refl; opens = refl; separator = refl; fields = refl }
-names-are Tab Milliseconds = record { inner = refl; loud = refl; opens = refl; separator = refl; fields = refl }
-names-are Tab Microseconds = record { inner = refl; loud = refl; opens = refl; separator = refl; fields = refl }
-names-are Tab Nanoseconds = record { inner = refl; loud = refl; opens = refl; separator = refl; fields = refl }
-names-are Tab Picoseconds = record { inner = refl; loud = refl; opens = refl; separator = refl; fields = refl }
+names-are Comma Seconds = record { inner = refl; loud = refl; opens = refl; whole = refl; separator = refl; fields = refl }
+names-are Comma Milliseconds = record { inner = refl; loud = refl; opens = refl; whole = refl; separator = refl; fields = refl }
+names-are Comma Microseconds = record { inner = refl; loud = refl; opens = refl; whole = refl; separator = refl; fields = refl }
+names-are Comma Nanoseconds = record { inner = refl; loud = refl; opens = refl; whole = refl; separator = refl; fields = refl }
+names-are Comma Picoseconds = record { inner = refl; loud = refl; opens = refl; whole = refl; separator = refl; fields = refl }
+names-are Semicolon Seconds = record { inner = refl; loud = refl; opens = refl; whole = refl; separator = refl; fields = refl }
+names-are Semicolon Milliseconds = record { inner = refl; loud = refl; opens = refl; whole = refl; separator = refl; fields = refl }
+names-are Semicolon Microseconds = record { inner = refl; loud = refl; opens = refl; whole = refl; separator = refl; fields = refl }
+names-are Semicolon Nanoseconds = record { inner = refl; loud = refl; opens = refl; whole = refl; separator = refl; fields = refl }
+names-are Semicolon Picoseconds = record { inner = refl; loud = refl; opens = refl; whole = refl; separator = refl; fields = refl }
+names-are Tab Seconds = record { inner = refl; loud = refl; opens = refl; whole = refl; separator = refl; fields = refl }
+names-are Tab Milliseconds = record { inner = refl; loud = refl; opens = refl; whole = refl; separator = refl; fields = refl }
+names-are Tab Microseconds = record { inner = refl; loud = refl; opens = refl; whole = refl; separator = refl; fields = refl }
+names-are Tab Nanoseconds = record { inner = refl; loud = refl; opens = refl; whole = refl; separator = refl; fields = refl }
+names-are Tab Picoseconds = record { inner = refl; loud = refl; opens = refl; whole = refl; separator = refl; fields = refl }
 
 unit-read : (bare : Option ℕ) (u : TimeUnit) → time_unit bare (time_name u) ≡ Some (place_of_unit u)
 unit-read bare Seconds = refl
@@ -398,14 +402,16 @@ names-read p u s rate h =
     let clock : column_in 1 Clock (clock_name s fs) 1 fs ≡ Ok 2 =
     ap (λ v. column_in 1 Clock (if is_some (column_of v 0 fs) then v else second_name s) 1 fs) h.clock in
     let line : column_in 1 Data s.line.now 1 fs ≡ Ok 3 = ap (λ v. column_in 1 Data v 1 fs) h.line in
-    ap (λ b. layout_in s (no_remarks rate) 1 b (fields_of b false (csv_names sep u))) n.separator
+    let read : ℕ → Result Layout CaptureFault = λ b. layout_in s (no_remarks rate) 1 b (fields_of b false (csv_names sep u)) in
+    ap (λ b. if b then Err (NoSignal 1 Atn) else read (separator_of (csv_names sep u))) n.whole
+    ∙ (ap read n.separator
     ∙ (ap (layout_in s (no_remarks rate) 1 sep) n.fields
     ∙ (ap (λ o. layout_by s (no_remarks rate) 1 sep o (time_name u ∷ fs)) (unit-read (bare_unit (no_remarks rate)) u)
-    ∙ rw (atn, clock, line) refl))
+    ∙ rw (atn, clock, line) refl)))
 
 -- the first line names the columns
 first-line : (p : Separator) (u : TimeUnit) (s : Signals) (rate : Option ℕ) (ls : List (List ℕ)) → IsAsWritten s
-    → first_contents s rate 1 (csv_names (separator_byte p) u ∷ ls) ≡ row_contents (layout p u) false 2 first_moment ls
+    → first_contents s rate 1 (csv_names (separator_byte p) u ∷ ls) ≡ row_contents (layout p u) (alike false) 2 first_moment ls
 first-line p u s rate ls h =
     let n = names-are p u in
     rw (n.opens, n.loud, names-read p u s rate h, h.straight) refl
@@ -416,7 +422,7 @@ unfolding csv_contents
 samples-back p u s rate es h k =
     let sep : ℕ = separator_byte p in
     ap (first_contents s rate 1) (inner-line (csv_names sep u) (csv_rows sep u es) (names-are p u).inner)
-    ∙ (first-line p u s rate (lines_of (csv_rows sep u es)) h ∙ rows-read p u 2 0 None es (inl refl) k)
+    ∙ (first-line p u s rate (lines_of (csv_rows sep u es)) h ∙ rows-read p u 2 0 None (record { atn = true; clock = true; line = true }) es (inl refl) k)
 
 -- Edges.
 

@@ -88,7 +88,7 @@ line-told s rate r line text samples e h more =
 pub read-line : (old new : CsvReader) (sample : Option Edge) (line : List ℕ) → line ≡ old.line.items
     → ((more : List (List ℕ)) → contents_from old.signals old.place old.number (line ∷ more)
     ≡ with_samples (listed sample) (contents_from old.signals new.place (old.number + 1) more))
-    → new.signals ≡ old.signals → new.number ≡ old.number + 1 → new.line.items ≡ [] → (list_all is_inner old.line.items ≡ true → KnowsLast old.signals.is_inverted new.place new.last)
+    → new.signals ≡ old.signals → new.number ≡ old.number + 1 → new.line.items ≡ [] → (list_all is_inner old.line.items ≡ true → KnowsLast old.signals.probes new.place new.last)
     → ReadsMore (10 ∷ []) sample old new
 read-line old new sample line e r a b d k = λ s rate text samples h. record {
   signals = a ∙ h.signals;

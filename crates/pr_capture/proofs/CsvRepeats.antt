@@ -13,7 +13,6 @@ use Rattle.pr_wire.specs.declared.Levels.{Levels}
 use Rattle.pr_wire.specs.Levels.{edge_at}
 use Rattle.pr_base.specs.Digits.{is_digit}
 use Rattle.pr_base.specs.Lines.{lines_of}
-use Rattle.pr_capture.specs.declared.csv.Columns.{Columns}
 use Rattle.pr_capture.specs.declared.csv.CsvReader.{CsvReader}
 use Rattle.pr_capture.specs.declared.csv.Layout.{Layout}
 use Rattle.pr_capture.specs.declared.csv.Moment.{Moment}
@@ -24,19 +23,23 @@ use Rattle.pr_capture.specs.declared.csv.Scale.{Scale}
 use Rattle.pr_capture.specs.declared.csv.Scale.TheVariants.{Counted, Numbered, Timed}
 use Rattle.pr_capture.specs.declared.last_row.LastRow.{LastRow}
 use Rattle.pr_capture.specs.declared.fault.CaptureFault.{CaptureFault}
+use Rattle.pr_capture.specs.declared.signals.Probes.{Probes}
 use Rattle.pr_capture.specs.declared.signals.Signals.{Signals}
+use Rattle.pr_capture.specs.declared.volts.Threshold.{Threshold}
+use Rattle.pr_capture.specs.declared.volts.Volts.{Volts}
 use Rattle.pr_capture.specs.declared.times.Instant.{Instant}
 use Rattle.pr_capture.specs.declared.fault.CaptureFault.TheVariants.{BadLevel, Floating, NoTime, Unknown}
 use Rattle.pr_capture.specs.declared.fault.Wire.{Wire}
 use Rattle.pr_capture.specs.declared.fault.Wire.TheVariants.{Atn, Clock, Data}
-use Rattle.pr_capture.specs.Csv.{behind_point, cell_level, csv_contents, field_at, fields_of, instant_of_number, instant_of_row, is_foreign, is_inner, is_silent, level_of, level_or, moment_at, moment_next, moment_of, row_contents, row_of, sample_by, sample_of}
+use Rattle.pr_capture.specs.Csv.{behind_point, cell_level, csv_contents, field_at, fields_of, has_number, instant_of_number, instant_of_row, is_foreign, is_inner, is_silent, level_at, level_of, level_or, moment_at, moment_next, moment_of, row_contents, row_of, sample_by, sample_of, volts_level}
 use Rattle.pr_capture.specs.CsvReads.{ReadsMore, SkipsRows, TakesRepeats}
 use Rattle.pr_capture.specs.Gathers.{AllHave}
 use Rattle.pr_capture.specs.CsvSteps.{are_behind, contents_from, decimals_len, digits_ahead, field_len, is_plain, line_number, row_at, row_if, tail_at, tail_behind, tail_by, with_len, HasLevels, HasReadTable, IsFront, IsPlainTime, IsRepeat, IsRowOf, IsTimeAhead, KnowsLevels, PlainComesFirst, TimeComesFirst}
 use Rattle.pr_capture.specs.Numbers.{behind_digits, digits_in, number_from, number_of, onward}
 use Rattle.pr_capture.specs.TableTimes.{count_in, instant_in, instant_of, micros_of, sample_in, time_at_rate, times_in}
+use Rattle.pr_capture.specs.Volts.{is_at_least, volts_in}
 use Rattle.pr_capture.specs.Words.{is_space}
-use Rattle.pr_capture.specs.Recording.{◌>>=◌, is_framing, level_in, with_samples, without_front}
+use Rattle.pr_capture.specs.Recording.{◌>>=◌, inverts, is_framing, level_in, with_samples, without_front}
 use Rattle.pr_capture.specs.declared.numbers.Digits.{Digits}
 use Rattle.pr_capture.proofs.CsvFields.{field-ended}
 use Rattle.pr_capture.proofs.CsvReading.{behind-behind, inner-line}
@@ -148,9 +151,8 @@ plain-front len count text decimals c some d l =
 -- Rows.
 
 -- a level does not depend on the line's number
-level-anywhere : (n m : ℕ) (inverted : Bool) (wire : Wire) (field : Option (List ℕ)) (l : Bool) → level_or n inverted wire field ≡ Ok l → level_or m inverted wire field ≡ Ok l
-level-anywhere n m inverted wire None l h = absurd (cc)
-level-anywhere n m inverted wire (Some f) l h = by (without_front f) h
+cell-anywhere : (n m : ℕ) (inverted : Bool) (v : List ℕ) (l : Bool) → level_of n inverted v ≡ Ok l → level_of m inverted v ≡ Ok l
+cell-anywhere n m inverted v l h = by v h
   where
     known : (b : ℕ) → level_in n inverted b ≡ Ok l → level_in m inverted b ≡ Ok l
     known b k = step (b == 48 || b == 76 || b == 108) (b == 49 || b == 72 || b == 104) (b == 120 || b == 88) (b == 122 || b == 90) refl refl refl refl
@@ -177,58 +179,83 @@ level-anywhere n m inverted wire (Some f) l h = by (without_front f) h
         framed true e = let o : cell_level n inverted b ≡ Ok l = rw e at k in rw e (letter b o)
         framed false e = absurd (let o : Err (BadLevel n) ≡ Ok l = rw e at k in cc)
 
--- so neither does a sample, nor on its time
-levels-anywhere : (c : Columns) (inverted : Bool) (n m t u : ℕ) (fields : List (List ℕ)) (e : Edge) → sample_by c inverted n fields t ≡ Ok e
-    → sample_by c inverted m fields u ≡ Ok (record { time = u; levels = e.levels })
-levels-anywhere c inverted n m t u fields e h =
-    by (level_or n inverted Atn (field_at c.atn fields)) (level_or n inverted Clock (field_at c.clock fields)) (level_or n inverted Data (field_at c.line fields)) refl refl refl h
+-- nor on the level before, if it is the same
+level-again : (n m sep : ℕ) (probes : Probes) (wire : Wire) (before : Bool) (field : Option (List ℕ)) (l : Bool) → level_or n sep probes wire before field ≡ Ok l
+    → level_or m sep probes wire l field ≡ Ok l
+level-again n m sep probes wire before None l h = absurd (cc)
+level-again n m sep probes wire before (Some f) l h = by probes.threshold h
   where
-    by : (a b d : Result Bool CaptureFault) → level_or n inverted Atn (field_at c.atn fields) ≡ a → level_or n inverted Clock (field_at c.clock fields) ≡ b → level_or n inverted Data (field_at c.line fields) ≡ d
-        → sample_by c inverted n fields t ≡ Ok e → sample_by c inverted m fields u ≡ Ok (record { time = u; levels = e.levels })
+    volts : (t : Threshold) (v : Option Volts) → volts_level n (inverts probes wire) before t v ≡ Ok l → volts_level m (inverts probes wire) l t v ≡ Ok l
+    volts t None k = absurd (cc)
+    volts t (Some v) k = pick (is_at_least v t.high) (is_at_least v t.low) refl refl
+      where
+        pick : (a b : Bool) → is_at_least v t.high ≡ a → is_at_least v t.low ≡ b → volts_level m (inverts probes wire) l t (Some v) ≡ Ok l
+        pick true b ha hb = let o : Ok (not (inverts probes wire)) ≡ Ok l = rw ha at k in rw ha o
+        pick false true ha hb = rw (ha, hb) refl
+        pick false false ha hb = let o : Ok (inverts probes wire) ≡ Ok l = rw (ha, hb) at k in rw (ha, hb) o
+
+    by : (t : Option Threshold) → level_at n sep (inverts probes wire) before t (without_front f) ≡ Ok l → level_at m sep (inverts probes wire) l t (without_front f) ≡ Ok l
+    by None k = cell-anywhere n m (inverts probes wire) (without_front f) l k
+    by (Some t) k = volts t (volts_in sep (without_front f)) k
+
+-- so neither does a sample, nor on its time
+levels-again : (y : Layout) (probes : Probes) (before : Levels) (n m t u : ℕ) (fields : List (List ℕ)) (e : Edge) → sample_by y probes before n fields t ≡ Ok e
+    → sample_by y probes e.levels m fields u ≡ Ok (record { time = u; levels = e.levels })
+levels-again y probes before n m t u fields e h =
+    by (level_or n y.separator probes Atn before.atn (field_at y.columns.atn fields)) (level_or n y.separator probes Clock before.clock (field_at y.columns.clock fields))
+    (level_or n y.separator probes Data before.line (field_at y.columns.line fields)) refl refl refl h
+  where
+    by : (a b d : Result Bool CaptureFault) → level_or n y.separator probes Atn before.atn (field_at y.columns.atn fields) ≡ a → level_or n y.separator probes Clock before.clock (field_at y.columns.clock fields) ≡ b
+        → level_or n y.separator probes Data before.line (field_at y.columns.line fields) ≡ d
+        → sample_by y probes before n fields t ≡ Ok e → sample_by y probes e.levels m fields u ≡ Ok (record { time = u; levels = e.levels })
     by (Ok a) (Ok b) (Ok d) ha hb hd k =
         let is : edge_at t a b d ≡ e = (let o : Ok (edge_at t a b d) ≡ Ok e = rw (ha, hb, hd) at k in cc) in
-        let P : Edge → Type 0 = λ v. sample_by c inverted m fields u ≡ Ok (record { time = u; levels = v.levels }) in
+        let P : Edge → Type 0 = λ v. sample_by y probes v.levels m fields u ≡ Ok (record { time = u; levels = v.levels }) in
         subst P is
         (rw (
-          level-anywhere n m inverted Atn (field_at c.atn fields) a ha,
-          level-anywhere n m inverted Clock (field_at c.clock fields) b hb,
-          level-anywhere n m inverted Data (field_at c.line fields) d hd,
+          level-again n m y.separator probes Atn before.atn (field_at y.columns.atn fields) a ha,
+          level-again n m y.separator probes Clock before.clock (field_at y.columns.clock fields) b hb,
+          level-again n m y.separator probes Data before.line (field_at y.columns.line fields) d hd,
         ) refl)
     by (Err f) b d ha hb hd k = absurd (let o : Err f ≡ Ok e = rw ha at k in cc)
     by (Ok a) (Err f) d ha hb hd k = absurd (let o : Err f ≡ Ok e = rw (ha, hb) at k in cc)
     by (Ok a) (Ok b) (Err f) ha hb hd k = absurd (let o : Err f ≡ Ok e = rw (ha, hb, hd) at k in cc)
 
-sample-anywhere : (c : Columns) (inverted : Bool) (n m t u : ℕ) (fields : List (List ℕ)) (e : Edge) → sample_of c inverted n fields t ≡ Ok e
-    → sample_of c inverted m fields u ≡ Ok (record { time = u; levels = e.levels })
-sample-anywhere c inverted n m t u fields e h = by (is_foreign c fields) refl
+sample-again : (y : Layout) (probes : Probes) (before : Levels) (n m t u : ℕ) (fields : List (List ℕ)) (e : Edge) → sample_of y probes before n fields t ≡ Ok e
+    → sample_of y probes e.levels m fields u ≡ Ok (record { time = u; levels = e.levels })
+sample-again y probes before n m t u fields e h = by (is_foreign y.columns fields) refl
   where
-    by : (b : Bool) → is_foreign c fields ≡ b → sample_of c inverted m fields u ≡ Ok (record { time = u; levels = e.levels })
+    by : (b : Bool) → is_foreign y.columns fields ≡ b → sample_of y probes e.levels m fields u ≡ Ok (record { time = u; levels = e.levels })
     by true k = absurd (let o : Err (NoTime n) ≡ Ok e = rw k at h in cc)
     by false k =
-        let own : sample_by c inverted n fields t ≡ Ok e = rw k at h in
-        rw k (levels-anywhere c inverted n m t u fields e own)
+        let own : sample_by y probes before n fields t ≡ Ok e = rw k at h in
+        rw k (levels-again y probes before n m t u fields e own)
 
--- a row that was read has the levels of its sample
-pub row-levels : (y : Layout) (inverted : Bool) (number : ℕ) (m : Moment) (fields : List (List ℕ)) (row : Row) → row_of y inverted number m fields ≡ Ok row
-    → (n t : ℕ) → sample_of y.columns inverted n fields t ≡ Ok (record { time = t; levels = row.sample.levels })
-row-levels y inverted number m fields row h n t = by (moment_of y.scale y.separator number m fields) refl h
+-- the moment after a row with this sample
+abbrev with_sample : Moment → Edge → Row
+with_sample next e = record { sample = e; moment = record next { levels = e.levels } }
+
+-- a row that was read has the levels of its sample, and so has the moment after it
+pub row-levels : (y : Layout) (probes : Probes) (number : ℕ) (m : Moment) (fields : List (List ℕ)) (row : Row) → row_of y probes number m fields ≡ Ok row
+    → (row.moment.levels ≡ row.sample.levels) × ((n t : ℕ) → sample_of y probes row.sample.levels n fields t ≡ Ok (record { time = t; levels = row.sample.levels }))
+row-levels y probes number m fields row h = by (moment_of y.scale y.separator number m (field_at y.times fields)) refl h
   where
-    in-row : (next : Moment) (v : Result Edge CaptureFault) → sample_of y.columns inverted number fields next.before ≡ v
-        → (v >>= λ e. Ok (record { sample = e; moment = next })) ≡ Ok row
-        → sample_of y.columns inverted n fields t ≡ Ok (record { time = t; levels = row.sample.levels })
+    in-row : (next : Moment) (v : Result Edge CaptureFault) → sample_of y probes m.levels number fields next.before ≡ v
+        → (v >>= λ e. Ok (with_sample next e)) ≡ Ok row
+        → (row.moment.levels ≡ row.sample.levels) × ((n t : ℕ) → sample_of y probes row.sample.levels n fields t ≡ Ok (record { time = t; levels = row.sample.levels }))
     in-row next (Err f) e k = absurd (cc)
     in-row next (Ok s) e k =
-        let made : Row = record { sample = s; moment = next } in
+        let made : Row = with_sample next s in
         let is : made ≡ row = cc in
-        let P : Row → Type 0 = λ r. sample_of y.columns inverted n fields t ≡ Ok (record { time = t; levels = r.sample.levels }) in
-        subst P is (sample-anywhere y.columns inverted number n next.before t fields s e)
+        let P : Row → Type 0 = λ r. (r.moment.levels ≡ r.sample.levels) × ((n t : ℕ) → sample_of y probes r.sample.levels n fields t ≡ Ok (record { time = t; levels = r.sample.levels })) in
+        subst P is (refl, λ n t. sample-again y probes m.levels number n next.before t fields s e)
 
-    by : (v : Result Moment CaptureFault) → moment_of y.scale y.separator number m fields ≡ v → row_of y inverted number m fields ≡ Ok row
-        → sample_of y.columns inverted n fields t ≡ Ok (record { time = t; levels = row.sample.levels })
+    by : (v : Result Moment CaptureFault) → moment_of y.scale y.separator number m (field_at y.times fields) ≡ v → row_of y probes number m fields ≡ Ok row
+        → (row.moment.levels ≡ row.sample.levels) × ((n t : ℕ) → sample_of y probes row.sample.levels n fields t ≡ Ok (record { time = t; levels = row.sample.levels }))
     by (Err f) e k = absurd (let o : Err f ≡ Ok row = rw e at k in cc)
     by (Ok next) e k =
-        let o : (sample_of y.columns inverted number fields next.before >>= λ s. Ok (record { sample = s; moment = next })) ≡ Ok row = rw e at k in
-        in-row next (sample_of y.columns inverted number fields next.before) refl o
+        let o : (sample_of y probes m.levels number fields next.before >>= λ s. Ok (with_sample next s)) ≡ Ok row = rw e at k in
+        in-row next (sample_of y probes m.levels number fields next.before) refl o
 
 -- the byte that ends the first field
 field-end : (sep : ℕ) (quoted : Bool) (l : List ℕ) → field_len sep quoted l < length l
@@ -293,31 +320,32 @@ column-behind : (place : ℕ) (f g : List ℕ) (fs : List (List ℕ)) → (place
 column-behind zero f g fs h = absurd (cc)
 column-behind (suc place) f g fs h = refl
 
-sample-behind : (c : Columns) (inverted : Bool) (n t : ℕ) (f g : List ℕ) (fs : List (List ℕ)) → are_behind c ≡ true → sample_of c inverted n (f ∷ fs) t ≡ sample_of c inverted n (g ∷ fs) t
-sample-behind c inverted n t f g fs h = by c.has_other_first (c.atn == 0) (c.clock == 0) (c.line == 0) refl refl refl refl
+sample-behind : (y : Layout) (probes : Probes) (before : Levels) (n t : ℕ) (f g : List ℕ) (fs : List (List ℕ)) → are_behind y.columns ≡ true → sample_of y probes before n (f ∷ fs) t ≡ sample_of y probes before n (g ∷ fs) t
+sample-behind y probes before n t f g fs h = by y.columns.has_other_first (y.columns.atn == 0) (y.columns.clock == 0) (y.columns.line == 0) refl refl refl refl
   where
-    by : (o p q r : Bool) → c.has_other_first ≡ o → (c.atn == 0) ≡ p → (c.clock == 0) ≡ q → (c.line == 0) ≡ r
-        → sample_of c inverted n (f ∷ fs) t ≡ sample_of c inverted n (g ∷ fs) t
+    by : (o p q r : Bool) → y.columns.has_other_first ≡ o → (y.columns.atn == 0) ≡ p → (y.columns.clock == 0) ≡ q → (y.columns.line == 0) ≡ r
+        → sample_of y probes before n (f ∷ fs) t ≡ sample_of y probes before n (g ∷ fs) t
     by false false false false ho hp hq hr =
         let made : (a b d : Option (List ℕ)) → Result Edge CaptureFault =
-        λ a b d. level_or n inverted Atn a >>= λ atn. level_or n inverted Clock b >>= λ clock. level_or n inverted Data d >>= λ line. Ok (edge_at t atn clock line) in
-        let same : sample_by c inverted n (f ∷ fs) t ≡ sample_by c inverted n (g ∷ fs) t =
-        ap (λ v. made v (field_at c.clock (f ∷ fs)) (field_at c.line (f ∷ fs))) (column-behind c.atn f g fs hp)
-        ∙ (ap (λ v. made (field_at c.atn (g ∷ fs)) v (field_at c.line (f ∷ fs))) (column-behind c.clock f g fs hq)
-        ∙ ap (λ v. made (field_at c.atn (g ∷ fs)) (field_at c.clock (g ∷ fs)) v) (column-behind c.line f g fs hr)) in
-        rw ho same
+        λ a b d. level_or n y.separator probes Atn before.atn a >>= λ atn. level_or n y.separator probes Clock before.clock b >>= λ clock. level_or n y.separator probes Data before.line d >>= λ line. Ok (edge_at t atn clock line) in
+        let same : sample_by y probes before n (f ∷ fs) t ≡ sample_by y probes before n (g ∷ fs) t =
+        ap (λ v. made v (field_at y.columns.clock (f ∷ fs)) (field_at y.columns.line (f ∷ fs))) (column-behind y.columns.atn f g fs hp)
+        ∙ (ap (λ v. made (field_at y.columns.atn (g ∷ fs)) v (field_at y.columns.line (f ∷ fs))) (column-behind y.columns.clock f g fs hq)
+        ∙ ap (λ v. made (field_at y.columns.atn (g ∷ fs)) (field_at y.columns.clock (g ∷ fs)) v) (column-behind y.columns.line f g fs hr)) in
+        let later : Bool = y.columns.are_rated && has_number y.columns 1 fs in
+        rw ho (ap (λ v. if later then Err (NoTime n) else v) same)
     by true p q r ho hp hq hr = absurd (let no : false ≡ true = rw ho at h in cc)
     by false true q r ho hp hq hr = absurd (let no : false ≡ true = rw (ho, hp) at h in cc)
     by false false true r ho hp hq hr = absurd (let no : false ≡ true = rw (ho, hp, hq) at h in cc)
     by false false false true ho hp hq hr = absurd (let no : false ≡ true = rw (ho, hp, hq, hr) at h in cc)
 
 -- rows with times or numbers
-plain-levels : (inverted : Bool) (y : Layout) (line : List ℕ) (from : ℕ) (e : Edge) → ((front : List ℕ) → IsFront y.scale front → (list_all is_plain front ≡ true) × (0 < length front))
-    → ((tail : List ℕ) → PlainComesFirst y.separator tail → TimeComesFirst y.scale y.separator tail) → are_behind y.columns ≡ true → is_plain y.separator ≡ false
+plain-levels : (probes : Probes) (y : Layout) (line : List ℕ) (from : ℕ) (e : Edge) → ((front : List ℕ) → IsFront y.scale front → (list_all is_plain front ≡ true) × (0 < length front))
+    → ((tail : List ℕ) → PlainComesFirst y.separator y.times tail → TimeComesFirst y.scale y.separator y.times tail) → y.times ≡ 0 → are_behind y.columns ≡ true → is_plain y.separator ≡ false
     → from ≡ field_len y.separator false line → from < length line → list_all is_inner line ≡ true
-    → ((number time : ℕ) → sample_of y.columns inverted number (fields_of y.separator false line) time ≡ Ok (record { time = time; levels = e.levels }))
-    → HasLevels inverted y (drop from line) e.levels
-plain-levels inverted y line from e plain comes behind other at less inner reads =
+    → ((number time : ℕ) → sample_of y probes e.levels number (fields_of y.separator false line) time ≡ Ok (record { time = time; levels = e.levels }))
+    → HasLevels probes y (drop from line) e.levels
+plain-levels probes y line from e plain comes ahead behind other at less inner reads =
     let sep : ℕ = y.separator in
     let more : List ℕ = drop (from + 1) line in
     let ends : field_len sep false line < length line = omega (arith, at, less) in
@@ -326,40 +354,42 @@ plain-levels inverted y line from e plain comes behind other at less inner reads
     subst (λ j. fields_of sep false line ≡ take j line ∷ fields_of sep false (drop (j + 1) line)) (sym at) (field-ended sep false line ends) in
     let first : (front : List ℕ) → list_all is_plain front ≡ true → fields_of sep false (front ++ sep ∷ more) ≡ front ∷ fields_of sep false more =
     λ front p. field-first sep front more (all-of is_plain (is_inside sep) (λ b k. plain-inside sep b other k) front p) in
-    let P : List ℕ → Type 0 = λ v. HasLevels inverted y v e.levels in
+    let P : List ℕ → Type 0 = λ v. HasLevels probes y v e.levels in
     subst P (sym tail) record {
       inner = ap (list_all is_inner) (sym tail) ∙ inner-rest from line inner;
       loud = λ front f. front-loud front (sep ∷ more) (plain front f).0 (plain front f).1;
-      first = comes (sep ∷ more) (λ front p. ap (field_at 0) (first front p));
+      first = comes (sep ∷ more) (λ front p. ap (λ j. field_at j (fields_of sep false (front ++ sep ∷ more))) ahead ∙ ap (field_at 0) (first front p));
       reads = λ number time front f.
-          ap (λ v. sample_of y.columns inverted number v time) (first front (plain front f).0)
-          ∙ (sample-behind y.columns inverted number time front (take from line) (fields_of sep false more) behind
-          ∙ (ap (λ v. sample_of y.columns inverted number v time) (sym split) ∙ reads number time));
+          ap (λ v. sample_of y probes e.levels number v time) (first front (plain front f).0)
+          ∙ (sample-behind y probes e.levels number time front (take from line) (fields_of sep false more) behind
+          ∙ (ap (λ v. sample_of y probes e.levels number v time) (sym split) ∙ reads number time));
     }
 
 -- what is known of rows that go on as a row does
-pub tail-levels : (inverted : Bool) (y : Layout) (line : List ℕ) (from : ℕ) (e : Edge) → tail_at y line ≡ Some from → list_all is_inner line ≡ true → is_silent line ≡ false
-    → ((number time : ℕ) → sample_of y.columns inverted number (fields_of y.separator false line) time ≡ Ok (record { time = time; levels = e.levels }))
-    → HasLevels inverted y (drop from line) e.levels
-tail-levels inverted y line from e at inner loud reads = by y.scale refl at
+pub tail-levels : (probes : Probes) (y : Layout) (line : List ℕ) (from : ℕ) (e : Edge) → tail_at y line ≡ Some from → list_all is_inner line ≡ true → is_silent line ≡ false
+    → ((number time : ℕ) → sample_of y probes e.levels number (fields_of y.separator false line) time ≡ Ok (record { time = time; levels = e.levels }))
+    → HasLevels probes y (drop from line) e.levels
+tail-levels probes y line from e at inner loud reads = by y.scale refl at
   where
     behind : ((front : List ℕ) → IsFront y.scale front → (list_all is_plain front ≡ true) × (0 < length front))
-        → ((tail : List ℕ) → PlainComesFirst y.separator tail → TimeComesFirst y.scale y.separator tail)
-        → (a b d : Bool) → are_behind y.columns ≡ a → is_plain y.separator ≡ b → nat_lt (field_len y.separator false line) (length line) ≡ d
-        → tail_behind y.columns y.separator line ≡ Some from → HasLevels inverted y (drop from line) e.levels
-    behind plain comes true false true ha hb hd k =
-        let o : Some (field_len y.separator false line) ≡ Some from = rw (ha, hb, hd) at k in
+        → ((tail : List ℕ) → PlainComesFirst y.separator y.times tail → TimeComesFirst y.scale y.separator y.times tail)
+        → (z a b d : Bool) → (y.times == 0) ≡ z → are_behind y.columns ≡ a → is_plain y.separator ≡ b → nat_lt (field_len y.separator false line) (length line) ≡ d
+        → tail_behind y.times y.columns y.separator line ≡ Some from → HasLevels probes y (drop from line) e.levels
+    behind plain comes true true false true hz ha hb hd k =
+        let o : Some (field_len y.separator false line) ≡ Some from = rw (hz, ha, hb, hd) at k in
+        let ahead : y.times ≡ 0 = grind (arith, common_steps) in
         let j : from ≡ field_len y.separator false line = cc in
         let less : field_len y.separator false line < length line = grind (arith, common_steps) in
-        plain-levels inverted y line from e plain comes ha hb j (omega (arith, j, less)) inner reads
-    behind plain comes false b d ha hb hd k = absurd (let o : None ≡ Some from = rw ha at k in cc)
-    behind plain comes true true d ha hb hd k = absurd (let o : None ≡ Some from = rw (ha, hb) at k in cc)
-    behind plain comes true false false ha hb hd k = absurd (let o : None ≡ Some from = rw (ha, hb, hd) at k in cc)
+        plain-levels probes y line from e plain comes ahead ha hb j (omega (arith, j, less)) inner reads
+    behind plain comes false a b d hz ha hb hd k = absurd (let o : None ≡ Some from = rw hz at k in cc)
+    behind plain comes true false b d hz ha hb hd k = absurd (let o : None ≡ Some from = rw (hz, ha) at k in cc)
+    behind plain comes true true true d hz ha hb hd k = absurd (let o : None ≡ Some from = rw (hz, ha, hb) at k in cc)
+    behind plain comes true true false false hz ha hb hd k = absurd (let o : None ≡ Some from = rw (hz, ha, hb, hd) at k in cc)
 
-    by : (scale : Scale) → y.scale ≡ scale → tail_by scale y.columns y.separator line ≡ Some from → HasLevels inverted y (drop from line) e.levels
+    by : (scale : Scale) → y.scale ≡ scale → tail_by scale y.times y.columns y.separator line ≡ Some from → HasLevels probes y (drop from line) e.levels
     by (Counted rate) is k =
         let none-before : 0 ≡ from = cc in
-        let P : ℕ → Type 0 = λ j. HasLevels inverted y (drop j line) e.levels in
+        let P : ℕ → Type 0 = λ j. HasLevels probes y (drop j line) e.levels in
         subst P none-before record {
           inner = inner;
           loud = λ front f. (let none : front ≡ [] = rw is at f in rw none loud);
@@ -367,56 +397,58 @@ tail-levels inverted y line from e at inner loud reads = by y.scale refl at
           reads = λ number time front f. (let none : front ≡ [] = rw is at f in rw none (reads number time));
         }
     by (Numbered step rate) is k =
-        behind (λ front f. rw is at f) (λ tail p. rw is p) (are_behind y.columns) (is_plain y.separator) (nat_lt (field_len y.separator false line) (length line)) refl refl refl k
+        behind (λ front f. rw is at f) (λ tail p. rw is p) (y.times == 0) (are_behind y.columns) (is_plain y.separator) (nat_lt (field_len y.separator false line) (length line)) refl refl refl refl k
     by (Timed unit) is k =
-        behind (λ front f. rw is at f) (λ tail p. rw is p) (are_behind y.columns) (is_plain y.separator) (nat_lt (field_len y.separator false line) (length line)) refl refl refl k
+        behind (λ front f. rw is at f) (λ tail p. rw is p) (y.times == 0) (are_behind y.columns) (is_plain y.separator) (nat_lt (field_len y.separator false line) (length line)) refl refl refl refl k
 
 -- so it is of a line that has ended
-pub row-known : (inverted : Bool) (p : RowPlace) (y : Layout) (m : Moment) (line : List ℕ) (sample : Option Edge) (e : Edge) (from : ℕ) → p ≡ Rows y m → sample ≡ Some e → tail_at y line ≡ Some from
-    → list_all is_inner line ≡ true → IsRowOf inverted p line sample → HasLevels inverted y (drop from line) e.levels
-row-known inverted p y m line sample e from place some at inner row =
-    let r : (is_silent line ≡ false) × ((number time : ℕ)
-    → sample_of y.columns inverted number (fields_of y.separator false line) time ≡ Ok (record { time = time; levels = e.levels })) = rw (place, some) at row in
-    tail-levels inverted y line from e at inner r.0 r.1
+pub row-known : (probes : Probes) (p : RowPlace) (y : Layout) (m : Moment) (line : List ℕ) (sample : Option Edge) (e : Edge) (from : ℕ) → p ≡ Rows y m → sample ≡ Some e → tail_at y line ≡ Some from
+    → list_all is_inner line ≡ true → IsRowOf probes p line sample → (m.levels ≡ e.levels) × HasLevels probes y (drop from line) e.levels
+row-known probes p y m line sample e from place some at inner row =
+    let r : (is_silent line ≡ false) × (m.levels ≡ e.levels) × ((number time : ℕ)
+    → sample_of y probes e.levels number (fields_of y.separator false line) time ≡ Ok (record { time = time; levels = e.levels })) = rw (place, some) at row in
+    (r.1, tail-levels probes y line from e at inner r.0 r.2)
 
 -- a row that goes on as the last one is read by what is in front
-row-read : (inverted : Bool) (y : Layout) (number : ℕ) (m next : Moment) (block front tail bytes : List ℕ) (levels : Levels) → HasLevels inverted y tail levels → IsFront y.scale front
-    → list_all is_inner front ≡ true → moment_of y.scale y.separator number m (fields_of y.separator false (front ++ tail)) ≡ Ok next → bytes ≡ (front ++ tail) ++ 10 ∷ []
-    → IsRepeat inverted y number m bytes (row_at next levels)
-row-read inverted y number m next block front tail bytes levels h is inner reads ends = record {
+row-read : (probes : Probes) (y : Layout) (number : ℕ) (m next : Moment) (block front tail bytes : List ℕ) (levels : Levels) → m.levels ≡ levels → HasLevels probes y tail levels → IsFront y.scale front
+    → list_all is_inner front ≡ true → moment_of y.scale y.separator number m (field_at y.times (fields_of y.separator false (front ++ tail))) ≡ Ok next → bytes ≡ (front ++ tail) ++ 10 ∷ []
+    → IsRepeat probes y number m bytes (row_at next levels)
+row-read probes y number m next block front tail bytes levels same h is inner reads ends = record {
   line = front ++ tail;
   ends = ends;
   inner = list_all-append is_inner front tail ∙ rw (inner, h.inner) refl;
   loud = h.loud front is;
-  reads = rw (reads, h.reads number next.before front is) refl;
+  reads = (let sample : sample_of y probes m.levels number (fields_of y.separator false (front ++ tail)) next.before ≡ Ok (record { time = next.before; levels = levels }) =
+      ap (λ (k : Levels). sample_of y probes k number (fields_of y.separator false (front ++ tail)) next.before) same ∙ h.reads number next.before front is in
+      rw (reads, sample) refl);
 }
 
 -- in a table without times
-pub repeated-counted : (inverted : Bool) (y : Layout) (number rate len : ℕ) (m next : Moment) (block tail : List ℕ) (levels : Levels) → y.scale ≡ Counted rate → HasLevels inverted y tail levels
+pub repeated-counted : (probes : Probes) (y : Layout) (number rate len : ℕ) (m next : Moment) (block tail : List ℕ) (levels : Levels) → y.scale ≡ Counted rate → m.levels ≡ levels → HasLevels probes y tail levels
     → moment_next number m (time_at_rate rate m.count) ≡ Ok next → take (length tail + 1) block ≡ tail ++ 10 ∷ [] → len ≡ length tail + 1
-    → IsRepeat inverted y number m (take len block) (row_at next levels)
-repeated-counted inverted y number rate len m next block tail levels is h reads ends l =
-    row-read inverted y number m next block [] tail (take len block) levels h (rw is refl) refl (rw is reads) (ap (λ i. take i block) l ∙ ends)
+    → IsRepeat probes y number m (take len block) (row_at next levels)
+repeated-counted probes y number rate len m next block tail levels is same h reads ends l =
+    row-read probes y number m next block [] tail (take len block) levels same h (rw is refl) refl (rw is reads) (ap (λ i. take i block) l ∙ ends)
 
 -- and in one with times or numbers
-repeated-plain : (inverted : Bool) (y : Layout) (number n len : ℕ) (m next : Moment) (block tail : List ℕ) (levels : Levels) → IsFront y.scale (take n block) → HasLevels inverted y tail levels
-    → list_all is_plain (take n block) ≡ true → moment_of y.scale y.separator number m (fields_of y.separator false (take n block ++ tail)) ≡ Ok next
-    → take (length tail + 1) (drop n block) ≡ tail ++ 10 ∷ [] → len ≡ n + length tail + 1 → IsRepeat inverted y number m (take len block) (row_at next levels)
-repeated-plain inverted y number n len m next block tail levels front h plain reads ends l =
+repeated-plain : (probes : Probes) (y : Layout) (number n len : ℕ) (m next : Moment) (block tail : List ℕ) (levels : Levels) → IsFront y.scale (take n block) → m.levels ≡ levels → HasLevels probes y tail levels
+    → list_all is_plain (take n block) ≡ true → moment_of y.scale y.separator number m (field_at y.times (fields_of y.separator false (take n block ++ tail))) ≡ Ok next
+    → take (length tail + 1) (drop n block) ≡ tail ++ 10 ∷ [] → len ≡ n + length tail + 1 → IsRepeat probes y number m (take len block) (row_at next levels)
+repeated-plain probes y number n len m next block tail levels front same h plain reads ends l =
     let in-parts : len ≡ n + (length tail + 1) = omega (arith, l) in
     let bytes : take len block ≡ (take n block ++ tail) ++ 10 ∷ [] =
     ap (λ j. take j block) in-parts ∙ (take-add n (length tail + 1) block ∙ (ap (λ v. take n block ++ v) ends ∙ sym (append_assoc (take n block) tail (10 ∷ [])))) in
-    row-read inverted y number m next block (take n block) tail (take len block) levels h front (all-of is_plain is_inner plain-inner (take n block) plain) reads bytes
+    row-read probes y number m next block (take n block) tail (take len block) levels same h front (all-of is_plain is_inner plain-inner (take n block) plain) reads bytes
 
-pub repeated-timed : (inverted : Bool) (y : Layout) (number unit n len : ℕ) (m next : Moment) (block tail whole decimals : List ℕ) (i : Instant) (levels : Levels) → y.scale ≡ Timed unit
-    → HasLevels inverted y tail levels → IsPlainTime (take n block) whole decimals → instant_of false (micros_of 6 unit whole decimals) ≡ Some i → moment_at number m (Some i) ≡ Ok next
-    → take (length tail + 1) (drop n block) ≡ tail ++ 10 ∷ [] → len ≡ n + length tail + 1 → IsRepeat inverted y number m (take len block) (row_at next levels)
-repeated-timed inverted y number unit n len m next block tail whole decimals i levels is h plain spelled reads ends l =
+pub repeated-timed : (probes : Probes) (y : Layout) (number unit n len : ℕ) (m next : Moment) (block tail whole decimals : List ℕ) (i : Instant) (levels : Levels) → y.scale ≡ Timed unit
+    → m.levels ≡ levels → HasLevels probes y tail levels → IsPlainTime (take n block) whole decimals → instant_of false (micros_of 6 unit whole decimals) ≡ Some i → moment_at number m (Some i) ≡ Ok next
+    → take (length tail + 1) (drop n block) ≡ tail ++ 10 ∷ [] → len ≡ n + length tail + 1 → IsRepeat probes y number m (take len block) (row_at next levels)
+repeated-timed probes y number unit n len m next block tail whole decimals i levels is same h plain spelled reads ends l =
     let front : List ℕ = take n block in
-    let first : PlainComesFirst y.separator tail = rw is at h.first in
-    let timed : moment_of (Timed unit) y.separator number m (fields_of y.separator false (front ++ tail)) ≡ Ok next =
+    let first : PlainComesFirst y.separator y.times tail = rw is at h.first in
+    let timed : moment_of (Timed unit) y.separator number m (field_at y.times (fields_of y.separator false (front ++ tail))) ≡ Ok next =
     ap (λ o. moment_at number m (instant_of_row y.separator unit o)) (first front plain.plain) ∙ (ap (moment_at number m) (plain.reads y.separator unit i spelled) ∙ reads) in
-    repeated-plain inverted y number n len m next block tail levels (rw is (plain.plain, plain.some)) h plain.plain (rw is timed) ends l
+    repeated-plain probes y number n len m next block tail levels (rw is (plain.plain, plain.some)) same h plain.plain (rw is timed) ends l
 
 -- digits alone are a plain time
 pub digits-ahead : (text : List ℕ) (d : Digits) → digits_ahead text ≡ Some d → 0 < d.len → IsTimeAhead 6 text (record { len = d.len; micros = d.number })
@@ -440,61 +472,61 @@ digits-counted (x ∷ xs) h some =
     let front : without_front all ≡ all = subst (λ v. without_front v ≡ v) none (digit-first all [] some h).0 in
     ap count_in front ∙ (rw behind refl ∙ ap number_of own)
 
-pub repeated-numbered : (inverted : Bool) (y : Layout) (number step rate count len : ℕ) (m next : Moment) (block tail : List ℕ) (i : Instant) (levels : Levels) → y.scale ≡ Numbered step rate
-    → HasLevels inverted y tail levels → 0 < length (digits_in block) → number_from 0 (digits_in block) ≡ Some count → instant_of false (onward (times_in step count) (time_at_rate rate)) ≡ Some i
+pub repeated-numbered : (probes : Probes) (y : Layout) (number step rate count len : ℕ) (m next : Moment) (block tail : List ℕ) (i : Instant) (levels : Levels) → y.scale ≡ Numbered step rate
+    → m.levels ≡ levels → HasLevels probes y tail levels → 0 < length (digits_in block) → number_from 0 (digits_in block) ≡ Some count → instant_of false (onward (times_in step count) (time_at_rate rate)) ≡ Some i
     → moment_at number m (Some i) ≡ Ok next → take (length tail + 1) (drop (prefix_len is_digit block) block) ≡ tail ++ 10 ∷ [] → len ≡ prefix_len is_digit block + length tail + 1
-    → IsRepeat inverted y number m (take len block) (row_at next levels)
-repeated-numbered inverted y number step rate count len m next block tail i levels is h some counted spelled reads ends l =
+    → IsRepeat probes y number m (take len block) (row_at next levels)
+repeated-numbered probes y number step rate count len m next block tail i levels is same h some counted spelled reads ends l =
     let front : List ℕ = digits_in block in
     let digits : list_all is_digit front ≡ true = all-front is_digit block in
     let plain : list_all is_plain front ≡ true = all-of is_digit is_plain digit-is-plain front digits in
-    let first : PlainComesFirst y.separator tail = rw is at h.first in
+    let first : PlainComesFirst y.separator y.times tail = rw is at h.first in
     let sample : sample_in step rate (without_front front) ≡ Some i =
     ap (λ o. instant_of false (onward (onward o (times_in step)) (time_at_rate rate))) (digits-counted front digits some ∙ counted) ∙ spelled in
-    let timed : moment_of (Numbered step rate) y.separator number m (fields_of y.separator false (front ++ tail)) ≡ Ok next =
+    let timed : moment_of (Numbered step rate) y.separator number m (field_at y.times (fields_of y.separator false (front ++ tail))) ≡ Ok next =
     ap (λ o. moment_at number m (instant_of_number step rate o)) (first front plain) ∙ (ap (moment_at number m) sample ∙ reads) in
-    repeated-plain inverted y number (prefix_len is_digit block) len m next block tail levels (rw is (plain, some)) h plain (rw is timed) ends l
+    repeated-plain probes y number (prefix_len is_digit block) len m next block tail levels (rw is (plain, some)) same h plain (rw is timed) ends l
 
 -- the moment that made a row
-moment-of-row : (inverted : Bool) (y : Layout) (number : ℕ) (m : Moment) (bytes : List ℕ) (levels : Levels) (row : Row) (v : Result Moment CaptureFault) → row_if v levels ≡ Some row
-    → ((next : Moment) → v ≡ Ok next → IsRepeat inverted y number m bytes (row_at next levels)) → IsRepeat inverted y number m bytes row
-moment-of-row inverted y number m bytes levels row (Ok next) e k =
+moment-of-row : (probes : Probes) (y : Layout) (number : ℕ) (m : Moment) (bytes : List ℕ) (levels : Levels) (row : Row) (v : Result Moment CaptureFault) → row_if v levels ≡ Some row
+    → ((next : Moment) → v ≡ Ok next → IsRepeat probes y number m bytes (row_at next levels)) → IsRepeat probes y number m bytes row
+moment-of-row probes y number m bytes levels row (Ok next) e k =
     let is : row_at next levels ≡ row = cc in
-    let P : Row → Type 0 = λ r. IsRepeat inverted y number m bytes r in
+    let P : Row → Type 0 = λ r. IsRepeat probes y number m bytes r in
     subst P is (k next refl)
-moment-of-row inverted y number m bytes levels row (Err f) e k = absurd (cc)
+moment-of-row probes y number m bytes levels row (Err f) e k = absurd (cc)
 
-pub counted-repeat : (inverted : Bool) (y : Layout) (number rate : ℕ) (m : Moment) (block tail : List ℕ) (last : LastRow) (levels : Levels) (row : Row) (v : Result Moment CaptureFault) (o : Option Row)
+pub counted-repeat : (probes : Probes) (y : Layout) (number rate : ℕ) (m : Moment) (block tail : List ℕ) (last : LastRow) (levels : Levels) (row : Row) (v : Result Moment CaptureFault) (o : Option Row)
     → y.scale ≡ Counted rate → last.levels ≡ Some levels → tail ≡ drop last.from last.bytes.items → v ≡ moment_next number m (time_at_rate rate m.count) → o ≡ row_if v levels → o ≡ Some row
-    → take (length tail + 1) block ≡ tail ++ 10 ∷ [] → KnowsLevels inverted y last → IsRepeat inverted y number m (take (length tail + 1) block) row
-counted-repeat inverted y number rate m block tail last levels row v o is there t made r some ends knows =
-    let k : HasLevels inverted y (drop last.from last.bytes.items) levels = rw there at knows in
-    let P : List ℕ → Type 0 = λ l. HasLevels inverted y l levels in
-    moment-of-row inverted y number m (take (length tail + 1) block) levels row v (sym r ∙ some)
-    (λ next e. repeated-counted inverted y number rate (length tail + 1) m next block tail levels is (subst P (sym t) k) (sym made ∙ e) ends refl)
+    → take (length tail + 1) block ≡ tail ++ 10 ∷ [] → KnowsLevels probes y m last → IsRepeat probes y number m (take (length tail + 1) block) row
+counted-repeat probes y number rate m block tail last levels row v o is there t made r some ends knows =
+    let k : (m.levels ≡ levels) × HasLevels probes y (drop last.from last.bytes.items) levels = rw there at knows in
+    let P : List ℕ → Type 0 = λ l. HasLevels probes y l levels in
+    moment-of-row probes y number m (take (length tail + 1) block) levels row v (sym r ∙ some)
+    (λ next e. repeated-counted probes y number rate (length tail + 1) m next block tail levels is k.0 (subst P (sym t) k.1) (sym made ∙ e) ends refl)
 
-pub timed-repeat : (inverted : Bool) (y : Layout) (number unit n : ℕ) (m : Moment) (block tail whole decimals : List ℕ) (last : LastRow) (levels : Levels) (i : Instant) (row : Row)
+pub timed-repeat : (probes : Probes) (y : Layout) (number unit n : ℕ) (m : Moment) (block tail whole decimals : List ℕ) (last : LastRow) (levels : Levels) (i : Instant) (row : Row)
     (v : Result Moment CaptureFault) (o : Option Row) → y.scale ≡ Timed unit → last.levels ≡ Some levels → tail ≡ drop last.from last.bytes.items → IsPlainTime (take n block) whole decimals
     → instant_of false (micros_of 6 unit whole decimals) ≡ Some i → v ≡ moment_at number m (Some i) → o ≡ row_if v levels → o ≡ Some row
-    → take (length tail + 1) (drop n block) ≡ tail ++ 10 ∷ [] → KnowsLevels inverted y last → IsRepeat inverted y number m (take (n + length tail + 1) block) row
-timed-repeat inverted y number unit n m block tail whole decimals last levels i row v o is there t plain spelled made r some ends knows =
-    let k : HasLevels inverted y (drop last.from last.bytes.items) levels = rw there at knows in
-    let P : List ℕ → Type 0 = λ l. HasLevels inverted y l levels in
-    moment-of-row inverted y number m (take (n + length tail + 1) block) levels row v (sym r ∙ some)
+    → take (length tail + 1) (drop n block) ≡ tail ++ 10 ∷ [] → KnowsLevels probes y m last → IsRepeat probes y number m (take (n + length tail + 1) block) row
+timed-repeat probes y number unit n m block tail whole decimals last levels i row v o is there t plain spelled made r some ends knows =
+    let k : (m.levels ≡ levels) × HasLevels probes y (drop last.from last.bytes.items) levels = rw there at knows in
+    let P : List ℕ → Type 0 = λ l. HasLevels probes y l levels in
+    moment-of-row probes y number m (take (n + length tail + 1) block) levels row v (sym r ∙ some)
     (λ next e.
-    repeated-timed inverted y number unit n (n + length tail + 1) m next block tail whole decimals i levels is (subst P (sym t) k) plain spelled (sym made ∙ e) ends refl)
+    repeated-timed probes y number unit n (n + length tail + 1) m next block tail whole decimals i levels is k.0 (subst P (sym t) k.1) plain spelled (sym made ∙ e) ends refl)
 
-pub numbered-repeat : (inverted : Bool) (y : Layout) (number step rate count : ℕ) (m : Moment) (block tail : List ℕ) (last : LastRow) (levels : Levels) (i : Instant) (row : Row)
+pub numbered-repeat : (probes : Probes) (y : Layout) (number step rate count : ℕ) (m : Moment) (block tail : List ℕ) (last : LastRow) (levels : Levels) (i : Instant) (row : Row)
     (v : Result Moment CaptureFault) (o : Option Row) → y.scale ≡ Numbered step rate → last.levels ≡ Some levels → tail ≡ drop last.from last.bytes.items → 0 < length (digits_in block)
     → number_from 0 (digits_in block) ≡ Some count → instant_of false (onward (times_in step count) (time_at_rate rate)) ≡ Some i → v ≡ moment_at number m (Some i) → o ≡ row_if v levels → o ≡ Some row
-    → take (length tail + 1) (drop (prefix_len is_digit block) block) ≡ tail ++ 10 ∷ [] → KnowsLevels inverted y last
-    → IsRepeat inverted y number m (take (prefix_len is_digit block + length tail + 1) block) row
-numbered-repeat inverted y number step rate count m block tail last levels i row v o is there t digits counted spelled made r some ends knows =
-    let k : HasLevels inverted y (drop last.from last.bytes.items) levels = rw there at knows in
-    let P : List ℕ → Type 0 = λ l. HasLevels inverted y l levels in
+    → take (length tail + 1) (drop (prefix_len is_digit block) block) ≡ tail ++ 10 ∷ [] → KnowsLevels probes y m last
+    → IsRepeat probes y number m (take (prefix_len is_digit block + length tail + 1) block) row
+numbered-repeat probes y number step rate count m block tail last levels i row v o is there t digits counted spelled made r some ends knows =
+    let k : (m.levels ≡ levels) × HasLevels probes y (drop last.from last.bytes.items) levels = rw there at knows in
+    let P : List ℕ → Type 0 = λ l. HasLevels probes y l levels in
     let len : ℕ = prefix_len is_digit block + length tail + 1 in
-    moment-of-row inverted y number m (take len block) levels row v (sym r ∙ some)
-    (λ next e. repeated-numbered inverted y number step rate count len m next block tail i levels is (subst P (sym t) k) digits counted spelled (sym made ∙ e) ends refl)
+    moment-of-row probes y number m (take len block) levels row v (sym r ∙ some)
+    (λ next e. repeated-numbered probes y number step rate count len m next block tail i levels is k.0 (subst P (sym t) k.1) digits counted spelled (sym made ∙ e) ends refl)
 
 -- these bytes and the end of a line are in front of a text
 pub led : (tail text : List ℕ) (word : Bool) → word ≡ bytes_eq (take (length tail) text) tail → length tail < length text → get_or text (length tail) 0 ≡ 10 → word ≡ true
@@ -510,12 +542,14 @@ none-begun (b ∷ bs) h = absurd (omega (arith, h))
 
 -- so it is taken
 pub read-known : (s : Signals) (rate : Option ℕ) (text : List ℕ) (samples : List Edge) (old new : CsvReader) (bytes : List ℕ) (y : Layout) (m : Moment) (row : Row)
-    → HasReadTable s rate text samples old → IsRepeat old.signals.is_inverted y old.number m bytes row
+    → HasReadTable s rate text samples old → IsRepeat old.signals.probes y old.number m bytes row → old.last.levels ≡ Some row.sample.levels
     → old.place ≡ Rows y m → old.line.items ≡ [] → new.place ≡ Rows y row.moment → new.line.items ≡ [] → new.signals ≡ old.signals → new.number ≡ old.number + 1 → new.last ≡ old.last
     → HasReadTable s rate (text ++ bytes) (samples ++ row.sample ∷ []) new
-read-known s rate text samples old new bytes y m row h r p e q d a n l =
-    let inverted : Bool = old.signals.is_inverted in
-    let known : KnowsLevels inverted y old.last = rw p at h.last in
+read-known s rate text samples old new bytes y m row h r same p e q d a n l =
+    let probes : Probes = old.signals.probes in
+    let before : KnowsLevels probes y m old.last = rw p at h.last in
+    let own : (m.levels ≡ row.sample.levels) × HasLevels probes y (drop old.last.from old.last.bytes.items) row.sample.levels = rw same at before in
+    let known : KnowsLevels probes y row.moment old.last = rw same ((row-levels y probes old.number m (fields_of y.separator false r.line) row r.reads).0, own.1) in
     record {
       signals = a ∙ h.signals;
       inner = rw d refl;
@@ -524,13 +558,13 @@ read-known s rate text samples old new bytes y m row h r p e q d a n l =
           ap (csv_contents s rate) (append_assoc text bytes more)
           ∙ (h.told (bytes ++ more)
           ∙ (ap (with_samples samples) (here more)
-          ∙ (behind-behind samples (row.sample ∷ []) (row_contents y inverted (old.number + 1) row.moment (lines_of more))
+          ∙ (behind-behind samples (row.sample ∷ []) (row_contents y probes (old.number + 1) row.moment (lines_of more))
           ∙ ap (with_samples (samples ++ row.sample ∷ [])) (rw (a, q, d, n) refl))));
     }
   where
     here : (more : List ℕ)
         → contents_from old.signals old.place old.number (lines_of (old.line.items ++ (bytes ++ more)))
-        ≡ with_samples (row.sample ∷ []) (row_contents y old.signals.is_inverted (old.number + 1) row.moment (lines_of more))
+        ≡ with_samples (row.sample ∷ []) (row_contents y old.signals.probes (old.number + 1) row.moment (lines_of more))
     here more =
         let lines : lines_of (old.line.items ++ (bytes ++ more)) ≡ r.line ∷ lines_of more =
         ap (λ v. lines_of (v ++ (bytes ++ more))) e
@@ -538,12 +572,12 @@ read-known s rate text samples old new bytes y m row h r p e q d a n l =
         ap (contents_from old.signals old.place old.number) lines ∙ rw (p, r.loud, r.reads) refl
 
 pub read-repeat : (old new : CsvReader) (bytes : List ℕ) (y : Layout) (m : Moment) (row : Row)
-    → ((inverted : Bool) → KnowsLevels inverted y old.last → IsRepeat inverted y old.number m bytes row)
+    → ((probes : Probes) → KnowsLevels probes y m old.last → IsRepeat probes y old.number m bytes row) → old.last.levels ≡ Some row.sample.levels
     → old.place ≡ Rows y m → old.line.items ≡ [] → new.place ≡ Rows y row.moment → new.line.items ≡ [] → new.signals ≡ old.signals → new.number ≡ old.number + 1 → new.last ≡ old.last
     → ReadsMore bytes (Some row.sample) old new
-read-repeat old new bytes y m row repeats p e q d a n l = λ s rate text samples h.
-    let known : KnowsLevels old.signals.is_inverted y old.last = rw p at h.last in
-    read-known s rate text samples old new bytes y m row h (repeats old.signals.is_inverted known) p e q d a n l
+read-repeat old new bytes y m row repeats same p e q d a n l = λ s rate text samples h.
+    let known : KnowsLevels old.signals.probes y m old.last = rw p at h.last in
+    read-known s rate text samples old new bytes y m row h (repeats old.signals.probes known) same p e q d a n l
 
 -- Several rows.
 

@@ -1,5 +1,6 @@
 pub mod VcdAdding
 pub mod Gathering
+pub mod Sifting
 pub mod CsvFields
 pub mod DigitLemmas
 pub mod CsvReading

@@ -7,7 +7,7 @@ use Rattle.pr_wire.specs.declared.Edge.{Edge}
 use Rattle.pr_wire.specs.Levels.{edge_at}
 use Rattle.pr_wire.specs.Table.{differ}
 use Rattle.pr_capture.specs.declared.signals.Signals.{Signals}
-use Rattle.pr_capture.specs.Recording.{CaptureContents}
+use Rattle.pr_capture.specs.Recording.{alike, CaptureContents}
 use Rattle.pr_capture.specs.Samples.{begin_at, changes_after, counted_from, edges_of, last_at_each}
 use Rattle.pr_capture.specs.VcdReading.{nothing_seen, vcd_contents}
 use Rattle.pr_capture.specs.Vcd.{edge_changes, head, last_edge, vcd_changes, vcd_end, vcd_of}
@@ -101,7 +101,7 @@ all-told : (s : Signals) → IsAsWritten s → (es : List Edge) → RunsOn None 
 unfolding vcd_of
 all-told s h [] k = ap (vcd_contents s) (append_assoc head [] []) ∙ vcd-begins s h []
 all-told s h (e ∷ es) k =
-    let i : s.is_inverted ≡ false = h.straight in
+    let i : s.probes ≡ alike false = h.straight in
     let rest : List ℕ = vcd_changes (Some e) es ++ vcd_end (last_edge (Some e) es) in
     let whole : List ℕ = edge_changes None e ++ rest in
     let reads : Reads s whole nothing_seen (seen_at (last_sample (last_of e es))) (samples_of (e ∷ es)) =

@@ -11,8 +11,9 @@ use Rattle.pr_wire.specs.declared.Levels.{Levels}
 use Rattle.pr_wire.specs.declared.Edge.{Edge}
 use Rattle.pr_wire.specs.Levels.{edge_at}
 use Rattle.pr_capture.specs.declared.changes.Seen.{Seen}
+use Rattle.pr_capture.specs.declared.signals.Probes.{Probes}
 use Rattle.pr_capture.specs.declared.signals.Signals.{Signals}
-use Rattle.pr_capture.specs.Recording.{◌>>=◌, with_samples, CaptureContents}
+use Rattle.pr_capture.specs.Recording.{◌>>=◌, alike, with_samples, CaptureContents}
 use Rattle.pr_capture.specs.Samples.{listed}
 use Rattle.pr_capture.specs.Numbers.{number_from}
 use Rattle.pr_capture.specs.Words.{end_line, is_space, words_behind, Word}
@@ -144,20 +145,20 @@ sampled seen = listed (sample_in seen.time seen.atn seen.clock seen.line)
 abbrev told_with : Signals → Seen → (n : ℕ) → (rest : List ℕ) → CaptureContents
 told_with s seen n rest = with_samples (sampled seen) (told_here s (n + 1) seen rest)
 
-reads-atn : (s : Signals) → s.is_inverted ≡ false → (seen : Seen) (l : Bool) → Reads s (change 65 l) seen (with_atn seen l) (sampled (with_atn seen l))
+reads-atn : (s : Signals) → s.probes ≡ alike false → (seen : Seen) (l : Bool) → Reads s (change 65 l) seen (with_atn seen l) (sampled (with_atn seen l))
 unfolding change
-reads-atn s i seen true = λ n rest. (n + 1, ap (λ (v : Bool). told_with s (with_atn seen (not v)) n rest) i)
-reads-atn s i seen false = λ n rest. (n + 1, ap (λ (v : Bool). told_with s (with_atn seen v) n rest) i)
+reads-atn s i seen true = λ n rest. (n + 1, ap (λ (v : Probes). told_with s (with_atn seen (not v.atn)) n rest) i)
+reads-atn s i seen false = λ n rest. (n + 1, ap (λ (v : Probes). told_with s (with_atn seen v.atn) n rest) i)
 
-reads-clock : (s : Signals) → s.is_inverted ≡ false → (seen : Seen) (l : Bool) → Reads s (change 67 l) seen (with_clock seen l) (sampled (with_clock seen l))
+reads-clock : (s : Signals) → s.probes ≡ alike false → (seen : Seen) (l : Bool) → Reads s (change 67 l) seen (with_clock seen l) (sampled (with_clock seen l))
 unfolding change
-reads-clock s i seen true = λ n rest. (n + 1, ap (λ (v : Bool). told_with s (with_clock seen (not v)) n rest) i)
-reads-clock s i seen false = λ n rest. (n + 1, ap (λ (v : Bool). told_with s (with_clock seen v) n rest) i)
+reads-clock s i seen true = λ n rest. (n + 1, ap (λ (v : Probes). told_with s (with_clock seen (not v.clock)) n rest) i)
+reads-clock s i seen false = λ n rest. (n + 1, ap (λ (v : Probes). told_with s (with_clock seen v.clock) n rest) i)
 
-reads-line : (s : Signals) → s.is_inverted ≡ false → (seen : Seen) (l : Bool) → Reads s (change 68 l) seen (with_line seen l) (sampled (with_line seen l))
+reads-line : (s : Signals) → s.probes ≡ alike false → (seen : Seen) (l : Bool) → Reads s (change 68 l) seen (with_line seen l) (sampled (with_line seen l))
 unfolding change
-reads-line s i seen true = λ n rest. (n + 1, ap (λ (v : Bool). told_with s (with_line seen (not v)) n rest) i)
-reads-line s i seen false = λ n rest. (n + 1, ap (λ (v : Bool). told_with s (with_line seen v) n rest) i)
+reads-line s i seen true = λ n rest. (n + 1, ap (λ (v : Probes). told_with s (with_line seen (not v.line)) n rest) i)
+reads-line s i seen false = λ n rest. (n + 1, ap (λ (v : Probes). told_with s (with_line seen v.line) n rest) i)
 
 -- Edges.
 
@@ -175,19 +176,19 @@ where_differ false false e = []
 where_differ true false e = e ∷ []
 where_differ false true e = e ∷ []
 
-atn-if : (s : Signals) → s.is_inverted ≡ false → (t : ℕ) (x y c l : Bool) → Reads s (change_if 65 x y) (at t x c l) (at t y c l) (where_differ x y (edge_at t y c l))
+atn-if : (s : Signals) → s.probes ≡ alike false → (t : ℕ) (x y c l : Bool) → Reads s (change_if 65 x y) (at t x c l) (at t y c l) (where_differ x y (edge_at t y c l))
 atn-if s i t true true c l = reads-none s (at t true c l)
 atn-if s i t false false c l = reads-none s (at t false c l)
 atn-if s i t true false c l = reads-atn s i (at t true c l) false
 atn-if s i t false true c l = reads-atn s i (at t false c l) true
 
-clock-if : (s : Signals) → s.is_inverted ≡ false → (t : ℕ) (a x y l : Bool) → Reads s (change_if 67 x y) (at t a x l) (at t a y l) (where_differ x y (edge_at t a y l))
+clock-if : (s : Signals) → s.probes ≡ alike false → (t : ℕ) (a x y l : Bool) → Reads s (change_if 67 x y) (at t a x l) (at t a y l) (where_differ x y (edge_at t a y l))
 clock-if s i t a true true l = reads-none s (at t a true l)
 clock-if s i t a false false l = reads-none s (at t a false l)
 clock-if s i t a true false l = reads-clock s i (at t a true l) false
 clock-if s i t a false true l = reads-clock s i (at t a false l) true
 
-line-if : (s : Signals) → s.is_inverted ≡ false → (t : ℕ) (a c x y : Bool) → Reads s (change_if 68 x y) (at t a c x) (at t a c y) (where_differ x y (edge_at t a c y))
+line-if : (s : Signals) → s.probes ≡ alike false → (t : ℕ) (a c x y : Bool) → Reads s (change_if 68 x y) (at t a c x) (at t a c y) (where_differ x y (edge_at t a c y))
 line-if s i t a c true true = reads-none s (at t a c true)
 line-if s i t a c false false = reads-none s (at t a c false)
 line-if s i t a c true false = reads-line s i (at t a c true) false
@@ -200,7 +201,7 @@ samples_at t b l =
     ++ ((where_differ b.atn l.atn (edge_at t l.atn b.clock b.line) ++ where_differ b.clock l.clock (edge_at t l.atn l.clock b.line))
     ++ where_differ b.line l.line (edge_at t l.atn l.clock l.line))
 
-reads-edge : (s : Signals) → s.is_inverted ≡ false → (b e : Edge) → b.time < e.time → e.time + 1000 < 2 ^ 64
+reads-edge : (s : Signals) → s.probes ≡ alike false → (b e : Edge) → b.time < e.time → e.time + 1000 < 2 ^ 64
     → Reads s (edge_changes (Some b) e) (seen_at b) (seen_at e) (samples_at e.time b.levels e.levels)
 unfolding edge_changes
 reads-edge s i b e later small =
@@ -219,7 +220,7 @@ reads-edge s i b e later small =
     (clock-if s i t l.atn k.clock l.clock k.line))
     (line-if s i t l.atn l.clock k.line l.line))
 
-pub reads-first : (s : Signals) → s.is_inverted ≡ false → (e : Edge) → e.time + 1000 < 2 ^ 64 → Reads s (edge_changes None e) nothing_seen (seen_at e) (e ∷ [])
+pub reads-first : (s : Signals) → s.probes ≡ alike false → (e : Edge) → e.time + 1000 < 2 ^ 64 → Reads s (edge_changes None e) nothing_seen (seen_at e) (e ∷ [])
 unfolding edge_changes
 reads-first s i e small =
     let t : ℕ = e.time in
@@ -249,7 +250,7 @@ last_of b [] = b
 last_of b (e ∷ es) = last_of e es
 
 -- all changes after an edge, and the end
-pub reads-behind : (s : Signals) → s.is_inverted ≡ false → (b : Edge) (es : List Edge) → b.time + 1000 < 2 ^ 64 → RunsOn (Some b) es
+pub reads-behind : (s : Signals) → s.probes ≡ alike false → (b : Edge) (es : List Edge) → b.time + 1000 < 2 ^ 64 → RunsOn (Some b) es
     → Reads s (vcd_changes (Some b) es ++ vcd_end (last_edge (Some b) es)) (seen_at b) (seen_at (last_sample (last_of b es))) (samples_behind b es)
 reads-behind s i b [] small h = reads-stamp s (seen_at b) (b.time + 1000) small (omega arith)
 reads-behind s i b (e ∷ es) small h =

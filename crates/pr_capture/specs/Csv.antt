@@ -1,10 +1,12 @@
 -- Trusted: what a table of separated values says of the bus: samples of its lines, up to the first fault if there is one.
 -- Blank lines and remarks say nothing, but for a rate. Of the others the first has the columns' names, and each later one is a sample.
-use Rattle.std.specs.Prelude.{ℕ, zero, suc, ◌+◌, ◌==◌, ◌&&◌, ◌||◌, Bool, true, false, not, List, [], ◌∷◌, codes, take, drop, is_some, if◌then◌else◌, Option, Some, None, Result, Ok, Err}
+use Rattle.std.specs.Prelude.{ℕ, zero, suc, ◌+◌, ◌-◌, ◌==◌, ◌&&◌, ◌||◌, Bool, true, false, not, List, [], ◌∷◌, codes, length, take, drop, is_some, if◌then◌else◌, Option, Some, None, Result, Ok, Err}
 use Rattle.std.specs.List.{list_all}
 use Rattle.std.specs.Str.{bytes_eq}
 use Rattle.pr_wire.specs.declared.Edge.{Edge}
+use Rattle.pr_wire.specs.declared.Levels.{Levels}
 use Rattle.pr_wire.specs.Levels.{edge_at}
+use Rattle.pr_base.specs.Digits.{is_digit}
 use Rattle.pr_base.specs.Lines.{lines_of, onto_first}
 use Rattle.pr_capture.specs.declared.csv.Columns.{Columns}
 use Rattle.pr_capture.specs.declared.csv.Scale.{Scale}
@@ -18,11 +20,15 @@ use Rattle.pr_capture.specs.declared.fault.Wire.{Wire}
 use Rattle.pr_capture.specs.declared.fault.Wire.TheVariants.{Atn, Clock, Data}
 use Rattle.pr_capture.specs.declared.fault.CaptureFault.{CaptureFault}
 use Rattle.pr_capture.specs.declared.fault.CaptureFault.TheVariants.{Archive, BadLevel, BadTime, NoLevel, NoSignal, NoTime, TwoSignals, WideText}
+use Rattle.pr_capture.specs.declared.signals.Probes.{Probes}
 use Rattle.pr_capture.specs.declared.signals.Signals.{Signals}
-use Rattle.pr_capture.specs.Recording.{◌>>=◌, ended, first_some, is_framing, is_named, level_in, refused, second_name, shared, unless, with_samples, without_front, CaptureContents}
+use Rattle.pr_capture.specs.declared.volts.Threshold.{Threshold}
+use Rattle.pr_capture.specs.declared.volts.Volts.{Volts}
+use Rattle.pr_capture.specs.Recording.{◌>>=◌, ended, first_some, inverts, is_framing, is_named, level_in, refused, second_name, shared, unless, with_samples, without_front, CaptureContents}
 use Rattle.pr_capture.specs.Words.{is_space}
 use Rattle.pr_capture.specs.Numbers.{behind_word, onward}
-use Rattle.pr_capture.specs.TableTimes.{bare_unit, count_in, from_start, has_numbers, instant_in, is_counting, is_timing, no_remarks, rate_known, remarked, sample_in, scale_of, start_of, time_at_rate, time_or, time_unit}
+use Rattle.pr_capture.specs.TableTimes.{bare_unit, behind_plus_minus, count_in, from_start, has_numbers, instant_in, is_counting, is_timing, no_remarks, rate_known, remarked, sample_in, scale_of, start_of, time_at_rate, time_or, time_unit}
+use Rattle.pr_capture.specs.Volts.{level_by, volts_in}
 
 -- Lines and fields.
 
@@ -135,7 +141,11 @@ columns_in s number place fs =
     column_in number Clock (clock_name s fs) place fs >>= λ clock.
     column_in number Data s.line.now place fs >>= λ line.
     unless (shared number (clock == atn) (line == atn || line == clock))
-    (Ok (record { atn = atn; clock = clock; line = line; has_other_first = is_other place atn clock line }))
+    (Ok (record { atn = atn; clock = clock; line = line; has_other_first = is_other place atn clock line; are_rated = false }))
+
+-- the same where the rows' times come of a rate
+abbrev pub rated : Columns → Columns
+rated c = record c { are_rated = true }
 
 -- Before the names.
 
@@ -206,20 +216,41 @@ abbrev pub rate_alone : (times : Bool) → (rate : Option ℕ) → Option ℕ
 rate_alone true rate = None
 rate_alone false rate = rate
 
--- a table without times: its first column has the numbers of samples, or it has a row a sample
+-- the last of these fields, after another one
+abbrev pub last_of : (field : List ℕ) → (fields : List (List ℕ)) → List ℕ
+last_of field [] = field
+last_of field (f ∷ fs) = last_of f fs
+
+-- the last column has the times where it is called so and none of the three lines has it: all others say nothing but levels then
+abbrev pub layout_at : Remarks → (separator times : ℕ) → Columns → (name : List ℕ) → (unit : Option ℕ) → Option Layout
+layout_at r sep times c name None = None
+layout_at r sep times c name (Some unit) =
+    if is_line_at c times then None
+    else Some (record { columns = record c { has_other_first = false }; separator = sep; scale = scale_of r unit (Some name); times = times })
+
+abbrev pub layout_last : Remarks → (separator : ℕ) → Columns → (fields : List (List ℕ)) → Option Layout
+layout_last r sep c fs = layout_at r sep (length fs - 1) c (last_of [] fs) (time_unit (bare_unit r) (last_of [] fs))
+
+abbrev pub layout_or : Option Layout → Result Layout CaptureFault → Result Layout CaptureFault
+layout_or None found = found
+layout_or (Some y) found = Ok y
+
+-- a table whose first column has no times: it has the numbers of samples, or the last one has the times, or a row is a sample
 abbrev pub layout_beside : Signals → Remarks → (number separator : ℕ) → (numbers : Bool) → (fields : List (List ℕ)) → Result Layout CaptureFault
 layout_beside s r number sep true fs =
     columns_by s r.behind number 1 (drop 1 fs) >>= λ c.
-    rate_or number (rate_alone (has_times c 1 (drop 1 fs)) (rate_known r)) >>= λ rate. Ok (record { columns = c; separator = sep; scale = Numbered 1 rate })
+    rate_or number (rate_alone (has_times c 1 (drop 1 fs)) (rate_known r)) >>= λ rate. Ok (record { columns = rated c; separator = sep; scale = Numbered 1 rate; times = 0 })
 layout_beside s r number sep false fs =
     columns_by s r.alone number 0 fs >>= λ c.
-    rate_or number (rate_alone (has_times c 1 (drop 1 fs)) (rate_beside r (field_at 0 fs))) >>= λ rate. Ok (record { columns = c; separator = sep; scale = Counted rate })
+    layout_or (layout_last r sep c fs)
+    (rate_or number (rate_alone (has_times c 1 (drop 1 fs)) (rate_beside r (field_at 0 fs))) >>= λ rate.
+    Ok (record { columns = rated c; separator = sep; scale = Counted rate; times = 0 }))
 
 -- or with times in its first column, by their unit
 abbrev pub layout_by : Signals → Remarks → (number separator : ℕ) → (unit : Option ℕ) → (fields : List (List ℕ)) → Result Layout CaptureFault
 layout_by s r number sep (Some unit) fs =
     columns_by s r.behind number 1 (drop 1 fs) >>= λ c.
-    Ok (record { columns = c; separator = sep; scale = scale_of r unit (field_at 0 fs) })
+    Ok (record { columns = c; separator = sep; scale = scale_of r unit (field_at 0 fs); times = 0 })
 layout_by s r number sep None fs = layout_beside s r number sep (has_numbers r.bare (field_at 0 fs)) fs
 
 -- the unit of the first column, if it is one of times
@@ -230,9 +261,16 @@ unit_in bare (Some name) = time_unit bare name
 abbrev pub layout_in : Signals → Remarks → (number separator : ℕ) → (fields : List (List ℕ)) → Result Layout CaptureFault
 layout_in s r number sep fs = layout_by s r number sep (unit_in (bare_unit r) (field_at 0 fs)) fs
 
+-- a byte 13 with more after it, as where it ends each line: here it ends none, so all rows would be names
+abbrev pub has_return : (line : List ℕ) → Bool
+has_return [] = false
+has_return (b ∷ bs) = if b == 13 then not (list_all is_framing bs) else has_return bs
+
 -- the layout that a line names
 abbrev pub layout_of : Signals → Remarks → (number : ℕ) → (line : List ℕ) → Result Layout CaptureFault
-layout_of s r number line = layout_in s r number (separator_or r.separator line) (fields_of (separator_or r.separator line) false line)
+layout_of s r number line =
+    if has_return line then Err (NoSignal number Atn)
+    else layout_in s r number (separator_or r.separator line) (fields_of (separator_or r.separator line) false line)
 
 -- Rows.
 
@@ -254,10 +292,21 @@ abbrev pub level_of : (number : ℕ) → (inverted : Bool) → List ℕ → Resu
 level_of number inverted [] = Err (BadLevel number)
 level_of number inverted (b ∷ bs) = if list_all is_framing (behind_point bs) then cell_level number inverted b else Err (BadLevel number)
 
+-- the level of volts, in a line with this level before
+abbrev pub volts_level : (number : ℕ) → (inverted before : Bool) → Threshold → Option Volts → Result Bool CaptureFault
+volts_level number inverted before t None = Err (BadLevel number)
+volts_level number inverted before t (Some v) = Ok (level_by inverted before t v)
+
+-- a level that a cell has, as it is or in volts
+abbrev pub level_at : (number separator : ℕ) → (inverted before : Bool) → Option Threshold → List ℕ → Result Bool CaptureFault
+level_at number sep inverted before None f = level_of number inverted f
+level_at number sep inverted before (Some t) f = volts_level number inverted before t (volts_in sep f)
+
 -- the level in a wire's column
-abbrev pub level_or : (number : ℕ) → (inverted : Bool) → Wire → (field : Option (List ℕ)) → Result Bool CaptureFault
-level_or number inverted wire None = Err (NoLevel number wire)
-level_or number inverted wire (Some f) = level_of number inverted (without_front f)
+abbrev pub level_or : (number separator : ℕ) → Probes → Wire → (before : Bool) → (field : Option (List ℕ)) → Result Bool CaptureFault
+level_or number sep probes wire before None = Err (NoLevel number wire)
+level_or number sep probes wire before (Some f) =
+    level_at number sep (inverts probes wire) before probes.threshold (without_front f)
 
 -- a letter of a level, known or not: 0, L, 1, H, x or z
 abbrev pub is_level_letter : ℕ → Bool
@@ -273,59 +322,82 @@ abbrev pub has_level : (first : Option (List ℕ)) → Bool
 has_level None = false
 has_level (Some f) = is_level (without_front f)
 
--- a first column that is none of the three has no level in this row: it has times or numbers that its name does not say
-abbrev pub is_foreign : Columns → (fields : List (List ℕ)) → Bool
-is_foreign c fields = c.has_other_first && not (has_level (field_at 0 fields))
+-- a field begins as a number does: with a digit, after a sign or not, and after a point, a comma or neither
+abbrev pub begins_digit : List ℕ → Bool
+begins_digit [] = false
+begins_digit (b ∷ bs) = is_digit b
 
--- the sample of the three columns, with its time
-abbrev pub sample_by : Columns → (inverted : Bool) → (number : ℕ) → (fields : List (List ℕ)) → (time : ℕ)
+abbrev pub behind_mark : List ℕ → List ℕ
+behind_mark [] = []
+behind_mark (b ∷ bs) = if b == 46 || b == 44 then bs else b ∷ bs
+
+abbrev pub begins_number : List ℕ → Bool
+begins_number l = begins_digit (behind_mark (behind_plus_minus l))
+
+-- and is no level: 2, 0.001, -5 V, 12:30:45
+abbrev pub is_number : List ℕ → Bool
+is_number l = begins_number l && not (is_level l)
+
+-- one of these columns, of which the first has this place, has such a number, and is none of the three
+abbrev pub has_number : Columns → (place : ℕ) → (fields : List (List ℕ)) → Bool
+has_number c place [] = false
+has_number c place (f ∷ fs) = (is_number (without_front f) && not (is_line_at c place)) || has_number c (place + 1) fs
+
+-- a row has times or numbers that no name says: a first column that is none of the three has no level, or at a rate a later one has a number
+abbrev pub is_foreign : Columns → (fields : List (List ℕ)) → Bool
+is_foreign c fields = (c.has_other_first && not (has_level (field_at 0 fields))) || (c.are_rated && has_number c 1 (drop 1 fields))
+
+-- the sample of the three columns, with its time, after these levels
+abbrev pub sample_by : Layout → Probes → (before : Levels) → (number : ℕ) → (fields : List (List ℕ)) → (time : ℕ)
     → Result Edge CaptureFault
-sample_by c inverted number fields t =
-    level_or number inverted Atn (field_at c.atn fields) >>= λ atn.
-    level_or number inverted Clock (field_at c.clock fields) >>= λ clock.
-    level_or number inverted Data (field_at c.line fields) >>= λ line.
+sample_by y probes before number fields t =
+    level_or number y.separator probes Atn before.atn (field_at y.columns.atn fields) >>= λ atn.
+    level_or number y.separator probes Clock before.clock (field_at y.columns.clock fields) >>= λ clock.
+    level_or number y.separator probes Data before.line (field_at y.columns.line fields) >>= λ line.
     Ok (edge_at t atn clock line)
 
--- a row's sample, with its time
-abbrev pub sample_of : Columns → (inverted : Bool) → (number : ℕ) → (fields : List (List ℕ)) → (time : ℕ)
+-- a row's sample, with its time, after these levels
+abbrev pub sample_of : Layout → Probes → (before : Levels) → (number : ℕ) → (fields : List (List ℕ)) → (time : ℕ)
     → Result Edge CaptureFault
-sample_of c inverted number fields t = if is_foreign c fields then Err (NoTime number) else sample_by c inverted number fields t
+sample_of y probes before number fields t =
+    if is_foreign y.columns fields then Err (NoTime number) else sample_by y probes before number fields t
 
--- the moment of the first row: no start is known, no time was given, and no sample comes before it
+-- the moment of the first row: no start is known, no time was given, no sample comes before it, and all lines are released
 abbrev pub first_moment : Moment
-first_moment = record { start = None; before = 0; count = 0 }
+first_moment = record { start = None; before = 0; count = 0; levels = record { atn = true; clock = true; line = true } }
 
 -- the moment of a row with this time
 abbrev pub moment_at : (number : ℕ) → Moment → Option Instant → Result Moment CaptureFault
 moment_at number m None = Err (BadTime number)
 moment_at number m (Some i) =
     from_start number (start_of m.start i) i >>= λ t.
-    time_or number m.before (Some t) >>= λ u. Ok (record { start = Some (start_of m.start i); before = u; count = m.count })
+    time_or number m.before (Some t) >>= λ u. Ok (record m { start = Some (start_of m.start i); before = u })
 
 -- and of the next row at a rate
 abbrev pub moment_next : (number : ℕ) → Moment → (time : Option ℕ) → Result Moment CaptureFault
-moment_next number m t = time_or number m.before t >>= λ u. Ok (record { start = m.start; before = u; count = m.count + 1 })
+moment_next number m t = time_or number m.before t >>= λ u. Ok (record m { before = u; count = m.count + 1 })
 
--- the time that a row's first field spells
-abbrev pub instant_of_row : (separator unit : ℕ) → (first : Option (List ℕ)) → Option Instant
+-- the time that a row's field of times spells
+abbrev pub instant_of_row : (separator unit : ℕ) → (time : Option (List ℕ)) → Option Instant
 instant_of_row sep unit None = None
 instant_of_row sep unit (Some f) = instant_in sep unit (without_front f)
 
 -- that of the sample whose number, multiplied by `step`, it spells
-abbrev pub instant_of_number : (step rate : ℕ) → (first : Option (List ℕ)) → Option Instant
+abbrev pub instant_of_number : (step rate : ℕ) → (time : Option (List ℕ)) → Option Instant
 instant_of_number step rate None = None
 instant_of_number step rate (Some f) = sample_in step rate (without_front f)
 
-abbrev pub moment_of : Scale → (separator number : ℕ) → Moment → (fields : List (List ℕ)) → Result Moment CaptureFault
-moment_of (Timed unit) sep number m fields = moment_at number m (instant_of_row sep unit (field_at 0 fields))
-moment_of (Numbered step rate) sep number m fields = moment_at number m (instant_of_number step rate (field_at 0 fields))
-moment_of (Counted rate) sep number m fields = moment_next number m (time_at_rate rate m.count)
+abbrev pub moment_of : Scale → (separator number : ℕ) → Moment → (time : Option (List ℕ)) → Result Moment CaptureFault
+moment_of (Timed unit) sep number m time = moment_at number m (instant_of_row sep unit time)
+moment_of (Numbered step rate) sep number m time = moment_at number m (instant_of_number step rate time)
+moment_of (Counted rate) sep number m time = moment_next number m (time_at_rate rate m.count)
 
 -- what a row says: its sample, and the moment from which the next row goes on
-abbrev pub row_of : Layout → (inverted : Bool) → (number : ℕ) → Moment → (fields : List (List ℕ)) → Result Row CaptureFault
-row_of y inverted number m fields =
-    moment_of y.scale y.separator number m fields >>= λ next.
-    sample_of y.columns inverted number fields next.before >>= λ e. Ok (record { sample = e; moment = next })
+abbrev pub row_of : Layout → Probes → (number : ℕ) → Moment → (fields : List (List ℕ)) → Result Row CaptureFault
+row_of y probes number m fields =
+    moment_of y.scale y.separator number m (field_at y.times fields) >>= λ next.
+    sample_of y probes m.levels number fields next.before >>= λ e.
+    Ok (record { sample = e; moment = record next { levels = e.levels } })
 
 -- a row's sample, and what is read after it
 abbrev pub contents_after_row : Result Row CaptureFault → (Moment → CaptureContents) → CaptureContents
@@ -333,11 +405,11 @@ contents_after_row (Err f) rest = refused f
 contents_after_row (Ok r) rest = with_samples (r.sample ∷ []) (rest r.moment)
 
 -- rows, of which the first has this number, after this moment
-abbrev pub row_contents : Layout → (inverted : Bool) → (number : ℕ) → Moment → List (List ℕ) → CaptureContents
-row_contents y inverted number m [] = ended
-row_contents y inverted number m (l ∷ ls) =
-    if is_silent l then row_contents y inverted (number + 1) m ls
-    else contents_after_row (row_of y inverted number m (fields_of y.separator false l)) (λ next. row_contents y inverted (number + 1) next ls)
+abbrev pub row_contents : Layout → Probes → (number : ℕ) → Moment → List (List ℕ) → CaptureContents
+row_contents y probes number m [] = ended
+row_contents y probes number m (l ∷ ls) =
+    if is_silent l then row_contents y probes (number + 1) m ls
+    else contents_after_row (row_of y probes number m (fields_of y.separator false l)) (λ next. row_contents y probes (number + 1) next ls)
 
 -- The whole.
 
@@ -351,7 +423,7 @@ abbrev pub line_contents : Signals → Remarks → (number : ℕ) → List (List
 line_contents s r number [] = refused (NoSignal number Atn)
 line_contents s r number (l ∷ ls) =
     if is_in_front l then line_contents s (noted s r l) (number + 1) ls
-    else named_contents (layout_of s r number l) (λ y. row_contents y s.is_inverted (number + 1) first_moment ls)
+    else named_contents (layout_of s r number l) (λ y. row_contents y s.probes (number + 1) first_moment ls)
 
 -- The first line begins with a byte order mark, or not. Text of 16 bits a letter and zip archives are no tables.
 abbrev pub is_wide : List ℕ → Bool

@@ -18,6 +18,7 @@ use Rattle.pr_capture.specs.declared.csv.RowPlace.TheVariants.{First, Names, Row
 use Rattle.pr_capture.specs.declared.csv.CsvReader.{CsvReader}
 use Rattle.pr_capture.specs.declared.remarks.Remarks.{Remarks}
 use Rattle.pr_capture.specs.declared.fault.CaptureFault.{CaptureFault}
+use Rattle.pr_capture.specs.declared.signals.Probes.{Probes}
 use Rattle.pr_capture.specs.declared.signals.Signals.{Signals}
 use Rattle.pr_capture.specs.Csv.{csv_contents, field_at, fields_of, first_contents, is_inner, is_silent, line_contents, row_contents, row_of, sample_of}
 use Rattle.pr_capture.specs.declared.times.Instant.{Instant}
@@ -42,7 +43,7 @@ fields_left sep (Some l) = fields_of sep false l
 abbrev pub contents_from : Signals → RowPlace → (number : ℕ) → List (List ℕ) → CaptureContents
 contents_from s (First given) number ls = first_contents s given number ls
 contents_from s (Names r) number ls = line_contents s r number ls
-contents_from s (Rows y m) number ls = row_contents y s.is_inverted number m ls
+contents_from s (Rows y m) number ls = row_contents y s.probes number m ls
 
 -- a line before the names, or that of the names, leads to a place
 abbrev pub NamesLeadTo : Signals → Remarks → (number : ℕ) → (line : List ℕ) → (new : RowPlace) → Type 0
@@ -107,62 +108,62 @@ IsFront (Numbered step rate) front = (list_all is_plain front ≡ true) × (0 < 
 IsFront (Counted rate) front = front ≡ []
 
 -- the first field of rows that go on so is their time or number
-abbrev pub PlainComesFirst : (separator : ℕ) → (tail : List ℕ) → Type 0
-PlainComesFirst sep tail =
-    (front : List ℕ) → list_all is_plain front ≡ true → field_at 0 (fields_of sep false (front ++ tail)) ≡ Some front
+abbrev pub PlainComesFirst : (separator times : ℕ) → (tail : List ℕ) → Type 0
+PlainComesFirst sep times tail =
+    (front : List ℕ) → list_all is_plain front ≡ true → field_at times (fields_of sep false (front ++ tail)) ≡ Some front
 
-abbrev pub TimeComesFirst : Scale → (separator : ℕ) → (tail : List ℕ) → Type 0
-TimeComesFirst (Timed unit) sep tail = PlainComesFirst sep tail
-TimeComesFirst (Numbered step rate) sep tail = PlainComesFirst sep tail
-TimeComesFirst (Counted rate) sep tail = Unit {0}
+abbrev pub TimeComesFirst : Scale → (separator times : ℕ) → (tail : List ℕ) → Type 0
+TimeComesFirst (Timed unit) sep times tail = PlainComesFirst sep times tail
+TimeComesFirst (Numbered step rate) sep times tail = PlainComesFirst sep times tail
+TimeComesFirst (Counted rate) sep times tail = Unit {0}
 
--- a row has these levels whose bytes after its time are these, whatever its time is
-pub record HasLevels (inverted : Bool) (y : Layout) (tail : List ℕ) (levels : Levels) : Type 0 where
+-- a row has these levels, after the same ones, whose bytes after its time are these, whatever its time is
+pub record HasLevels (probes : Probes) (y : Layout) (tail : List ℕ) (levels : Levels) : Type 0 where
   pub inner : list_all is_inner tail ≡ true
   pub loud : (front : List ℕ) → IsFront y.scale front → is_silent (front ++ tail) ≡ false
-  pub first : TimeComesFirst y.scale y.separator tail
+  pub first : TimeComesFirst y.scale y.separator y.times tail
   pub reads : (number time : ℕ) (front : List ℕ) → IsFront y.scale front
-      → sample_of y.columns inverted number (fields_of y.separator false (front ++ tail)) time
+      → sample_of y probes levels number (fields_of y.separator false (front ++ tail)) time
       ≡ Ok (record { time = time; levels = levels })
 
 -- the levels of rows that go on as the last one are known, or none are
-abbrev pub KnowsLevels : (inverted : Bool) → Layout → LastRow → Type 0
-KnowsLevels inverted y l = IfSome l.levels (HasLevels inverted y (drop l.from l.bytes.items))
+abbrev pub KnowsLevels : Probes → Layout → Moment → LastRow → Type 0
+KnowsLevels probes y m l = IfSome l.levels (λ levels. (m.levels ≡ levels) × HasLevels probes y (drop l.from l.bytes.items) levels)
 
-abbrev pub KnowsLast : (inverted : Bool) → RowPlace → LastRow → Type 0
-KnowsLast inverted (First given) l = Unit {0}
-KnowsLast inverted (Names r) l = Unit {0}
-KnowsLast inverted (Rows y m) l = KnowsLevels inverted y l
+abbrev pub KnowsLast : Probes → RowPlace → LastRow → Type 0
+KnowsLast probes (First given) l = Unit {0}
+KnowsLast probes (Names r) l = Unit {0}
+KnowsLast probes (Rows y m) l = KnowsLevels probes y m l
 
 -- a line that has led to a place is a row with the levels of this sample, if there is one
-abbrev pub IsRowOf : (inverted : Bool) → RowPlace → (line : List ℕ) → Option Edge → Type 0
-IsRowOf inverted p line None = Unit {0}
-IsRowOf inverted (First given) line (Some e) = Unit {0}
-IsRowOf inverted (Names r) line (Some e) = Unit {0}
-IsRowOf inverted (Rows y m) line (Some e) = (is_silent line ≡ false) × ((number time : ℕ)
-    → sample_of y.columns inverted number (fields_of y.separator false line) time ≡ Ok (record { time = time; levels = e.levels }))
+abbrev pub IsRowOf : Probes → RowPlace → (line : List ℕ) → Option Edge → Type 0
+IsRowOf probes p line None = Unit {0}
+IsRowOf probes (First given) line (Some e) = Unit {0}
+IsRowOf probes (Names r) line (Some e) = Unit {0}
+IsRowOf probes (Rows y m) line (Some e) = (is_silent line ≡ false) × (m.levels ≡ e.levels) × ((number time : ℕ)
+    → sample_of y probes e.levels number (fields_of y.separator false line) time ≡ Ok (record { time = time; levels = e.levels }))
 
 -- levels do not depend on the first column
 abbrev pub are_behind : Columns → Bool
 are_behind c = not c.has_other_first && not (c.atn == 0) && not (c.clock == 0) && not (c.line == 0)
 
--- where the bytes of a row begin that have its levels, whatever its time is
-abbrev pub tail_behind : Columns → (separator : ℕ) → (line : List ℕ) → Option ℕ
-tail_behind c sep line =
-    if are_behind c && not (is_plain sep) && nat_lt (field_len sep false line) (length line)
+-- where the bytes of a row begin that have its levels, whatever its time is, which comes first
+abbrev pub tail_behind : (times : ℕ) → Columns → (separator : ℕ) → (line : List ℕ) → Option ℕ
+tail_behind times c sep line =
+    if times == 0 && are_behind c && not (is_plain sep) && nat_lt (field_len sep false line) (length line)
     then Some (field_len sep false line) else None
 
-abbrev pub tail_by : Scale → Columns → (separator : ℕ) → (line : List ℕ) → Option ℕ
-tail_by (Timed unit) c sep line = tail_behind c sep line
-tail_by (Numbered step rate) c sep line = tail_behind c sep line
-tail_by (Counted rate) c sep line = Some 0
+abbrev pub tail_by : Scale → (times : ℕ) → Columns → (separator : ℕ) → (line : List ℕ) → Option ℕ
+tail_by (Timed unit) times c sep line = tail_behind times c sep line
+tail_by (Numbered step rate) times c sep line = tail_behind times c sep line
+tail_by (Counted rate) times c sep line = Some 0
 
 abbrev pub tail_at : Layout → (line : List ℕ) → Option ℕ
-tail_at y line = tail_by y.scale y.columns y.separator line
+tail_at y line = tail_by y.scale y.times y.columns y.separator line
 
 -- the row of a moment and levels
 abbrev pub row_at : Moment → Levels → Row
-row_at m levels = record { sample = record { time = m.before; levels = levels }; moment = m }
+row_at m levels = record { sample = record { time = m.before; levels = levels }; moment = record m { levels = levels } }
 
 abbrev pub row_if : Result Moment CaptureFault → Levels → Option Row
 row_if (Ok m) levels = Some (row_at m levels)
@@ -174,12 +175,12 @@ with_len n None = None
 with_len n (Some e) = Some (n, e)
 
 -- these bytes are a row and its end, which make this of a moment
-pub record IsRepeat (inverted : Bool) (y : Layout) (number : ℕ) (m : Moment) (bytes : List ℕ) (row : Row) : Type 0 where
+pub record IsRepeat (probes : Probes) (y : Layout) (number : ℕ) (m : Moment) (bytes : List ℕ) (row : Row) : Type 0 where
   pub line : List ℕ
   pub ends : bytes ≡ line ++ 10 ∷ []
   pub inner : list_all is_inner line ≡ true
   pub loud : is_silent line ≡ false
-  pub reads : row_of y inverted number m (fields_of y.separator false line) ≡ Ok row
+  pub reads : row_of y probes number m (fields_of y.separator false line) ≡ Ok row
 
 -- this many copies of these bytes, one after the other
 abbrev pub copies : ℕ → List ℕ → List ℕ
@@ -188,7 +189,7 @@ copies (suc n) bytes = bytes ++ copies n bytes
 
 -- the moment after one row more at a rate, and after this many
 abbrev pub moment_beyond : (rate : ℕ) → Moment → Moment
-moment_beyond rate m = record { start = m.start; before = m.count * 1000000 / rate; count = m.count + 1 }
+moment_beyond rate m = record m { before = m.count * 1000000 / rate; count = m.count + 1 }
 
 abbrev pub moment_after : (rate : ℕ) → Moment → (rows : ℕ) → Moment
 moment_after rate m zero = m
@@ -201,12 +202,12 @@ AreTimed rate m (suc n) =
     (time_at_rate rate m.count ≡ Some (m.count * 1000000 / rate)) × (m.before ≤ m.count * 1000000 / rate) × AreTimed rate (moment_beyond rate m) n
 
 -- these bytes are `count` such rows, all with the levels of `last`, which is the last of them
-abbrev pub IsRun : (inverted : Bool) → Layout → (number : ℕ) → Moment → (bytes : List ℕ) → (count : ℕ) → (last : Row) → Type 0
-IsRun inverted y number m bytes zero last = ⊥
-IsRun inverted y number m bytes (suc zero) last = IsRepeat inverted y number m bytes last
-IsRun inverted y number m bytes (suc (suc n)) last =
-    (first : Row) × (front : List ℕ) × (rest : List ℕ) × (bytes ≡ front ++ rest) × IsRepeat inverted y number m front first
-    × (first.sample.levels ≡ last.sample.levels) × IsRun inverted y (number + 1) first.moment rest (suc n) last
+abbrev pub IsRun : Probes → Layout → (number : ℕ) → Moment → (bytes : List ℕ) → (count : ℕ) → (last : Row) → Type 0
+IsRun probes y number m bytes zero last = ⊥
+IsRun probes y number m bytes (suc zero) last = IsRepeat probes y number m bytes last
+IsRun probes y number m bytes (suc (suc n)) last =
+    (first : Row) × (front : List ℕ) × (rest : List ℕ) × (bytes ≡ front ++ rest) × IsRepeat probes y number m front first
+    × (first.sample.levels ≡ last.sample.levels) × IsRun probes y (number + 1) first.moment rest (suc n) last
 
 -- what is still to be given, samples and end, if the text goes on with these bytes
 abbrev pub contents_left : CsvReader → (more : List ℕ) → CaptureContents
@@ -216,7 +217,7 @@ contents_left r more = contents_from r.signals r.place r.number (lines_of (r.lin
 pub record HasReadTable (s : Signals) (rate : Option ℕ) (text : List ℕ) (samples : List Edge) (r : CsvReader) : Type 0 where
   pub signals : r.signals ≡ s
   pub inner : list_all is_inner r.line.items ≡ true
-  pub last : KnowsLast r.signals.is_inverted r.place r.last
+  pub last : KnowsLast r.signals.probes r.place r.last
   pub told : (more : List ℕ) → csv_contents s rate (text ++ more) ≡ with_samples samples (contents_left r more)
 
 -- the reader has taken these bytes too, after whatever it had taken

@@ -4,9 +4,12 @@ pub mod VcdWriting
 pub mod Samples
 pub mod Gathering
 pub mod Gathers
+pub mod Pulses
+pub mod Sifting
 pub mod Recording
 pub mod Numbers
 pub mod TableTimes
+pub mod Volts
 pub mod Csv
 pub mod Found
 pub mod CsvSteps

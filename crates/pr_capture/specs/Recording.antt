@@ -5,7 +5,9 @@ use Rattle.std.specs.List.{list_all}
 use Rattle.pr_wire.specs.declared.Edge.{Edge}
 use Rattle.pr_capture.specs.declared.fault.CaptureFault.{CaptureFault}
 use Rattle.pr_capture.specs.declared.fault.CaptureFault.TheVariants.{BadLevel, Floating, NoSignal, Unknown}
-use Rattle.pr_capture.specs.declared.fault.Wire.TheVariants.{Clock, Data}
+use Rattle.pr_capture.specs.declared.fault.Wire.{Wire}
+use Rattle.pr_capture.specs.declared.fault.Wire.TheVariants.{Atn, Clock, Data}
+use Rattle.pr_capture.specs.declared.signals.Probes.{Probes}
 use Rattle.pr_capture.specs.declared.signals.Signals.{Signals}
 
 -- what a recording says: its samples up to its fault, if it has one, so that clauses also say what comes before a fault
@@ -80,7 +82,21 @@ abbrev pub first_some : {A : Type 0} → (first second : Option A) → Option A
 first_some None second = second
 first_some (Some x) second = Some x
 
--- a level, on a line: 1 and H are released, 0 and L pulled, unless the probes invert
+-- all probes alike: they invert, or none does; they show levels, not volts
+abbrev pub alike : Bool → Probes
+alike inverted = record { atn = inverted; clock = inverted; line = inverted; threshold = None }
+
+-- the probe of a wire inverts
+abbrev pub inverts : Probes → Wire → Bool
+inverts p Atn = p.atn
+inverts p Clock = p.clock
+inverts p Data = p.line
+
+-- one of them does
+abbrev pub inverts_any : Probes → Bool
+inverts_any p = p.atn || p.clock || p.line
+
+-- a level, on a line: 1 and H are released, 0 and L pulled, unless the wire's probe inverts
 abbrev pub level_in : (number : ℕ) → (inverted : Bool) → ℕ → Result Bool CaptureFault
 level_in number inverted b =
     if b == 48 || b == 76 || b == 108 then Ok inverted

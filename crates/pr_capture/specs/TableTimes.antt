@@ -133,10 +133,25 @@ rate_unit l =
     else (if is_unit (codes "G") (codes "GHz") (codes "GSs") l || is_cut (codes "GSas") (codes "Gsps") l then Some 9
     else None)))
 
--- e and a number stand here, as in 4e6
+abbrev pub is_this : (unit : ℕ) → Option ℕ → Bool
+is_this unit None = false
+is_this unit (Some u) = u == unit
+
+-- e and a number stand here, as in 4e6, and nothing after it or a unit that is no power itself, as in 4e6 Hz
+abbrev pub behind_letter_e : (rest : List ℕ) → List ℕ
+behind_letter_e [] = []
+behind_letter_e (b ∷ bs) = bs
+
+abbrev pub begins_power : (rest : List ℕ) → Bool
+begins_power [] = false
+begins_power (b ∷ bs) = b == 69 || b == 101
+
 abbrev pub is_power : (rest : List ℕ) → Bool
-is_power [] = false
-is_power (b ∷ bs) = (b == 69 || b == 101) && length (behind_digits (behind_plus_minus bs)) == 0
+is_power l = begins_power l && is_this 0 (rate_unit (behind_digits (behind_plus_minus (behind_letter_e l))))
+
+-- the number after e, its sign among the places that it moves the point
+abbrev pub power_in : (rest : List ℕ) → Option Exponent
+power_in l = few_places (is_minus l) (number_in (behind_plus_minus l))
 
 abbrev pub places_right : Option Exponent → Option ℕ
 places_right None = None
@@ -144,7 +159,7 @@ places_right (Some e) = if e.left == 0 then Some e.right else None
 
 -- the power of ten after a number: that of an exponent, or of a unit
 abbrev pub rate_power : (rest : List ℕ) → Option ℕ
-rate_power l = if is_power l then places_right (exponent_in l) else rate_unit l
+rate_power l = if is_power l then places_right (power_in (behind_letter_e l)) else rate_unit l
 
 -- a rate is not 0
 abbrev pub some_rate : Option ℕ → Option ℕ
@@ -173,10 +188,26 @@ behind_fraction l = if length (decimals_in l) == 0 then l else behind_decimals l
 abbrev pub is_in_unit : ℕ → Bool
 is_in_unit b = is_letter b || b == 32 || b == 47
 
-abbrev pub is_plain_rate : (rest : List ℕ) → Bool
-is_plain_rate l = is_power l || list_all is_in_unit l
+-- a small m before s is no mega: ms is a word for another unit
+abbrev pub is_milli : (unit : List ℕ) → Bool
+is_milli [] = false
+is_milli (b ∷ bs) = b == 109 && is_some (behind_word (codes "s") bs)
 
--- the same of the value of an option, which has digits, perhaps a point, and an exponent or a unit: 4M, 12.5M, 500k, 24 MHz, 4MS/s, 4e6
+-- a slash comes before the last s alone
+abbrev pub has_slash : (unit : List ℕ) → Bool
+has_slash [] = false
+has_slash (b ∷ bs) = if b == 47 then not (spells (codes "s") bs) else has_slash bs
+
+-- a unit of an option's value
+abbrev pub is_plain_unit : (unit : List ℕ) → Bool
+is_plain_unit l = list_all is_in_unit l && not (is_milli (without_signs l)) && not (has_slash l)
+
+-- after the number of an option's value: a unit, or e, a number and a unit
+abbrev pub is_plain_rate : (rest : List ℕ) → Bool
+is_plain_rate l =
+    if is_power l then is_plain_unit (behind_digits (behind_plus_minus (behind_letter_e l))) else is_plain_unit l
+
+-- the same of the value of an option, which has digits, perhaps a point, and an exponent or a unit: 4M, 12.5M, 500k, 24 MHz, 4MS/s, 4e6, 4e6Hz
 abbrev pub rate_given : (text : List ℕ) → Option ℕ
 rate_given l =
     if is_plain_rate (behind_fraction (behind_digits l)) && is_whole (decimals_in (behind_digits l)) (rate_power (behind_fraction (behind_digits l)))
@@ -248,10 +279,6 @@ remarked r line = with_meta r line (behind_word (codes "METAsamplerate") line)
 
 -- Columns of times: sigrok-cli adds up the time of one sample, in whole units, rounded down. So its times are numbers of units; where a
 -- sample is no whole number of them, they are taken for what they are: numbers of samples, multiplied by that time.
-
-abbrev pub is_this : (unit : ℕ) → Option ℕ → Bool
-is_this unit None = false
-is_this unit (Some u) = u == unit
 
 -- the rate of sigrok's remark, if this is the unit that it has for it, and the first column has a name of sigrok's
 abbrev pub own_rate : Remarks → (unit : ℕ) → (first : Option (List ℕ)) → (rate : Option ℕ) → Option ℕ

@@ -12,8 +12,9 @@ use Rattle.pr_capture.specs.declared.fault.Wire.{Wire}
 use Rattle.pr_capture.specs.declared.fault.Wire.TheVariants.{Atn, Clock, Data}
 use Rattle.pr_capture.specs.declared.fault.CaptureFault.{CaptureFault}
 use Rattle.pr_capture.specs.declared.fault.CaptureFault.TheVariants.{BadLevel, BadTimescale, BadWord, NoEnd, NoDefinitions, NoLevel, NoTimescale, NoSignal, TwoSignals, Unknown}
+use Rattle.pr_capture.specs.declared.signals.Probes.{Probes}
 use Rattle.pr_capture.specs.declared.signals.Signals.{Signals}
-use Rattle.pr_capture.specs.Recording.{◌>>=◌, ended, first_some, is_named, level_in, refused, second_name, shared, unless, with_samples, CaptureContents}
+use Rattle.pr_capture.specs.Recording.{◌>>=◌, ended, first_some, inverts, is_named, level_in, refused, second_name, shared, unless, with_samples, CaptureContents}
 use Rattle.pr_capture.specs.Samples.{listed}
 use Rattle.pr_capture.specs.Csv.{field_at}
 use Rattle.pr_capture.specs.Numbers.{behind_digits, digits_in, number_from, number_in}
@@ -351,11 +352,11 @@ level_if known line inverted f bits code before =
     if is_code f.code code then level_told known line inverted (level_at f.bit bits) else Ok before
 
 -- the same of each wire
-abbrev pub changed : (inverted : Bool) → Codes → Seen → (line : ℕ) → (bits code : List ℕ) → Result Seen CaptureFault
-changed inverted c seen line bits code =
-    level_if (all_known seen.atn seen.clock seen.line) line inverted c.atn bits code seen.atn >>= λ atn.
-    level_if (all_known seen.atn seen.clock seen.line) line inverted (clock_found c) bits code seen.clock >>= λ clock.
-    level_if (all_known seen.atn seen.clock seen.line) line inverted c.line bits code seen.line >>= λ last.
+abbrev pub changed : Probes → Codes → Seen → (line : ℕ) → (bits code : List ℕ) → Result Seen CaptureFault
+changed probes c seen line bits code =
+    level_if (all_known seen.atn seen.clock seen.line) line (inverts probes Atn) c.atn bits code seen.atn >>= λ atn.
+    level_if (all_known seen.atn seen.clock seen.line) line (inverts probes Clock) (clock_found c) bits code seen.clock >>= λ clock.
+    level_if (all_known seen.atn seen.clock seen.line) line (inverts probes Data) c.line bits code seen.line >>= λ last.
     Ok (record { time = seen.time; atn = atn; clock = clock; line = last })
 
 -- a time stamp: whole microseconds, no earlier than the stamp before
@@ -402,7 +403,7 @@ step s (Header scale scopes c) (Unended line) = Err (NoEnd line)
 step s (Changes scale c seen) (Section line k inside) = Ok (behind_section k scale c seen)
 step s (Changes scale c seen) (Stamp line digits) = stamped scale seen line digits >>= λ next. Ok (Changes scale c next)
 step s (Changes scale c seen) (Change line bits code) =
-    changed s.is_inverted c seen line bits code >>= λ next. Ok (Changes scale c next)
+    changed s.probes c seen line bits code >>= λ next. Ok (Changes scale c next)
 step s (Changes scale c seen) (Stray line) = Err (BadWord line)
 step s (Changes scale c seen) (Resume line) = resumed line (Changes scale c seen) (sample_in seen.time seen.atn seen.clock seen.line)
 step s (Changes scale c seen) (Unended line) = Err (NoEnd line)

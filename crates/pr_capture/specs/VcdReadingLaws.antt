@@ -3,6 +3,7 @@ use Rattle.std.specs.Prelude.{◌≡◌, ◌+◌, ◌<◌, ◌^◌, true, false,
 use Rattle.pr_wire.specs.declared.Edge.{Edge}
 use Rattle.pr_wire.specs.Table.{differ}
 use Rattle.pr_capture.specs.declared.signals.Signals.{Signals}
+use Rattle.pr_capture.specs.Recording.{alike}
 use Rattle.pr_capture.specs.Samples.{edges_of}
 use Rattle.pr_capture.specs.Vcd.{vcd_of}
 use Rattle.pr_capture.specs.VcdReading.{vcd_contents}
@@ -12,7 +13,7 @@ pub record IsAsWritten (s : Signals) : Type 0 where
   pub atn : s.atn.now ≡ codes "ATN"
   pub clock : s.clock.now ≡ codes "CLOCK"
   pub line : s.line.now ≡ codes "DATA"
-  pub straight : s.is_inverted ≡ false
+  pub straight : s.probes ≡ alike false
 
 -- edges after the edge before, if any: each is later and has other levels, and the time stamp after it is below 2 ^ 64
 abbrev pub RunsOn : (before : Option Edge) → List Edge → Type 0

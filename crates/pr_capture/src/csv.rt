@@ -6,7 +6,7 @@
 
 ghost use Rattle.std.specs.Prelude.{◌≡◌, ◌+◌, ◌^◌, ◌<◌, ◌≤◌, ◌∷◌, [], false, true, None, Err, IfErr, IfOk, Ok, drop, length, option_copied, take, IfSome, Some};
 ghost use Rattle.std.specs.List.{list_all, prefix_len};
-ghost use Rattle.pr_capture.specs.Csv.{are_logic, behind_colon, behind_point, cell_level, channels_in, clock_name, column_in, columns_by, columns_called, columns_or, column_of, columns_in, field_at, fields_of, first_moment, has_level, has_numeral, has_times, is_archive, is_foreign, is_in_front, is_inner, is_level, is_line_at, is_level_letter, is_other, is_separator, is_silent, is_twice, is_wide, layout_beside, layout_by, layout_of, level_of, level_or, moment_at, moment_next, moment_of, noted, opened, place_meant, rate_beside, row_of, sample_by, sample_of, separator_behind, separator_of, separator_or, separator_said, with_channels, with_separator, without_space, without_zeros};
+ghost use Rattle.pr_capture.specs.Csv.{are_logic, begins_digit, behind_colon, behind_mark, behind_point, cell_level, channels_in, clock_name, column_in, columns_by, columns_called, columns_or, column_of, columns_in, field_at, fields_of, first_moment, has_level, has_number, has_numeral, has_return, has_times, instant_of_number, instant_of_row, is_archive, is_foreign, is_in_front, is_inner, is_level, is_line_at, is_level_letter, is_number, is_other, is_separator, is_silent, is_twice, is_wide, last_of, layout_beside, layout_by, layout_last, layout_of, level_at, level_of, level_or, moment_at, moment_next, moment_of, noted, opened, place_meant, rate_beside, rated, row_of, sample_by, sample_of, separator_behind, separator_of, separator_or, separator_said, with_channels, with_separator, without_space, without_zeros};
 ghost use Rattle.pr_capture.specs.CsvReads.{EndsText, FaultsIn, ReadsMore, RefusesTable, SkipsRows, TakesRepeats};
 ghost use Rattle.pr_capture.specs.CsvSteps.{field_len, fields_left, line_number, moment_after, with_len, AreTimed, AnswersEnd, HasNoRows, HasReadTable, HoldsMore, IsRowOf, NamesAreRefused, NamesLeadTo, ReadsLine};
 ghost use Rattle.pr_capture.specs.TableTimes.{time_at_rate};
@@ -17,10 +17,15 @@ use crate::fault::{CaptureFault, Wire};
 use crate::last_row::LastRow;
 use crate::numbers::{behind_first, behind_word, first_of};
 use crate::remarks::{Remarks, has_numbers, is_counting, is_timing, scale_of, time_unit};
-use crate::signals::{Signals, are_framing, is_named, is_space, level_in, shared, without_front};
-use crate::times::{
-    Instant, count_in, from_start, instant_in, sample_in, start_of, time_at_rate, time_or,
+use crate::signals::{
+    Probes, Signals, are_framing, is_named, is_space, level_in, shared, without_front,
 };
+use crate::times::{
+    Instant, behind_plus_minus, count_in, from_start, instant_in, sample_in, start_of,
+    time_at_rate, time_or,
+};
+use crate::volts::{Threshold, volts_in};
+use pr_base::is_digit;
 use pr_wire::{Edge, Levels};
 use std::alloc::Global;
 
@@ -32,14 +37,16 @@ pub struct Columns {
     pub line: usize,
     /// Whether the first column is none of these, and has neither times nor numbers by its name: it has levels too.
     pub has_other_first: bool,
+    /// Whether the rows' times come of a rate: then no later column has other numbers than levels.
+    pub are_rated: bool,
 }
 
 /// What the rows' times are.
 #[derive(Clone, Copy)]
 pub enum Scale {
-    /// Each row begins with its time, in this unit: how many decimals it is of a second.
+    /// Each row has its time, in this unit: how many decimals it is of a second.
     Timed(u8),
-    /// Each row begins with the number of its sample, `step` times, and a second has `rate` samples.
+    /// Each row has the number of its sample, `step` times, and a second has `rate` samples.
     Numbered { step: u64, rate: u64 },
     /// A row is a sample, and a second has this many.
     Counted(u64),
@@ -52,6 +59,8 @@ pub struct Layout {
     /// The byte that separates fields.
     pub separator: u8,
     pub scale: Scale,
+    /// The place of the times or numbers, from 0.
+    pub times: usize,
 }
 
 /// Where the next row is in time.
@@ -63,6 +72,8 @@ pub struct Moment {
     pub before: u64,
     /// How many samples come before, in a table without times.
     pub count: u64,
+    /// The levels of the last row; all lines are released before the first.
+    pub levels: Levels,
 }
 
 /// What follows the white space in front.
@@ -352,7 +363,21 @@ fn columns_in(
         clock,
         line,
         has_other_first: is_other(place, atn, clock, line),
+        are_rated: false,
     })
+}
+
+/// The same columns, where the rows' times come of a rate.
+fn rated(columns: Columns) -> Columns
+    ensures { result ≡ rated columns }
+{
+    Columns {
+        atn: columns.atn,
+        clock: columns.clock,
+        line: columns.line,
+        has_other_first: columns.has_other_first,
+        are_rated: true,
+    }
 }
 
 /// What follows the first colon.
@@ -489,8 +514,64 @@ fn rate_beside(remarks: Remarks, first: Option<&[u8]>) -> Option<u64>
     }
 }
 
-/// How a table without times is read, whose first column has the numbers of samples, or which has a row a
-/// sample.
+/// The last of these fields; nothing where there is none.
+fn last_of(separator: u8, fields: Option<&[u8]>) -> &[u8]
+    requires { length (fields_left separator (option_copied fields)) < 2 ^ 64 }
+    ensures { result.now ≡ last_of [] (fields_left separator (option_copied fields.entry)) }
+{
+    let mut last: &[u8] = &[];
+    let mut left = fields;
+    while let Some(line) = left {
+        let (field, more) = split_field(separator, line);
+        last = field;
+        left = more;
+    }
+    last
+}
+
+/// How many fields these are.
+fn count_of(separator: u8, fields: Option<&[u8]>) -> usize
+    requires { length (fields_left separator (option_copied fields)) < 2 ^ 64 }
+    ensures { result ≡ length (fields_left separator (option_copied fields.entry)) }
+{
+    let mut count = 0;
+    let mut left = fields;
+    while let Some(line) = left {
+        let (_, more) = split_field(separator, line);
+        count += 1;
+        left = more;
+    }
+    count
+}
+
+/// How a table is read whose last column has the times, by its name; None where its name is none of times, or one of
+/// the three lines has it.
+fn layout_last(remarks: Remarks, columns: Columns, separator: u8, line: &[u8]) -> Option<Layout>
+    requires { length (fields_of separator false line.now) < 2 ^ 64 }
+    ensures { result ≡ layout_last remarks separator columns (fields_of separator false line.now) }
+{
+    let name = last_of(separator, Some(line));
+    let unit = time_unit(remarks.bare_unit(), name)?;
+    let times = count_of(separator, Some(line)).saturating_sub(1);
+    if is_line_at(columns, times) {
+        return None;
+    }
+    Some(Layout {
+        columns: Columns {
+            atn: columns.atn,
+            clock: columns.clock,
+            line: columns.line,
+            has_other_first: false,
+            are_rated: columns.are_rated,
+        },
+        separator,
+        scale: scale_of(remarks, unit, Some(name)),
+        times,
+    })
+}
+
+/// How a table is read whose first column has no times: it has the numbers of samples, or the last one has the times, or
+/// a row is a sample.
 fn layout_beside(
     signals: &Signals<'_>,
     remarks: Remarks,
@@ -510,6 +591,11 @@ fn layout_beside(
     } else {
         columns_by(signals, remarks.alone, number, 0, separator, Some(line))?
     };
+    if !has_numbers {
+        if let Some(layout) = layout_last(remarks, columns, separator, line) {
+            return Ok(layout);
+        }
+    }
     let rate = if has_times(columns, 1, separator, more) {
         None
     } else if has_numbers {
@@ -526,9 +612,10 @@ fn layout_beside(
         Scale::Counted(rate)
     };
     Ok(Layout {
-        columns,
+        columns: rated(columns),
         separator,
         scale,
+        times: 0,
     })
 }
 
@@ -555,6 +642,7 @@ fn layout_by(
                 columns,
                 separator,
                 scale: scale_of(remarks, unit, field_at(separator, line, 0)),
+                times: 0,
             })
         }
         None => {
@@ -562,6 +650,18 @@ fn layout_by(
             layout_beside(signals, remarks, number, separator, numbers, line, more)
         }
     }
+}
+
+/// Whether a line has a byte 13 with more after it, which ends no line here.
+fn has_return(line: &[u8]) -> bool
+    ensures { result ≡ has_return line.now }
+{
+    for (i, b) in line.iter().enumerate() {
+        if *b == b'\r' {
+            return !are_framing(&line[i + 1..]);
+        }
+    }
+    false
 }
 
 /// How a table is read, by the line of its names.
@@ -574,6 +674,9 @@ fn layout_of(
     requires { length line.now + 1 < 2 ^ 64 }
     ensures { result ≡ layout_of signals.now remarks number line.now }
 {
+    if has_return(line) {
+        return Err(CaptureFault::NoSignal(number, Wire::Atn));
+    }
     let separator = separator_or(remarks.separator, line);
     let (first, more) = split_field(separator, line);
     let unit = time_unit(remarks.bare_unit(), first);
@@ -634,18 +737,47 @@ fn level_of(number: usize, is_inverted: bool, field: &[u8]) -> Result<bool, Capt
     }
 }
 
-/// The level in a wire's column.
+/// The level that a field spells, as it is, or in volts where there is a threshold, in a line with this level before.
+fn level_at(
+    number: usize,
+    separator: u8,
+    is_inverted: bool,
+    before: bool,
+    threshold: Option<Threshold>,
+    field: &[u8],
+) -> Result<bool, CaptureFault>
+    ensures { result ≡ level_at number separator is_inverted before threshold field.now }
+{
+    let Some(threshold) = threshold else {
+        return level_of(number, is_inverted, field);
+    };
+    match volts_in(separator, field) {
+        None => Err(CaptureFault::BadLevel(number)),
+        Some(volts) => Ok(threshold.level(is_inverted, before, volts)),
+    }
+}
+
+/// The level in a wire's column, which had this one before.
 fn level_or(
     number: usize,
-    is_inverted: bool,
+    separator: u8,
+    probes: Probes,
     wire: Wire,
+    before: bool,
     field: Option<&[u8]>,
 ) -> Result<bool, CaptureFault>
-    ensures { result ≡ level_or number is_inverted wire (option_copied field.entry) }
+    ensures { result ≡ level_or number separator probes wire before (option_copied field.entry) }
 {
     match field {
         None => Err(CaptureFault::NoLevel(number, wire)),
-        Some(field) => level_of(number, is_inverted, without_front(field)),
+        Some(field) => level_at(
+            number,
+            separator,
+            probes.inverts(wire),
+            before,
+            probes.threshold,
+            without_front(field),
+        ),
     }
 }
 
@@ -675,7 +807,7 @@ fn is_level(field: &[u8]) -> bool
     }
 }
 
-/// The same of the first field, if there is one.
+/// Whether the first field is one.
 fn has_level(first: Option<&[u8]>) -> bool
     ensures { result ≡ has_level (option_copied first.entry) }
 {
@@ -685,61 +817,122 @@ fn has_level(first: Option<&[u8]>) -> bool
     }
 }
 
-/// Whether a first column that is none of the three lines' has no level in this row.
+/// Whether a digit is in front.
+fn begins_digit(text: &[u8]) -> bool
+    ensures { result ≡ begins_digit text.now }
+{
+    match text {
+        [b, ..] => is_digit(*b),
+        [] => false,
+    }
+}
+
+/// What follows a point or a comma, if one is in front.
+fn behind_mark(text: &[u8]) -> &[u8]
+    ensures { result.now ≡ behind_mark text.now }
+{
+    match text {
+        [] => &[],
+        [b, rest @ ..] => { if *b == b'.' || *b == b',' { rest } else { text } }
+    }
+}
+
+/// Whether a field begins as a number does, and is no level.
+fn is_number(field: &[u8]) -> bool
+    ensures { result ≡ is_number field.now }
+{
+    begins_digit(behind_mark(behind_plus_minus(field))) && !is_level(field)
+}
+
+/// Whether one of these columns, of which the first has this place, has such a number, and is none of the three lines'.
+fn has_number(columns: Columns, place: usize, separator: u8, fields: Option<&[u8]>) -> bool
+    requires { place + length (fields_left separator (option_copied fields)) < 2 ^ 64 }
+    ensures { result ≡ has_number columns place (fields_left separator (option_copied fields.entry)) }
+{
+    let mut here = place;
+    let mut left = fields;
+    while let Some(line) = left {
+        let (field, more) = split_field(separator, line);
+        if is_number(without_front(field)) && !is_line_at(columns, here) {
+            return true;
+        }
+        here += 1;
+        left = more;
+    }
+    false
+}
+
+/// Whether a row has times or numbers that no name says: a first column that is none of the three lines' has no level
+/// in it, or at a rate a later one has a number.
 fn is_foreign(layout: Layout, line: &[u8]) -> bool
     ensures { result ≡ is_foreign layout.columns (fields_of layout.separator false line.now) }
 {
-    layout.columns.has_other_first && !has_level(field_at(layout.separator, line, 0))
+    if layout.columns.has_other_first && !has_level(field_at(layout.separator, line, 0)) {
+        return true;
+    }
+    if !layout.columns.are_rated {
+        return false;
+    }
+    let (_, later) = split_field(layout.separator, line);
+    has_number(layout.columns, 1, layout.separator, later)
 }
 
-/// The sample of the three lines' columns, which has this time.
+/// The sample of the three lines' columns, which has this time, after these levels.
 fn sample_by(
     layout: Layout,
-    is_inverted: bool,
+    probes: Probes,
+    before: Levels,
     number: usize,
     line: &[u8],
     time: u64,
 ) -> Result<Edge, CaptureFault>
-    ensures { result ≡ sample_by layout.columns is_inverted number (fields_of layout.separator false line.now) time }
+    ensures { result ≡ sample_by layout probes before number (fields_of layout.separator false line.now) time }
 {
     let columns = layout.columns;
     let separator = layout.separator;
     let atn = level_or(
         number,
-        is_inverted,
+        separator,
+        probes,
         Wire::Atn,
+        before.atn,
         field_at(separator, line, columns.atn),
     )?;
     let clock = level_or(
         number,
-        is_inverted,
+        separator,
+        probes,
         Wire::Clock,
+        before.clock,
         field_at(separator, line, columns.clock),
     )?;
     let line = level_or(
         number,
-        is_inverted,
+        separator,
+        probes,
         Wire::Data,
+        before.line,
         field_at(separator, line, columns.line),
     )?;
     let levels = Levels { atn, clock, line };
     Ok(Edge { time, levels })
 }
 
-/// A row's sample, which has this time.
+/// A row's sample, which has this time, after these levels.
 fn sample_of(
     layout: Layout,
-    is_inverted: bool,
+    probes: Probes,
+    before: Levels,
     number: usize,
     line: &[u8],
     time: u64,
 ) -> Result<Edge, CaptureFault>
-    ensures { result ≡ sample_of layout.columns is_inverted number (fields_of layout.separator false line.now) time }
+    ensures { result ≡ sample_of layout probes before number (fields_of layout.separator false line.now) time }
 {
     if is_foreign(layout, line) {
         return Err(CaptureFault::NoTime(number));
     }
-    sample_by(layout, is_inverted, number, line, time)
+    sample_by(layout, probes, before, number, line, time)
 }
 
 /// How many rows there were after `rows` more.
@@ -747,6 +940,20 @@ fn with_rows(count: u64, rows: usize) -> Option<u64>
     ensures { IfSome result (λ n. n ≡ count + rows) }
 {
     count.checked_add(u64::try_from(rows).ok()?)
+}
+
+/// The time that a row's field of times spells.
+fn instant_of_row(separator: u8, unit: u8, time: Option<&[u8]>) -> Option<Instant>
+    ensures { result ≡ instant_of_row separator unit (option_copied time.entry) }
+{
+    instant_in(separator, unit, without_front(time?))
+}
+
+/// That of the sample whose number, multiplied by `step`, it spells.
+fn instant_of_number(step: u64, rate: u64, time: Option<&[u8]>) -> Option<Instant>
+    ensures { result ≡ instant_of_number step rate (option_copied time.entry) }
+{
+    sample_in(step, rate, without_front(time?))
 }
 
 impl Moment {
@@ -758,6 +965,11 @@ impl Moment {
             start: None,
             before: 0,
             count: 0,
+            levels: Levels {
+                atn: true,
+                clock: true,
+                line: true,
+            },
         }
     }
 
@@ -775,7 +987,7 @@ impl Moment {
         Ok(Moment {
             start: Some(start),
             before,
-            count: self.count,
+            ..self
         })
     }
 
@@ -789,9 +1001,9 @@ impl Moment {
         };
         let last = time_or(number, self.before, Some(time))?;
         Ok(Moment {
-            start: self.start,
             before: last,
             count: self.count + 1,
+            ..self
         })
     }
 
@@ -811,24 +1023,22 @@ impl Moment {
             start: self.start,
             before: time_at_rate(rate, count - 1)?,
             count,
+            levels: self.levels,
         })
     }
 
     /// That of a row.
     fn of_row(self, layout: Layout, number: usize, line: &[u8]) -> Result<Moment, CaptureFault>
-        ensures { result ≡ moment_of layout.scale layout.separator number self (fields_of layout.separator false line.now) }
+        ensures { result ≡ moment_of layout.scale layout.separator number self (field_at layout.times (fields_of layout.separator false line.now)) }
     {
         match layout.scale {
             Scale::Timed(unit) => {
-                let (time, _) = split_field(layout.separator, line);
-                self.at(
-                    number,
-                    instant_in(layout.separator, unit, without_front(time)),
-                )
+                let time = field_at(layout.separator, line, layout.times);
+                self.at(number, instant_of_row(layout.separator, unit, time))
             }
             Scale::Numbered { step, rate } => {
-                let (sample, _) = split_field(layout.separator, line);
-                self.at(number, sample_in(step, rate, without_front(sample)))
+                let sample = field_at(layout.separator, line, layout.times);
+                self.at(number, instant_of_number(step, rate, sample))
             }
             Scale::Counted(rate) => self.next(number, rate),
         }
@@ -846,16 +1056,20 @@ pub struct Row {
 /// What a row after a moment says.
 fn row_of(
     layout: Layout,
-    is_inverted: bool,
+    probes: Probes,
     number: usize,
     moment: Moment,
     line: &[u8],
 ) -> Result<Row, CaptureFault>
-    ensures { result ≡ row_of layout is_inverted number moment (fields_of layout.separator false line.now) }
+    ensures { result ≡ row_of layout probes number moment (fields_of layout.separator false line.now) }
 {
-    let moment = moment.of_row(layout, number, line)?;
-    let sample = sample_of(layout, is_inverted, number, line, moment.before)?;
-    Ok(Row { sample, moment })
+    let next = moment.of_row(layout, number, line)?;
+    let sample = sample_of(layout, probes, moment.levels, number, line, next.before)?;
+    let levels = sample.levels;
+    Ok(Row {
+        sample,
+        moment: Moment { levels, ..next },
+    })
 }
 
 /// Whether a text has 16 bits a letter.
@@ -934,7 +1148,7 @@ impl RowPlace {
         requires { length line.now + 1 < 2 ^ 64 }
         ensures read { ReadsLine signals.now number line.now self.old result self.new }
         ensures names { IfOk result (λ sample. HasNoRows self.new → sample ≡ None) }
-        ensures row { IfOk result (λ sample. IsRowOf signals.now.is_inverted self.new line.now sample) }
+        ensures row { IfOk result (λ sample. IsRowOf signals.now.probes self.new line.now sample) }
     {
         match self {
             RowPlace::First(given) => {
@@ -952,7 +1166,7 @@ impl RowPlace {
                 if is_silent(line) {
                     return Ok(None);
                 }
-                let row = row_of(*layout, signals.is_inverted, number, *moment, line)?;
+                let row = row_of(*layout, signals.probes, number, *moment, line)?;
                 *moment = row.moment;
                 Ok(Some(row.sample))
             }

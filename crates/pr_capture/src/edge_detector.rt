@@ -57,7 +57,7 @@ fn edge_before(held: Option<Edge>, told: Option<Levels>, next: u64) -> Option<Ed
 }
 
 /// The edge that the sample held makes, if no sample follows.
-fn edge_at_end(held: Option<Edge>, told: Option<Levels>) -> Option<Edge>
+pub fn edge_at_end(held: Option<Edge>, told: Option<Levels>) -> Option<Edge>
     ensures { result ≡ edge_at_end held told }
 {
     match held {
@@ -73,7 +73,7 @@ fn edge_at_end(held: Option<Edge>, told: Option<Levels>) -> Option<Edge>
 }
 
 /// The levels reported last, once an edge has reported its own, if there is one.
-fn told_with(told: Option<Levels>, edge: Option<Edge>) -> Option<Levels>
+pub fn told_with(told: Option<Levels>, edge: Option<Edge>) -> Option<Levels>
     ensures { result ≡ told_with told edge }
 {
     match edge {

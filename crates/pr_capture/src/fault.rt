@@ -23,9 +23,9 @@ pub enum CaptureFault {
     /// No signal has the wire's name, or only one that another wire has.
     #[error("line {0}: no signal {1}")]
     NoSignal(usize, Wire),
-    /// The first column of a table is not one of times in a known unit: it has other counts by its name, no rate of
-    /// samples is known, or a later column has times or counts by its name; or, in a row at a rate, it has a cell that is
-    /// no level, and its name does not say of what.
+    /// Neither the first column of a table nor the last one is of times in a known unit: the first has other counts by its
+    /// name, no rate of samples is known, or a later column has times or counts by its name; or, in a row at a rate, it has a cell that is
+    /// no level, and its name does not say of what, or a later column has a number that is no level.
     #[error("line {0}: no time")]
     NoTime(usize),
     /// A word that can not be here.

@@ -32,6 +32,9 @@ pub struct TraceInput<'a> {
     /// The moment of the recording at which the trace starts, in microseconds. With [`Source::Text`]
     /// it is 0.
     pub start: u64,
+    /// The longest pulse of a line that is left out of a recording, as by [`PulseFilter`](crate::PulseFilter), in
+    /// microseconds; none is left out with 0. With [`Source::Text`] it is 0.
+    pub pulse: u64,
     /// The rate of samples at which a table without times is read, in samples a second, whatever its
     /// remarks say; None where none is given. It counts with [`Source::Csv`] alone, and not in a table
     /// with times.

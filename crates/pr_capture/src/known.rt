@@ -12,7 +12,7 @@ use crate::changes::{Seen, is_number, level_behind, time_at};
 use crate::entries::Keyword;
 use crate::fault::{CaptureFault, Wire};
 use crate::header::{WireCode, WireCodes, copied, scale_in, word_at};
-use crate::signals::Signals;
+use crate::signals::{Probes, Signals};
 use crate::times::time_or;
 use pr_wire::{Edge, NoMemory};
 use std::alloc::Global;
@@ -125,31 +125,23 @@ fn level_if(
 
 /// What is known after a change.
 fn changed(
-    is_inverted: bool,
+    probes: Probes,
     codes: &WireCodes,
     seen: Seen,
     line: usize,
     bits: &[u8],
     code: &[u8],
 ) -> Result<Seen, CaptureFault>
-    ensures { result ≡ changed is_inverted (codes_of codes.now) seen line bits.now code.now }
+    ensures { result ≡ changed probes (codes_of codes.now) seen line bits.now code.now }
 {
     let is_known = seen.all_known();
     let clock = codes.clock_code();
-    let atn = level_if(
-        is_known,
-        line,
-        is_inverted,
-        &codes.atn,
-        bits,
-        code,
-        seen.atn,
-    )?;
-    let clock = level_if(is_known, line, is_inverted, clock, bits, code, seen.clock)?;
+    let atn = level_if(is_known, line, probes.atn, &codes.atn, bits, code, seen.atn)?;
+    let clock = level_if(is_known, line, probes.clock, clock, bits, code, seen.clock)?;
     let data = level_if(
         is_known,
         line,
-        is_inverted,
+        probes.line,
         &codes.line,
         bits,
         code,
@@ -345,7 +337,7 @@ impl Known {
         let Stage::InChanges(scale, seen) = self.stage else {
             return Ok(None);
         };
-        let seen = changed(signals.is_inverted, &self.codes, seen, line, bits, code)?;
+        let seen = changed(signals.probes, &self.codes, seen, line, bits, code)?;
         self.stage = Stage::InChanges(scale, seen);
         Ok(seen.sample())
     }

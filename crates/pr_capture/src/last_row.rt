@@ -5,6 +5,7 @@ ghost use Rattle.std.specs.Prelude.{◌≡◌, ◌+◌, ◌*◌, ◌<◌, ◌≤
 ghost use Rattle.std.specs.List.{list_all};
 ghost use Rattle.std.specs.Str.{bytes_eq};
 ghost use Rattle.pr_capture.specs.Csv.{is_inner};
+ghost use Rattle.pr_capture.specs.declared.signals.Probes.{Probes};
 ghost use Rattle.pr_capture.specs.CsvSteps.{IsRepeat, IsRowOf, IsRun, KnowsLast, KnowsLevels, are_behind, copies, row_if, tail_at};
 
 use crate::csv::{Columns, Layout, Moment, Row, RowPlace, Scale, field_len};
@@ -65,7 +66,7 @@ fn are_behind(columns: Columns) -> bool
     !columns.has_other_first && columns.atn > 0 && columns.clock > 0 && columns.line > 0
 }
 
-/// Where the bytes of a row begin that have its levels, whatever its time is.
+/// Where the bytes of a row begin that have its levels, whatever its time is, which comes first.
 fn tail_at(layout: Layout, line: &[u8]) -> Option<usize>
     ensures { result ≡ tail_at layout line.now }
 {
@@ -73,7 +74,11 @@ fn tail_at(layout: Layout, line: &[u8]) -> Option<usize>
         Scale::Counted(_) => Some(0),
         Scale::Numbered { .. } | Scale::Timed(_) => {
             let len = field_len(layout.separator, line);
-            if are_behind(layout.columns) && !is_plain(layout.separator) && len < line.len() {
+            if layout.times == 0
+                && are_behind(layout.columns)
+                && !is_plain(layout.separator)
+                && len < line.len()
+            {
                 Some(len)
             } else {
                 None
@@ -122,6 +127,7 @@ fn row_if(moment: Result<Moment, CaptureFault>, levels: Levels) -> Option<Row>
         Ok(moment) => {
             let time = moment.before;
             let sample = Edge { time, levels };
+            let moment = Moment { levels, ..moment };
             Some(Row { sample, moment })
         }
         Err(_) => None,
@@ -144,8 +150,8 @@ impl LastRow {
     /// and leaves none of them. It takes no memory.
     pub fn note(&mut self, place: &RowPlace, line: &mut Vec<u8>, sample: Option<Edge>)
         ensures line { line.new.items ≡ [] }
-        ensures known { (inverted : Bool) → list_all is_inner line.old.items ≡ true →
-            IsRowOf inverted place.now line.old.items sample → KnowsLast inverted place.now self.new }
+        ensures known { (probes : Probes) → list_all is_inner line.old.items ≡ true →
+            IsRowOf probes place.now line.old.items sample → KnowsLast probes place.now self.new }
     {
         mem::swap(&mut self.bytes, line);
         line.clear();
@@ -182,8 +188,8 @@ impl LastRow {
         number: usize,
         block: &[u8],
     ) -> Option<(usize, Row)>
-        ensures row { (inverted : Bool) → KnowsLevels inverted layout self.now →
-            IfSome result (λ r. IsRepeat inverted layout number moment (take r.0 block.now) r.1) }
+        ensures row { (probes : Probes) → KnowsLevels probes layout moment self.now →
+            IfSome result (λ r. IsRepeat probes layout number moment (take r.0 block.now) r.1) }
         ensures some { IfSome result (λ r. 0 < r.0) }
         ensures within { IfSome result (λ r. r.0 ≤ length block.now) }
         ensures levels { IfSome result (λ r. self.now.levels ≡ Some r.1.sample.levels) }
@@ -231,8 +237,8 @@ impl LastRow {
         number: usize,
         block: &[u8],
     ) -> Option<Copies>
-        ensures rows { (inverted : Bool) → KnowsLevels inverted layout self.now →
-            IfSome result (λ c. IsRun inverted layout number moment (take c.len block.now) c.count c.row) }
+        ensures rows { (probes : Probes) → KnowsLevels probes layout moment self.now →
+            IfSome result (λ c. IsRun probes layout number moment (take c.len block.now) c.count c.row) }
         ensures some { IfSome result (λ c. 0 < c.count) }
         ensures count { IfSome result (λ c. c.count ≤ c.len) }
         ensures within { IfSome result (λ c. c.len ≤ length block.now) }
@@ -253,7 +259,10 @@ impl LastRow {
         Some(Copies {
             len: count * len,
             count,
-            row: Row { sample, moment },
+            row: Row {
+                sample,
+                moment: Moment { levels, ..moment },
+            },
         })
     }
 }

@@ -1,16 +1,17 @@
 //! What the name of a table's first column and its remarks say of time.
 
 ghost use Rattle.std.specs.Prelude.{◌≡◌, ◌∷◌, [], option_copied};
-ghost use Rattle.pr_capture.specs.TableTimes.{bare_unit, begins, behind_fraction, behind_marks, ends_there, has_numbers, is_another, is_count_word, is_counting, is_cut, is_mark, is_micro, is_plain_rate, is_power, is_sample_word, is_sigrok_name, is_sigrok_word, is_this, is_timing, is_unit, is_whole, no_remarks, own_rate, places_right, scale_by, scale_of, rate_by, rate_given, rate_in, rate_known, rate_power, rate_told, rate_unit, remarked, time_unit, unit_apart, unit_behind, unit_by, unit_of, with_rate};
+ghost use Rattle.pr_capture.specs.Numbers.{behind_digits};
+ghost use Rattle.pr_capture.specs.TableTimes.{bare_unit, begins, begins_power, behind_fraction, behind_letter_e, behind_marks, behind_plus_minus, ends_there, has_numbers, has_slash, is_another, is_count_word, is_counting, is_cut, is_mark, is_micro, is_milli, is_plain_rate, is_plain_unit, is_power, is_sample_word, is_sigrok_name, is_sigrok_word, is_this, is_timing, is_unit, is_whole, no_remarks, own_rate, places_right, power_in, scale_by, scale_of, rate_by, rate_given, rate_in, rate_known, rate_power, rate_told, rate_unit, remarked, time_unit, unit_apart, unit_behind, unit_by, unit_of, with_rate};
 
 use crate::csv::{Columns, Scale};
 use crate::entries::is_word;
 use crate::numbers::{
     are_in_units, are_signs, are_some, behind_decimals, behind_digits, behind_first, behind_word,
-    decimals_in, digits_in, first_of, is_sign, number_from, number_of_first, spells, with_zeros,
-    without_signs,
+    decimals_in, digits_in, first_of, is_sign, number_from, number_in, number_of_first, spells,
+    with_zeros, without_signs,
 };
-use crate::times::{Exponent, behind_plus_minus, exponent_in};
+use crate::times::{Exponent, behind_plus_minus, few_places, is_minus};
 
 /// What remarks say of time.
 #[derive(Clone, Copy)]
@@ -222,16 +223,46 @@ fn rate_unit(name: &[u8]) -> Option<u8>
     }
 }
 
-/// Whether `e` and a number stand here, as in `4e6`.
-fn is_power(rest: &[u8]) -> bool
-    ensures { result ≡ is_power rest.now }
+/// What follows the letter of an exponent.
+fn behind_letter_e(rest: &[u8]) -> &[u8]
+    ensures { result.now ≡ behind_letter_e rest.now }
+{
+    match rest {
+        [] => &[],
+        [_, behind @ ..] => behind,
+    }
+}
+
+/// Whether the letter of an exponent is in front.
+fn begins_power(rest: &[u8]) -> bool
+    ensures { result ≡ begins_power rest.now }
 {
     match rest {
         [] => false,
-        [b, rest @ ..] => {
-            (*b == b'E' || *b == b'e') && behind_digits(behind_plus_minus(rest)).is_empty()
-        }
+        [b, ..] => *b == b'E' || *b == b'e',
     }
+}
+
+/// What follows the letter and the number of an exponent.
+fn behind_power(rest: &[u8]) -> &[u8]
+    ensures { result.now ≡ behind_digits (behind_plus_minus (behind_letter_e rest.now)) }
+{
+    behind_digits(behind_plus_minus(behind_letter_e(rest)))
+}
+
+/// Whether `e` and a number stand here, as in `4e6`, and after them nothing or a unit that is no power itself, as in
+/// `4e6 Hz`.
+fn is_power(rest: &[u8]) -> bool
+    ensures { result ≡ is_power rest.now }
+{
+    begins_power(rest) && is_this(0, rate_unit(behind_power(rest)))
+}
+
+/// The exponent whose sign and digits are in front.
+fn power_in(text: &[u8]) -> Option<Exponent>
+    ensures { result ≡ power_in text.now }
+{
+    few_places(is_minus(text), number_in(behind_plus_minus(text)))
 }
 
 /// The places that an exponent moves the point to the right, if it moves it there.
@@ -251,7 +282,7 @@ fn rate_power(rest: &[u8]) -> Option<u8>
     ensures { result ≡ rate_power rest.now }
 {
     if is_power(rest) {
-        places_right(exponent_in(rest))
+        places_right(power_in(behind_letter_e(rest)))
     } else {
         rate_unit(rest)
     }
@@ -303,17 +334,50 @@ fn behind_fraction(text: &[u8]) -> &[u8]
     }
 }
 
-/// Whether an exponent or a unit is all that stands here.
+/// Whether a unit begins with a small m before s, which is no mega.
+fn is_milli(unit: &[u8]) -> bool
+    ensures { result ≡ is_milli unit.now }
+{
+    match unit {
+        [] => false,
+        [b, rest @ ..] => *b == b'm' && behind_word(b"s", rest).is_some(),
+    }
+}
+
+/// Whether a unit has a slash elsewhere than before its last s.
+fn has_slash(unit: &[u8]) -> bool
+    ensures { result ≡ has_slash unit.now }
+{
+    for (i, b) in unit.iter().enumerate() {
+        if *b == b'/' {
+            return !spells(b"s", &unit[i + 1..]);
+        }
+    }
+    false
+}
+
+/// Whether this is all that the unit of an option's value can have.
+fn is_plain_unit(unit: &[u8]) -> bool
+    ensures { result ≡ is_plain_unit unit.now }
+{
+    are_in_units(unit) && !is_milli(without_signs(unit)) && !has_slash(unit)
+}
+
+/// Whether a unit is all that stands here, or an exponent and a unit.
 fn is_plain_rate(rest: &[u8]) -> bool
     ensures { result ≡ is_plain_rate rest.now }
 {
-    is_power(rest) || are_in_units(rest)
+    if is_power(rest) {
+        is_plain_unit(behind_power(rest))
+    } else {
+        is_plain_unit(rest)
+    }
 }
 
 /// Returns the rate that the value of an option spells, in samples a second: digits, perhaps a point and
 /// decimals, then an exponent, as in `4e6`, or nothing, `k`, `M` or `G`, then nothing, `Hz`, `S/s`, `Sa/s` or `sps`, in
-/// either case and with spaces between, as `4M`, `12.5M`, `500kHz`, `4 MS/s` or `4000000` (profile). None for any
-/// other text, for 0, for 2^64 samples a second and more, and for a part of a sample.
+/// either case and with spaces between, as `4M`, `12.5M`, `500kHz`, `4 MS/s`, `4e6Hz` or `4000000` (profile). None for
+/// any other text, as `4 ms/s` with a small m, for 0, for 2^64 samples a second and more, and for a part of a sample.
 pub fn read_rate(text: &str) -> Option<u64>
     ensures { result ≡ rate_given text.now }
 {

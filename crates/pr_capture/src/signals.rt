@@ -2,10 +2,56 @@
 
 ghost use Rattle.std.specs.Prelude.{◌≡◌, option_copied};
 ghost use Rattle.std.specs.List.{list_all};
-ghost use Rattle.pr_capture.specs.Recording.{behind_letter, behind_sign, is_framing, is_named, level_in, second_name, shared, without_front};
+ghost use Rattle.pr_capture.specs.Recording.{alike, behind_letter, behind_sign, inverts, inverts_any, is_framing, is_named, level_in, second_name, shared, without_front};
 ghost use Rattle.pr_capture.specs.Words.{is_space};
 
 use crate::fault::{CaptureFault, Wire};
+use crate::volts::Threshold;
+
+/// What probes show: which of them invert, so that 0 is released, and levels or volts.
+#[derive(Clone, Copy)]
+pub struct Probes {
+    /// Whether ATN's does.
+    pub atn: bool,
+    /// Whether CLOCK's does.
+    pub clock: bool,
+    /// Whether DATA's does.
+    pub line: bool,
+    /// By which volts in a table's cells a line is 1 or 0; None where cells are levels.
+    pub threshold: Option<Threshold>,
+}
+
+impl Probes {
+    /// Returns probes that all invert, or none of which does, and that show levels.
+    pub const fn alike(inverted: bool) -> Probes
+        ensures { result ≡ alike inverted }
+    {
+        Probes {
+            atn: inverted,
+            clock: inverted,
+            line: inverted,
+            threshold: None,
+        }
+    }
+
+    /// Returns whether any of them inverts.
+    pub fn inverts_any(self) -> bool
+        ensures { result ≡ inverts_any self }
+    {
+        self.atn || self.clock || self.line
+    }
+
+    /// Whether that of a wire does.
+    pub(crate) fn inverts(self, wire: Wire) -> bool
+        ensures { result ≡ inverts self wire }
+    {
+        match wire {
+            Wire::Atn => self.atn,
+            Wire::Clock => self.clock,
+            Wire::Data => self.line,
+        }
+    }
+}
 
 /// Which signals of a recording are the lines of the bus, and how their levels are meant.
 #[derive(Clone, Copy)]
@@ -16,8 +62,8 @@ pub struct Signals<'a> {
     pub clock: &'a [u8],
     /// DATA's name, likewise.
     pub line: &'a [u8],
-    /// Whether the probes invert, so that 0 is released.
-    pub is_inverted: bool,
+    /// What the probes show.
+    pub probes: Probes,
 }
 
 /// Whether a byte is white space.

@@ -30,7 +30,7 @@ pub struct Exponent {
 }
 
 /// Whether a minus is in front.
-fn is_minus(text: &[u8]) -> bool
+pub fn is_minus(text: &[u8]) -> bool
     ensures { result ≡ is_minus text.now }
 {
     match text {
@@ -50,7 +50,7 @@ pub fn behind_plus_minus(text: &[u8]) -> &[u8]
 }
 
 /// An exponent of up to 255 places.
-fn few_places(is_negative: bool, number: Option<u64>) -> Option<Exponent>
+pub fn few_places(is_negative: bool, number: Option<u64>) -> Option<Exponent>
     ensures { result ≡ few_places is_negative number }
 {
     let places = u8::try_from(number?).ok()?;
@@ -79,7 +79,7 @@ fn places_in(is_negative: bool, text: &[u8]) -> Option<Exponent>
 }
 
 /// The exponent after the digits of a number, if nothing else is there.
-pub fn exponent_in(text: &[u8]) -> Option<Exponent>
+fn exponent_in(text: &[u8]) -> Option<Exponent>
     ensures { result ≡ exponent_in text.now }
 {
     match text {
@@ -210,7 +210,7 @@ fn behind_decimals_by(separator: u8, text: &[u8]) -> &[u8]
 }
 
 /// The time that a number without its sign spells.
-fn unsigned_in(separator: u8, unit: u8, is_negative: bool, text: &[u8]) -> Option<Instant>
+pub fn unsigned_in(separator: u8, unit: u8, is_negative: bool, text: &[u8]) -> Option<Instant>
     ensures { result ≡ unsigned_in separator unit is_negative text.now }
 {
     let behind = behind_digits(text);

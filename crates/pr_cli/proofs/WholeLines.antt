@@ -13,6 +13,7 @@ use Rattle.pr_capture.specs.declared.csv.RowPlace.{RowPlace}
 use Rattle.pr_capture.specs.declared.csv.RowPlace.TheVariants.{First, Names, Rows}
 use Rattle.pr_capture.specs.declared.fault.CaptureFault.{CaptureFault}
 use Rattle.pr_capture.specs.declared.remarks.Remarks.{Remarks}
+use Rattle.pr_capture.specs.declared.signals.Probes.{Probes}
 use Rattle.pr_capture.specs.declared.signals.Signals.{Signals}
 use Rattle.pr_capture.specs.Csv.{contents_after_row, csv_contents, fields_of, first_contents, first_moment, is_in_front, is_inner, is_silent, layout_of, line_contents, noted, opened, row_contents, row_of}
 use Rattle.pr_capture.specs.CsvSteps.{contents_from, contents_left, HasReadTable}
@@ -105,14 +106,14 @@ row-weight : (v : Result Row CaptureFault) (rest : Moment → CaptureContents) �
 row-weight (Err f) rest none = refl
 row-weight (Ok r) rest none = omega (arith, weight-behind (r.sample ∷ []) (rest r.moment), none r.moment)
 
-rows-more : (y : Layout) (inverted : Bool) (number : ℕ) (m : Moment) (ls : List (List ℕ))
-    → HasMore (row_contents y inverted number m ls) (row_contents y inverted number m (ls ++ last))
-rows-more y inverted number m [] = λ none. row-weight (row_of y inverted number m (fields_of y.separator false (48 ∷ []))) (λ next. ended) (λ next. refl)
-rows-more y inverted number m (l ∷ ls) = step (is_silent l) refl (row_of y inverted number m (fields_of y.separator false l)) refl (λ m. rows-more y inverted (number + 1) m ls)
+rows-more : (y : Layout) (probes : Probes) (number : ℕ) (m : Moment) (ls : List (List ℕ))
+    → HasMore (row_contents y probes number m ls) (row_contents y probes number m (ls ++ last))
+rows-more y probes number m [] = λ none. row-weight (row_of y probes number m (fields_of y.separator false (48 ∷ []))) (λ next. ended) (λ next. refl)
+rows-more y probes number m (l ∷ ls) = step (is_silent l) refl (row_of y probes number m (fields_of y.separator false l)) refl (λ m. rows-more y probes (number + 1) m ls)
   where
-    step : (silent : Bool) → is_silent l ≡ silent → (v : Result Row CaptureFault) → row_of y inverted number m (fields_of y.separator false l) ≡ v
-        → ((m : Moment) → HasMore (row_contents y inverted (number + 1) m ls) (row_contents y inverted (number + 1) m (ls ++ last)))
-        → HasMore (row_contents y inverted number m (l ∷ ls)) (row_contents y inverted number m ((l ∷ ls) ++ last))
+    step : (silent : Bool) → is_silent l ≡ silent → (v : Result Row CaptureFault) → row_of y probes number m (fields_of y.separator false l) ≡ v
+        → ((m : Moment) → HasMore (row_contents y probes (number + 1) m ls) (row_contents y probes (number + 1) m (ls ++ last)))
+        → HasMore (row_contents y probes number m (l ∷ ls)) (row_contents y probes number m ((l ∷ ls) ++ last))
     step true e v is next = rw e (next m)
     step false e (Err f) is next = rw (e, is) (λ none. absurd (cc))
     step false e (Ok r) is next = rw (e, is) (more-behind (r.sample ∷ []) _ _ (next r.moment))
@@ -126,7 +127,7 @@ lines-more s r number (l ∷ ls) = step (is_in_front l) refl (layout_of s r numb
         → HasMore (line_contents s r number (l ∷ ls)) (line_contents s r number ((l ∷ ls) ++ last))
     step true e v is next = rw e next
     step false e (Err f) is next = rw (e, is) (λ none. absurd (cc))
-    step false e (Ok y) is next = rw (e, is) (rows-more y s.is_inverted (number + 1) first_moment ls)
+    step false e (Ok y) is next = rw (e, is) (rows-more y s.probes (number + 1) first_moment ls)
 
 first-more : (s : Signals) (given : Option ℕ) (number : ℕ) (ls : List (List ℕ)) → HasMore (first_contents s given number ls) (first_contents s given number (ls ++ last))
 first-more s given number [] = λ none. absurd (cc)
@@ -153,14 +154,14 @@ names-few s r number (l ∷ []) few = step (is_in_front l) refl (layout_of s r n
     step false e (Ok y) is = rw (e, is) (omega arith)
 names-few s r number (l ∷ k ∷ ls) few = absurd (omega (arith, few))
 
-rows-few : (y : Layout) (inverted : Bool) (number : ℕ) (m : Moment) (ls : List (List ℕ)) → length ls ≤ 1 → weight (row_contents y inverted number m ls) ≤ 1
-rows-few y inverted number m [] few = omega arith
-rows-few y inverted number m (l ∷ []) few = step (is_silent l) refl
+rows-few : (y : Layout) (probes : Probes) (number : ℕ) (m : Moment) (ls : List (List ℕ)) → length ls ≤ 1 → weight (row_contents y probes number m ls) ≤ 1
+rows-few y probes number m [] few = omega arith
+rows-few y probes number m (l ∷ []) few = step (is_silent l) refl
   where
-    step : (silent : Bool) → is_silent l ≡ silent → weight (row_contents y inverted number m (l ∷ [])) ≤ 1
+    step : (silent : Bool) → is_silent l ≡ silent → weight (row_contents y probes number m (l ∷ [])) ≤ 1
     step true e = rw e (omega arith)
-    step false e = rw e (omega (arith, row-weight (row_of y inverted number m (fields_of y.separator false l)) (λ next. ended) (λ next. refl)))
-rows-few y inverted number m (l ∷ k ∷ ls) few = absurd (omega (arith, few))
+    step false e = rw e (omega (arith, row-weight (row_of y probes number m (fields_of y.separator false l)) (λ next. ended) (λ next. refl)))
+rows-few y probes number m (l ∷ k ∷ ls) few = absurd (omega (arith, few))
 
 first-few : (s : Signals) (given : Option ℕ) (number : ℕ) (ls : List (List ℕ)) → length ls ≤ 1 → weight (first_contents s given number ls) ≤ 1
 first-few s given number [] few = omega arith
@@ -173,7 +174,7 @@ first-few s given number (l ∷ ls) few = step (opened l) refl
 place-few : (s : Signals) (p : RowPlace) (number : ℕ) (ls : List (List ℕ)) → length ls ≤ 1 → weight (contents_from s p number ls) ≤ 1
 place-few s (First given) number ls few = first-few s given number ls few
 place-few s (Names r) number ls few = names-few s r number ls few
-place-few s (Rows y m) number ls few = rows-few y s.is_inverted number m ls few
+place-few s (Rows y m) number ls few = rows-few y s.probes number m ls few
 
 -- What is left.
 

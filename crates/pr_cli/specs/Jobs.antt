@@ -1,7 +1,7 @@
 -- Trusted: what the program answers for each job, what it leaves in the reader and in the writer,
 -- and how it ends. The answer uses the printers present, the delays, the mode, the input, the character set
 -- and the output of the job, and the shapes of characters that it is given.
-use Rattle.std.specs.Prelude.{◌≡◌, ◌⊎◌, ◌≤◌, ◌-◌, ℕ, Bool, true, false, List, length, Option, Some, None, take, Result, Ok, Err}
+use Rattle.std.specs.Prelude.{◌≡◌, ◌⊎◌, ◌≤◌, ◌-◌, ℕ, Bool, true, false, List, length, Option, Some, None, take, Result, Ok, Err, if◌then◌else◌}
 use Rattle.pr_capture.specs.declared.format.Source.{Source}
 use Rattle.pr_capture.specs.declared.format.Source.TheVariants as source
 use Rattle.pr_capture.specs.declared.format.TraceFormat.{TraceFormat}
@@ -11,17 +11,20 @@ use Rattle.pr_report.specs.declared.report.Report.{Report}
 use Rattle.pr_report.specs.declared.report.Report.TheVariants as report
 use Rattle.pr_dots.specs.declared.character_sets.Shapes.{Shapes}
 use Rattle.pr_render.specs.declared.format.Format.{Format}
+use Rattle.pr_render.specs.declared.format.Format.TheVariants as format
 use Rattle.pr_listing.specs.declared.form.ListingForm.{ListingForm}
 use Rattle.pr_listing.specs.declared.form.ListingForm.TheVariants.{Text}
 use Rattle.pr_listing.specs.declared.input.TextFault.{TextFault}
 use Rattle.pr_listing.specs.Forms.{HasText}
 use Rattle.pr_listing.specs.Inputs.{IsTextFault}
+use Rattle.pr_serial.specs.declared.Present.{Present}
 use Rattle.pr_options.specs.declared.command_line.Job.{Job}
 use Rattle.pr_options.specs.declared.command_line.Job.TheVariants.{Pages, Bus, Check, Decode, Raw}
 use Rattle.pr_options.specs.declared.outputs.CheckOutput.{CheckOutput}
 use Rattle.pr_options.specs.declared.outputs.CheckOutput.TheVariants as checked
 use Rattle.pr_options.specs.declared.outputs.DecodeOutput.{DecodeOutput}
 use Rattle.pr_options.specs.declared.outputs.DecodeOutput.TheVariants as reading
+use Rattle.pr_options.specs.declared.outputs.Hearing.{Hearing}
 use Rattle.pr_options.specs.declared.outputs.PagesOutput.{PagesOutput}
 use Rattle.pr_options.specs.declared.outputs.PagesOutput.TheVariants as output
 use Rattle.pr_capture.specs.Found.{found_source}
@@ -32,6 +35,7 @@ use Rattle.pr_jobs.specs.declared.run.PagesEnd.{PagesEnd}
 use Rattle.pr_jobs.specs.declared.run.RunEnd.{RunEnd}
 use Rattle.pr_jobs.specs.declared.run.Start.{Start}
 use Rattle.pr_jobs.specs.Pages.{AnswersPages, AnswersPagesAs, IsPagesFault, IsRunFault, ReadsToEnd, WritesNothing, script_limit}
+use Rattle.pr_jobs.specs.Formats.{shown_of}
 use Rattle.pr_jobs.specs.Runs.{start_of}
 use Rattle.pr_jobs.specs.Bus.{AnswersBus, AnswersBusAs, WritesNoEdge}
 use Rattle.pr_jobs.specs.Check.{AnswersCheck, trace_limit}
@@ -39,6 +43,9 @@ use Rattle.pr_jobs.specs.Report.{AnswersReport, IsReportFault, WritesNoReport}
 use Rattle.pr_jobs.specs.Report as check
 use Rattle.pr_jobs.specs.Raw.{AnswersRaw, IsRawFault}
 use Rattle.pr_recording.specs.declared.byte_log.Heard.{Heard}
+use Rattle.pr_recording.specs.declared.bytes.Overheard.{Overheard}
+use Rattle.pr_recording.specs.declared.listening.Listening.{Listening}
+use Rattle.pr_recording.specs.declared.pages.Reprinted.{Reprinted}
 use Rattle.pr_recording.specs.declared.wording.Wording.TheVariants.{Lines}
 use Rattle.pr_recording.specs.Bytes.{AnswersBytes, HasReadBytes}
 use Rattle.pr_recording.specs.Checked.{AnswersJson}
@@ -98,6 +105,12 @@ IsPrinted located answers ends (Ok (answer.Printed end)) = ends (Ok end)
 IsPrinted located answers ends (Ok _) = ⊥
 IsPrinted located answers ends (Err fault) = ends (Err fault)
 
+-- an answer of the page of a printer's bytes, with what the printer holds
+abbrev pub IsRaw : (Result PagesEnd CliFault → Type 0) → Result Answer CliFault → Type 0
+IsRaw answers (Ok (answer.Printed end)) = answers (Ok end)
+IsRaw answers (Ok _) = ⊥
+IsRaw answers (Err fault) = answers (Err fault)
+
 -- an answer with a printer's bytes
 abbrev pub IsHeard : (Result (RunEnd × Heard) CliFault → Type 0) → Result Answer CliFault → Type 0
 IsHeard answers (Ok (answer.Heard end heard)) = answers (Ok (end, heard))
@@ -110,13 +123,19 @@ IsDone answers (Ok (answer.Ended Done)) = answers (Ok tt)
 IsDone answers (Ok _) = ⊥
 IsDone answers (Err fault) = answers (Err fault)
 
--- the same with a printer's bytes in a recording, and with what is odd about it
-abbrev pub IsOverheard : (Result (Heard × Oddities) CliFault → Type 0) → Result Answer CliFault → Type 0
-IsOverheard answers (Ok (answer.Overheard heard odd)) = answers (Ok (heard, odd))
+-- the same with what is said of a recording of which a printer's bytes are written
+abbrev pub IsOverheard : (Result Overheard CliFault → Type 0) → Result Answer CliFault → Type 0
+IsOverheard answers (Ok (answer.Overheard said)) = answers (Ok said)
 IsOverheard answers (Ok _) = ⊥
 IsOverheard answers (Err fault) = answers (Err fault)
 
--- the same with what is odd about a recording whose pages or JSON do not say it
+-- the same with what is said of one whose pages are written
+abbrev pub IsReprinted : (Result Reprinted CliFault → Type 0) → Result Answer CliFault → Type 0
+IsReprinted answers (Ok (answer.Reprinted said)) = answers (Ok said)
+IsReprinted answers (Ok _) = ⊥
+IsReprinted answers (Err fault) = answers (Err fault)
+
+-- the same with what is odd about a recording whose JSON does not say it
 abbrev pub IsRemarked : (Result Oddities CliFault → Type 0) → Result Answer CliFault → Type 0
 IsRemarked answers (Ok (answer.Remarked odd)) = answers (Ok odd)
 IsRemarked answers (Ok _) = ⊥
@@ -141,6 +160,10 @@ abbrev pub AnswersTraced :
 AnswersTraced located start f text old new result =
     IsRan located (AnswersBus start f text old new) (AnswersBusAs start f text old new) result
 
+-- the printers that listen when a recording begins
+abbrev pub listening_of : Hearing → Listening
+listening_of h = record { printers = h.listening; lower = h.lower }
+
 -- what `decode` answers: the readings of a recording, the bytes that a printer hears in it, or the pages that printers print of it
 abbrev pub AnswersRecording :
     Shapes → TraceInput → DecodeOutput → List ℕ → Option (List ℕ) → Option (List ℕ) → Result Answer CliFault → Type 0
@@ -148,10 +171,10 @@ AnswersRecording shapes input (reading.Readings detail) text old new result =
     IsDone (AnswersDecode trace_limit (Lines detail) input text old new) result
 AnswersRecording shapes input reading.Json text old new result =
     IsRemarked (AnswersDecodeJson input text old new) result
-AnswersRecording shapes input (reading.Bytes device) text old new result =
-    IsOverheard (AnswersBytes input device text old new) result
-AnswersRecording shapes input (reading.Pages f) text old new result =
-    IsRemarked (reprint.AnswersPages shapes input f text old new) result
+AnswersRecording shapes input (reading.Bytes device hearing) text old new result =
+    IsOverheard (AnswersBytes input (listening_of hearing) device text old new) result
+AnswersRecording shapes input (reading.Pages f hearing) text old new result =
+    IsReprinted (reprint.AnswersPages shapes input (listening_of hearing) f text old new) result
 
 -- the answer of a job, by the input's bytes and by what the writer held before and after; for a run
 -- they are the bytes of a script text, also where the listing has another form; the format of a
@@ -167,13 +190,37 @@ AnswersJob located shapes (Check input output) text old new result =
 AnswersJob located shapes (Decode is_found input output) text old new result =
     AnswersRecording shapes input output text old new result
 AnswersJob located shapes (Raw lower f) text old new result =
-    IsDone (AnswersRaw shapes lower f text old new) result
+    IsRaw (AnswersRaw shapes lower f text old new) result
+
+-- the printers whose pages a format shows, of both
+abbrev pub both : Present
+both = record { four = true; five = true }
+
+abbrev pub shown_in : Format → Present
+shown_in format.List = both
+shown_in format.Lines = both
+shown_in (format.Svg part) = shown_of part.device both
+shown_in (format.Png part) = shown_of part.device both
+shown_in (format.Pdf device) = shown_of device both
+
+-- the printers of which nothing is to be left out of a recording, if a job is strict: those whose pages or bytes are written
+abbrev pub strict_if : Bool → Present → Option Present
+strict_if is_strict shown = if is_strict then Some shown else None
+
+abbrev pub strict_in : DecodeOutput → Option Present
+strict_in (reading.Bytes device hearing) = strict_if hearing.is_strict (shown_of (Some device) both)
+strict_in (reading.Pages f hearing) = strict_if hearing.is_strict (shown_in f)
+strict_in _ = None
+
+abbrev pub strict_of : Job → Option Present
+strict_of (Decode is_found input output) = strict_in output
+strict_of _ = None
 
 -- how the program ends a job: the writer holds what an answer of the job leaves in it, and it ends as that answer says;
 -- always allowed are `NoMemory`, `ReadFailed` and `WriteFailed`, whose exit status is 3, where at most a beginning was written
 abbrev pub EndsJob : (located : Bool) → Shapes → Job → List ℕ → Option (List ℕ) → Option (List ℕ) → End → Type 0
 EndsJob located shapes job text old new end =
-    (answer : Result Answer CliFault) × AnswersJob located shapes job text old new answer × (end ≡ job_end answer)
+    (answer : Result Answer CliFault) × AnswersJob located shapes job text old new answer × (end ≡ job_end (strict_of job) answer)
 
 -- the form of the listing that a job reads; an input that is no listing is read as it is
 abbrev pub form_of : Job → ListingForm
@@ -238,7 +285,7 @@ IsPrintFault (output.Bytes device) fault = IsRunFault fault
 
 -- a fault of a recording, and of its pages where they are asked for
 abbrev pub IsRecordingFault : DecodeOutput → CliFault → Type 0
-IsRecordingFault (reading.Pages f) fault = reprint.IsReprintFault fault
+IsRecordingFault (reading.Pages f hearing) fault = reprint.IsReprintFault fault
 IsRecordingFault _ fault = IsDecodeFault fault
 
 -- a fault of the job; lack of memory is always `NoMemory` itself
@@ -251,8 +298,8 @@ IsJobFault (Raw lower f) fault = IsRawFault fault
 
 -- a recording has been read to its end, unless it has a fault
 abbrev pub ReadsRecording : DecodeOutput → Option (List ℕ) → Result Answer CliFault → Type 0
-ReadsRecording (reading.Bytes device) left result = IsOverheard (HasReadBytes left) result
-ReadsRecording (reading.Pages f) left result = IsRemarked (reprint.ReadsPages left) result
+ReadsRecording (reading.Bytes device hearing) left result = IsOverheard (HasReadBytes left) result
+ReadsRecording (reading.Pages f hearing) left result = IsReprinted (reprint.ReadsPages left) result
 ReadsRecording reading.Json left result = IsRemarked (λ answer. decode.ReadsAll left (without_odd answer)) result
 ReadsRecording _ left result = IsDone (decode.ReadsAll left) result
 

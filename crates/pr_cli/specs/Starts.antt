@@ -8,7 +8,8 @@
 --   0,1,1,1 and 0,1,1,1        twice the same row at moment 0: both at 500,000 us, which is the answer; so of -0,5;1;1;1 under Time [s];ATN;CLK;DATA
 -- After -2.0005,1,1,1 in ms it is 2001 us, since times before 0 are rounded to the earlier microsecond. After 0.5,1,1,1 samples
 -- count from moment 0, and a row at 0 goes back and is refused: 0. At 1000 rows a second the three are at 0, 1000 and 2000 us: 0.
-use Rattle.std.specs.Prelude.{ℕ, ◌==◌, ◌||◌, ◌&&◌, not, drop, Bool, true, false, List, [], ◌∷◌, ◌++◌, if◌then◌else◌}
+-- Where the last column has the times, the three have the same: 0, which is the first moment.
+use Rattle.std.specs.Prelude.{ℕ, ◌==◌, ◌||◌, ◌&&◌, not, drop, nat_lt, Bool, true, false, List, [], ◌∷◌, ◌++◌, if◌then◌else◌}
 use Rattle.std.specs.List.{prefix_len}
 use Rattle.pr_wire.specs.declared.Edge.{Edge}
 use Rattle.pr_base.specs.Digits.{is_digit}
@@ -59,9 +60,9 @@ abbrev pub is_instant : (row : List ℕ) → Bool
 is_instant [] = false
 is_instant (b ∷ bs) = if is_separator b then false else b == 58 || is_instant bs
 
--- the time of the second and the third of three samples, if they have the same; else 0
+-- the time of the second and the third of three samples, if they have the same and the first an earlier one; else 0
 abbrev pub same_time : List Edge → ℕ
-same_time (first ∷ second ∷ third ∷ []) = if second.time == third.time then second.time else 0
+same_time (first ∷ second ∷ third ∷ []) = if second.time == third.time && nat_lt first.time second.time then second.time else 0
 same_time _ = 0
 
 -- moment 0 by the first row and these samples; instants have none but the first

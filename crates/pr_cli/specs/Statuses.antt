@@ -1,5 +1,5 @@
 -- Trusted: how the program ends, and its exit statuses.
-use Rattle.std.specs.Prelude.{ℕ, Result, Ok, Err}
+use Rattle.std.specs.Prelude.{ℕ, ◌&&◌, ◌||◌, Bool, false, nat_lt, not, Option, Some, None, Result, Ok, Err, if◌then◌else◌}
 use Rattle.clap.specs.Values.{kind_of}
 use Rattle.clap.specs.declared.error.kind.ErrorKind.{ErrorKind}
 use Rattle.clap.specs.declared.error.kind.ErrorKind.TheVariants.{DisplayHelp, DisplayVersion}
@@ -13,10 +13,14 @@ use Rattle.pr_jobs.specs.declared.characters.ShapesFault.{ShapesFault}
 use Rattle.pr_jobs.specs.declared.characters.ShapesFault.TheVariants as shapes
 use Rattle.pr_jobs.specs.declared.run.Ending.{Ending}
 use Rattle.pr_jobs.specs.declared.run.Ending.TheVariants.{Done, Stopped}
+use Rattle.pr_jobs.specs.declared.run.HeldMarks.{HeldMarks}
+use Rattle.pr_jobs.specs.declared.run.PagesEnd.{PagesEnd}
 use Rattle.pr_jobs.specs.declared.run.RunEnd.{RunEnd}
 use Rattle.pr_jobs.specs.declared.run.RunEnd.TheVariants as run
+use Rattle.pr_recording.specs.declared.left_out.LeftOut.{LeftOut}
+use Rattle.pr_serial.specs.declared.Present.{Present}
 use Rattle.pr_cli.specs.declared.jobs.Answer.{Answer}
-use Rattle.pr_cli.specs.declared.jobs.Answer.TheVariants.{Ended, Ran, Printed, Heard, Overheard, Remarked}
+use Rattle.pr_cli.specs.declared.jobs.Answer.TheVariants.{Ended, Ran, Printed, Heard, Overheard, Reprinted, Remarked}
 use Rattle.pr_cli.specs.declared.statuses.End.{End}
 use Rattle.pr_cli.specs.declared.statuses.End.TheVariants as end
 
@@ -36,13 +40,38 @@ answer_end (Ended ending) = ending_end ending
 answer_end (Ran ran) = run_ended ran
 answer_end (Printed pages) = run_ended pages.run
 answer_end (Heard ran heard) = run_ended ran
-answer_end (Overheard heard odd) = end.Done
+answer_end (Overheard said) = end.Done
+answer_end (Reprinted said) = end.Done
 answer_end (Remarked odd) = end.Done
 
+-- an answer lacks something that a recording has, where the pages or the bytes of these printers are shown: bytes that are left
+-- out; a byte for one of these printers; or marks that they hold
+abbrev pub leaves_out : LeftOut → Bool
+leaves_out l = nat_lt 0 l.unacknowledged || (nat_lt 0 l.incomplete || (l.has_cut || nat_lt 0 l.early))
+
+abbrev pub hears : (shown heard : Present) → Bool
+hears shown heard = (shown.four && heard.four) || (shown.five && heard.five)
+
+abbrev pub holds : HeldMarks → Bool
+holds held = nat_lt 0 held.characters || nat_lt 0 held.columns
+
+abbrev pub hold : (shown : Present) → PagesEnd → Bool
+hold shown pages = (shown.four && holds pages.four) || (shown.five && holds pages.five)
+
+abbrev pub lacks : (shown : Present) → Answer → Bool
+lacks shown (Overheard said) = leaves_out said.left || not said.has_byte
+lacks shown (Reprinted said) = leaves_out said.left || (not (hears shown said.present) || hold shown said.end)
+lacks shown _ = false
+
+-- the same of a job that is to lack nothing of these printers, if it is
+abbrev pub strict_end : (strict : Option Present) → Answer → End
+strict_end None answer = answer_end answer
+strict_end (Some shown) answer = if lacks shown answer then end.Lacking else answer_end answer
+
 -- of a job with its answer or its fault
-abbrev pub job_end : Result Answer CliFault → End
-job_end (Ok answer) = answer_end answer
-job_end (Err fault) = end.Job fault
+abbrev pub job_end : (strict : Option Present) → Result Answer CliFault → End
+job_end strict (Ok answer) = strict_end strict answer
+job_end strict (Err fault) = end.Job fault
 
 -- help and the version are written; other words that clap refuses ask for nothing
 abbrev pub line_end : ErrorKind → End
@@ -82,11 +111,13 @@ characters_status shapes.TooLarge = 2
 characters_status shapes.ReadFailed = 3
 characters_status shapes.NoMemory = 3
 
--- the exit status: 0 when what was asked for is written, 1 when a BASIC error stopped the run, 2 when the words are refused
+-- the exit status: 0 when what was asked for is written, 1 when a BASIC error stopped the run, or something of a recording is
+-- left out that was not to be, 2 when the words are refused
 abbrev pub status_of : End → ℕ
 status_of end.Done = 0
 status_of end.Stopped = 1
 status_of (end.StoppedAt statement stop) = 1
+status_of end.Lacking = 1
 status_of (end.Job fault) = fault_status fault
 status_of (end.Listing fault) = text_status fault
 status_of (end.Characters fault) = characters_status fault

@@ -4,13 +4,17 @@ ghost use Rattle.std.specs.Prelude.{◌≡◌, None, take, IfErr, IfOk, IfSome};
 ghost use Rattle.std.specs.Io.KnownBytes.{Consumes};
 ghost use Rattle.pr_input.specs.Watched.{wrapped};
 ghost use Rattle.pr_cli.specs.Answered.{EndsTask};
-ghost use Rattle.pr_cli.specs.Jobs.{EndsJob, EndsListing, EndsRecording, EndsWork, finds_format, first_bytes, form_of, found_job, started_job};
-ghost use Rattle.pr_cli.specs.Statuses.{answer_end, fault_status, job_end, status_of};
+ghost use Rattle.pr_cli.specs.Jobs.{EndsJob, EndsListing, EndsRecording, EndsWork, finds_format, first_bytes, form_of, found_job, started_job, strict_of};
+ghost use Rattle.pr_cli.specs.Statuses.{answer_end, fault_status, job_end, status_of, strict_end};
 ghost use Rattle.pr_cli.specs.declared.statuses.End.TheVariants as end;
 
 use crate::characters::{shapes_for, shapes_given};
 use crate::jobs::{Answer, do_job, found_job};
-use crate::notes::{drawn_by, has_more_capitals, note_capitals, note_held, note_stop};
+use crate::lacking::strict_of;
+use crate::notes::{
+    ListingNote, drawn_by, note_held, note_listing, note_overheard, note_reprinted, note_stop,
+    petcat_note, program_note,
+};
 use crate::outside::Outside;
 use crate::progress::{Progress, clear};
 use crate::refusals::{refuse, refuse_same};
@@ -18,8 +22,8 @@ use crate::shown::Shown;
 use crate::starts::started_job;
 use crate::statuses::{End, FAILED, is_answered};
 use crate::told::{
-    Listing, Subject, has_more, has_notes, listing_of, show_oddities, subject_of, tell_heard,
-    tell_listing, tell_more, tell_notes,
+    Listing, Subject, has_more, has_notes, is_notable, listing_of, show_oddities, subject_of,
+    tell_heard, tell_listing, tell_more, tell_notes,
 };
 use pr_dots::Shapes;
 use pr_files::{Noting, Unsaved, save};
@@ -44,6 +48,9 @@ const FOR_A_FILE: &str = "PNG and PDF are not written to a terminal: -o FILE wri
 
 /// How many bytes of a recording show its format, at most.
 const FIRST: usize = 4096;
+
+/// How many bytes of a recording that is a file are read again for notes, at most.
+const NOTED: u64 = 1 << 20;
 
 /// The names of a task's files; None of standard input and of standard output.
 #[derive(Clone, Copy)]
@@ -98,8 +105,8 @@ struct Aside<'a> {
     is_noted: bool,
     /// Nothing is said but faults and explanations.
     is_quiet: bool,
-    /// The listing is petcat's text, and its strings have more capitals than small letters.
-    has_capitals: bool,
+    /// What is to be noted of the listing of which a script was made.
+    note: ListingNote,
     /// The input can be read a second time for that: it is a file by name, and no pipe or device. Any other is kept.
     is_file: bool,
     /// How many bytes have come of the input.
@@ -161,7 +168,7 @@ fn answer_named(
         is_advised: manner.is_watched && !manner.is_explained && !manner.is_quiet,
         is_noted: !manner.is_quiet && (manner.is_explained || manner.is_watched),
         is_quiet: manner.is_quiet,
-        has_capitals: false,
+        note: ListingNote::Nothing,
         is_file: false,
         count: &count,
         is_shown: &is_shown,
@@ -230,7 +237,7 @@ pub fn answer_given(
         is_advised: false,
         is_noted: telling.is_explained && !telling.is_quiet,
         is_quiet: telling.is_quiet,
-        has_capitals: false,
+        note: ListingNote::Nothing,
         is_file: false,
         count: &count,
         is_shown: &is_shown,
@@ -249,7 +256,7 @@ fn is_for_a_file(job: &Job<'_>) -> bool {
             _,
             PagesOutput::Pages(Format::Png(_) | Format::Pdf(_))
         ) | Job::Decode {
-            output: DecodeOutput::Pages(Format::Png(_) | Format::Pdf(_)),
+            output: DecodeOutput::Pages(Format::Png(_) | Format::Pdf(_), _),
             ..
         } | Job::Raw {
             format: Format::Png(_) | Format::Pdf(_),
@@ -501,7 +508,7 @@ fn answer_listing<R: Read + Drop, W: Write + Drop>(
             let listing = listing_of(form, kept.as_deref());
             let aside = Aside {
                 is_file: false,
-                has_capitals: aside.is_noted && is_shouted(listing),
+                note: listing_note(listing),
                 ..aside
             };
             answer_over(rt, text.as_slice(), writer, names, listing, work, aside)
@@ -516,17 +523,21 @@ fn answer_listing<R: Read + Drop, W: Write + Drop>(
     }
 }
 
-/// Whether a listing is petcat's text, and has more capitals than small letters in its strings.
-fn is_shouted(listing: Option<Listing<'_>>) -> bool {
-    match listing {
-        Some(listing) => { listing.form == ListingForm::Petcat && has_more_capitals(listing.bytes) }
-        None => false,
+/// What is to be noted of a listing by its own bytes.
+fn listing_note(listing: Option<Listing<'_>>) -> ListingNote {
+    let Some(listing) = listing else {
+        return ListingNote::Nothing;
+    };
+    match listing.form {
+        ListingForm::Petcat => petcat_note(listing.bytes),
+        ListingForm::Program => program_note(listing.bytes),
+        ListingForm::Text | ListingForm::Magazine | ListingForm::Auto => ListingNote::Nothing,
     }
 }
 
 /// Writes what more there is to say of a listing without a text, or how to get that.
 fn explain_listing<R: Read + Drop>(
-    rt: &impl Eprint,
+    rt: &(impl Eprint + AllocGlobal),
     kept: TeeReader<R>,
     form: ListingForm,
     fault: TextFault,
@@ -579,6 +590,7 @@ fn answer_over<R: Read + Drop, W: Write + Drop>(
     } = work;
     let subject = subject_of(&job);
     let drawn = drawn_by(&job);
+    let strict = strict_of(&job);
     let is_kept = !aside.is_file && (aside.is_explained || (aside.is_noted && has_notes(subject)));
     let kept = TeeReader::new(rt.alloc(), reader, is_kept);
     let mut input = Watched::new(Noting::new(kept));
@@ -588,7 +600,7 @@ fn answer_over<R: Read + Drop, W: Write + Drop>(
     let input = input.into_inner();
     let output = output.into_inner();
     let errors = (input.error(), output.error());
-    let end = tell_end(rt, subject, names, answer, errors, aside.is_quiet);
+    let end = tell_end(rt, subject, names, answer, errors, strict, aside.is_quiet);
     if aside.is_advised {
         advise_on(rt, answer, end);
     }
@@ -601,14 +613,23 @@ fn answer_over<R: Read + Drop, W: Write + Drop>(
         answer,
         aside,
     );
-    tell_held(rt, drawn, answer, aside);
+    tell_lacking(rt, drawn, answer, aside);
     (end, output.into_inner())
 }
 
-/// Notes what the printers hold whose pages were drawn, if notes are written.
-fn tell_held(rt: &impl Eprint, drawn: Present, answer: Result<Answer, CliFault>, aside: Aside<'_>) {
-    if let (true, Ok(Answer::Printed(pages))) = (aside.is_noted, answer) {
-        note_held(rt, pages, drawn);
+/// Notes what was not printed of pages that were drawn, or of a printer's bytes: of a run's, and of bytes given, what the
+/// printers hold, if notes are written; of a recording's, all that is left out, unless it is quiet.
+fn tell_lacking(
+    rt: &impl Eprint,
+    drawn: Present,
+    answer: Result<Answer, CliFault>,
+    aside: Aside<'_>,
+) {
+    match answer {
+        Ok(Answer::Printed(pages)) if aside.is_noted => note_held(rt, pages, drawn),
+        Ok(Answer::Reprinted(said)) if !aside.is_quiet => note_reprinted(rt, said, drawn),
+        Ok(Answer::Overheard(said)) if !aside.is_quiet => note_overheard(rt, said, drawn),
+        _ => {}
     }
 }
 
@@ -631,12 +652,17 @@ fn tell_read<R: Read + Drop>(
     answer: Result<Answer, CliFault>,
     aside: Aside<'_>,
 ) {
-    let is_noted = aside.is_noted && answer.is_ok() && has_notes(subject);
+    let is_noted = aside.is_noted && has_answer(subject, answer);
     if !aside.is_explained && !is_noted {
         return;
     }
+    let count = if aside.is_explained || has_notes(subject) {
+        aside.count.get()
+    } else {
+        aside.count.get().min(NOTED)
+    };
     let bytes = match names.input {
-        Some(name) if aside.is_file => rt.again(name, aside.count.get()),
+        Some(name) if aside.is_file => rt.again(name, count),
         _ => kept.into_bytes(),
     };
     if let Some(bytes) = bytes {
@@ -645,11 +671,17 @@ fn tell_read<R: Read + Drop>(
             tell_more(rt, bytes.as_slice(), listing, subject, end);
         }
         if is_noted {
-            if aside.has_capitals {
-                note_capitals(rt);
-            }
+            note_listing(rt, aside.note);
             tell_notes(rt, bytes.as_slice(), subject);
         }
+    }
+}
+
+/// Whether a job was done, or refused with a fault of which there may be notes.
+fn has_answer(subject: Subject<'_>, answer: Result<Answer, CliFault>) -> bool {
+    match answer {
+        Ok(_) => is_notable(subject, None),
+        Err(fault) => is_notable(subject, Some(fault)),
     }
 }
 
@@ -658,7 +690,8 @@ fn run_end_of(answer: Result<Answer, CliFault>) -> Result<RunEnd, CliFault> {
     match answer {
         Ok(Answer::Ran(end) | Answer::Heard(end, _)) => Ok(end),
         Ok(Answer::Printed(pages)) => Ok(pages.run),
-        Ok(Answer::Ended(_) | Answer::Overheard(_, _) | Answer::Remarked(_)) => Ok(RunEnd::Done),
+        Ok(Answer::Ended(_) | Answer::Overheard(_) | Answer::Reprinted(_) | Answer::Remarked(_)) =>
+            Ok(RunEnd::Done),
         Err(fault) => Err(fault),
     }
 }
@@ -671,13 +704,17 @@ fn tell_end(
     names: Names<'_>,
     answer: Result<Answer, CliFault>,
     errors: (Option<Error>, Option<Error>),
+    strict: Option<Present>,
     is_quiet: bool,
 ) -> End
-    ensures { result ≡ job_end answer }
+    ensures { result ≡ job_end strict answer }
 {
     let (read_error, write_error) = errors;
     match answer {
-        Ok(answer) => tell_answer(rt, subject, answer, is_quiet),
+        Ok(answer) => {
+            let end = tell_answer(rt, subject, answer, is_quiet);
+            strict_end(strict, answer, end)
+        }
         Err(CliFault::ReadFailed) => {
             tell_failed(rt, CliFault::ReadFailed, names.input, read_error)
         }
@@ -688,7 +725,17 @@ fn tell_end(
     }
 }
 
-/// Gives how a job with this answer ends. Unless it is quiet, it notes first where the bytes of a printer do not say in
+/// How a job with this answer ends that is to lack nothing of these printers, where it would end so otherwise.
+fn strict_end(strict: Option<Present>, answer: Answer, end: End) -> End
+    ensures { end ≡ answer_end answer → result ≡ strict_end strict answer }
+{
+    match strict {
+        Some(shown) if answer.lacks(shown) => End::Lacking,
+        _ => end,
+    }
+}
+
+/// Gives how a job with this answer ends, strict or not. Unless it is quiet, it notes first where the bytes of a printer do not say in
 /// which character set they are printed, and then what is odd about a recording that was not listed.
 fn tell_answer(
     rt: &(impl Eprint + AllocGlobal),
@@ -699,18 +746,22 @@ fn tell_answer(
     ensures { result ≡ answer_end answer }
 {
     if !is_quiet {
-        if let Answer::Heard(_, heard) | Answer::Overheard(heard, _) = answer {
-            tell_heard(rt, heard);
-        }
-        if let Answer::Overheard(_, odd) | Answer::Remarked(odd) = answer {
-            show_oddities(rt, subject, odd);
+        match answer {
+            Answer::Heard(_, heard) => tell_heard(rt, heard),
+            Answer::Overheard(said) => {
+                tell_heard(rt, said.heard);
+                show_oddities(rt, subject, said.odd);
+            }
+            Answer::Reprinted(said) => show_oddities(rt, subject, said.odd),
+            Answer::Remarked(odd) => show_oddities(rt, subject, odd),
+            Answer::Ended(_) | Answer::Ran(_) | Answer::Printed(_) => {}
         }
     }
     match answer {
         Answer::Ended(ending) => End::of_ending(ending),
         Answer::Ran(end) | Answer::Heard(end, _) => End::of_run(end),
         Answer::Printed(pages) => End::of_run(pages.run),
-        Answer::Overheard(_, _) | Answer::Remarked(_) => End::Done,
+        Answer::Overheard(_) | Answer::Reprinted(_) | Answer::Remarked(_) => End::Done,
     }
 }
 

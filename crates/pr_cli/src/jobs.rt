@@ -6,7 +6,7 @@ ghost use Rattle.pr_jobs.specs.Does.{AreFresh, DoesJob};
 ghost use Rattle.pr_jobs.specs.Pages.{AnswersPages, IsRunFault, ReadsToEnd, WritesNothing};
 ghost use Rattle.pr_jobs.specs.Report.{IsReportFault};
 ghost use Rattle.pr_input.specs.Watched.{wrapped};
-ghost use Rattle.pr_cli.specs.Jobs.{AnswersJob, AnswersRecording, AnswersRun, AnswersTrace, AnswersTraced, IsJobFault, IsPrintFault, IsRecordingFault, KeepsOutput, KeepsRun, KeepsTrace, ReadsInput, ReadsRecording, ReadsTrace, found_job, restarted_job};
+ghost use Rattle.pr_cli.specs.Jobs.{AnswersJob, AnswersRecording, AnswersRun, AnswersTrace, AnswersTraced, IsJobFault, IsPrintFault, IsRecordingFault, KeepsOutput, KeepsRun, KeepsTrace, ReadsInput, ReadsRecording, ReadsTrace, found_job, listening_of, restarted_job};
 
 use pr_capture::{Source, TraceFormat, TraceInput, found_source};
 use pr_dots::Shapes;
@@ -14,10 +14,10 @@ use pr_jobs::{
     CliFault, Ending, PagesEnd, RunEnd, Start, Watched, bus_as_over, bus_over, check_as_over,
     check_over, pages_as_over, pages_over, raw_over,
 };
-use pr_options::{CheckOutput, DecodeOutput, Job, PagesOutput};
+use pr_options::{CheckOutput, DecodeOutput, Hearing, Job, PagesOutput};
 use pr_recording::{
-    Heard, Wording, bytes_over, check_json_over, decode_json_over, decode_over, reprint_over,
-    run_bytes_over,
+    Heard, Listening, Overheard, Reprinted, Wording, bytes_over, check_json_over, decode_json_over,
+    decode_over, reprint_over, run_bytes_over,
 };
 use pr_render::Format;
 use pr_report::{Oddities, Report};
@@ -31,13 +31,15 @@ pub enum Answer {
     Ended(Ending),
     /// It wrote what was asked for of a run that ended so.
     Ran(RunEnd),
-    /// It wrote the pages of a run that ended so.
+    /// It wrote the pages of a run that ended so, or the page of a printer's bytes, which no error stops.
     Printed(PagesEnd),
     /// It wrote the bytes that a printer hears in a run, which do not say what [`Heard`] does.
     Heard(RunEnd, Heard),
-    /// It wrote those that a printer hears in a recording, about which this is odd.
-    Overheard(Heard, Oddities),
-    /// It wrote the pages of a recording, or its readings as JSON, which do not say that this is odd about it.
+    /// It wrote those that a printer hears in a recording, of which this is said.
+    Overheard(Overheard),
+    /// It wrote the pages of a recording, of which this is said.
+    Reprinted(Reprinted),
+    /// It wrote the readings of a recording as JSON, which do not say that this is odd about it.
     Remarked(Oddities),
 }
 
@@ -149,8 +151,8 @@ pub fn do_job<R: Read, W: Write>(
             ..
         } => decode_recording(alloc, input, output, trace, wanted, shapes),
         Job::Raw { lower, format } => {
-            raw_over(alloc, input, output, lower, format, shapes)?;
-            Ok(Answer::Ended(Ending::Done))
+            let page = raw_over(alloc, input, output, lower, format, shapes)?;
+            Ok(Answer::Printed(page))
         }
     }
 }
@@ -337,13 +339,26 @@ fn decode_recording<R: Read, W: Write>(
             let odd = decode_json_over(alloc, input, output, trace)?;
             Ok(Answer::Remarked(odd))
         }
-        DecodeOutput::Bytes(device) => {
-            let (heard, odd) = bytes_over(alloc, input, output, trace, device)?;
-            Ok(Answer::Overheard(heard, odd))
+        DecodeOutput::Bytes(device, hearing) => {
+            let listening = listening_of(hearing);
+            let said = bytes_over(alloc, input, output, trace, listening, device)?;
+            Ok(Answer::Overheard(said))
         }
-        DecodeOutput::Pages(format) => {
-            let odd = reprint_over(alloc, input, output, trace, format, shapes)?;
-            Ok(Answer::Remarked(odd))
+        DecodeOutput::Pages(format, hearing) => {
+            let listening = listening_of(hearing);
+            let said = reprint_over(alloc, input, output, trace, listening, format, shapes)?;
+            Ok(Answer::Reprinted(said))
         }
+    }
+}
+
+/// The printers that listen when a recording begins.
+fn listening_of(hearing: Hearing) -> Listening
+    ensures { result ≡ listening_of hearing }
+{
+    let Hearing { listening, lower, .. } = hearing;
+    Listening {
+        printers: listening,
+        lower,
     }
 }

@@ -29,8 +29,15 @@ const DISK: &str = "this is an image of a disk: VICE's c1541 takes a program out
 const TAPE: &str =
     "this is an image of a tape: an emulator loads the program, and saves it as name.prg";
 
-/// The same of a file of data behind a header.
-const HEADER: &str = "this is a file of data, and no program, behind a header of 26 bytes";
+/// What is said of a sequential file behind a header, and of others.
+const SEQUENTIAL: &str =
+    "this is a sequential file, which has data and no program, behind a header of 26 bytes";
+
+const USER: &str =
+    "this is a user file, which has data and no program, behind a header of 26 bytes";
+
+const RELATIVE: &str =
+    "this is a relative file, which has data and no program, behind a header of 26 bytes";
 
 /// The same of a cartridge.
 const CARTRIDGE: &str = "this is an image of a cartridge, which has no listing";
@@ -204,7 +211,9 @@ fn input_hint(value: &str) -> Option<&'static str> {
     match value {
         "d64" | "d71" | "d80" | "d81" | "d82" | "g64" | "g71" | "nib" => Some(DISK),
         "tap" => Some(TAPE),
-        "s00" => Some(HEADER),
+        "s00" => Some(SEQUENTIAL),
+        "u00" => Some(USER),
+        "r00" => Some(RELATIVE),
         "crt" => Some(CARTRIDGE),
         "gz" | "zip" | "xz" | "7z" | "rar" | "lnx" => Some(ARCHIVE),
         "vcd" => Some(RECORDING),

@@ -333,12 +333,14 @@ fn is_separator(b: u8) -> bool
     matches!(b, b',' | b';' | b'\t')
 }
 
-/// The time of the second and the third of three samples, if they have the same, or else 0.
+/// The time of the second and the third of three samples, if they have the same and the first an earlier one, or else 0.
 fn same_time(samples: &[Edge]) -> u64
     ensures { result ≡ same_time samples.now }
 {
     match samples {
-        [_, second, third] if second.time == third.time => second.time,
+        [first, second, third] if second.time == third.time && first.time < second.time => {
+            second.time
+        }
         _ => 0,
     }
 }

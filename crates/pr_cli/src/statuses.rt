@@ -22,6 +22,8 @@ pub enum End {
         /// The error.
         stop: Stop,
     },
+    /// What was asked for is written, and leaves out something of a recording, which was not to be.
+    Lacking,
     /// The job has this fault.
     Job(CliFault),
     /// The listing has no text of a script.
@@ -39,6 +41,9 @@ const DONE: u8 = 0;
 /// A BASIC error ended the run.
 const STOPPED: u8 = 1;
 
+/// Something of a recording is left out, which was not to be.
+const LACKING: u8 = 1;
+
 /// The command line or the input is refused.
 pub const REFUSED: u8 = 2;
 
@@ -46,13 +51,14 @@ pub const REFUSED: u8 = 2;
 pub const FAILED: u8 = 3;
 
 impl End {
-    /// Returns the exit status: 0 done, 1 stopped, 2 refused, 3 failed. It takes no memory.
+    /// Returns the exit status: 0 done, 1 stopped or lacking, 2 refused, 3 failed. It takes no memory.
     pub fn status(self) -> u8
         ensures { result ≡ status_of self }
     {
         match self {
             End::Done => DONE,
             End::Stopped | End::StoppedAt { .. } => STOPPED,
+            End::Lacking => LACKING,
             End::Job(fault) => fault_status(fault),
             End::Listing(fault) => text_status(fault),
             End::Characters(fault) => characters_status(fault),

@@ -1,16 +1,16 @@
 //! What more there is to say of a job's input, on standard error.
 
-use crate::notes::{is_script, is_typed, note_bytes, note_script};
+use crate::notes::{is_script, is_typed, note_bytes, note_script, note_unit};
 use pr_basic::{ScriptFault, StatusMode, cut_line};
 use pr_capture::{Source, TraceFormat, TraceInput};
 use pr_explain::{
-    Explanation, ScriptPlace, explain_line, explain_reading, explain_script, explain_stop,
-    explain_trace, remark_on,
+    Explanation, ScriptPlace, explain_letter, explain_line, explain_reading, explain_script,
+    explain_stop, explain_trace, remark_on,
 };
 use pr_jobs::{CliFault, PictureFault, RunEnd};
 use pr_listing::{
-    ListingFault, ListingForm, TextFault, begins_with_heading, found_form, long_token_name,
-    looks_like_text, plain_form, program_byte, token_name,
+    ListingFault, ListingForm, TextFault, begins_with_heading, found_form, is_p00, is_t64,
+    long_token_name, looks_like_text, plain_form, program_byte, token_name,
 };
 use pr_options::{CheckOutput, DecodeOutput, Job, PagesOutput, Task};
 use pr_recording::Heard;
@@ -22,12 +22,32 @@ use std::alloc::{AllocError, Global};
 /// What is said of a refused script that looks like a saved program.
 const SAVED_PROGRAM: &str = "this looks like a saved program: --from prg reads one";
 
+/// What is said of a saved program that has the letters of a keyword.
+const LETTERS: &str =
+    "letters spell no keyword in a saved program: its keywords are bytes from 128 on";
+
 /// What is said of a refused script whose strings have them too, or that begins with petcat's heading.
 const PETCAT_TEXT: &str = "this may be petcat's text: --from petcat reads it";
+
+/// What is said of a refused script with two bytes a letter.
+const WIDE_SCRIPT: &str = "this is text in UTF-16; save it as ASCII or UTF-8";
+
+/// What is said of a refused script with a byte 26 at the end of the refused line.
+const END_MARK: &str = "the byte 26 is an end mark of old systems; save the listing without it";
 
 /// What is said of a saved program without its load address, or that ends within a line.
 const PROGRAM_FORM: &str = "a saved program is a load address of two bytes, then lines: \
      a link and a number of two bytes each, the line's bytes and 0; a link of 0 ends it";
+
+/// What is said of a P00 file without one.
+const P00_FORM: &str =
+    "this is a P00 file, whose name says by its ending what follows its header of 26 bytes: \
+     .p00 to .p99 a program, .s00, .u00 and .r00 data";
+
+/// What is said of a T64 file without one.
+const T64_FORM: &str =
+    "the directory of this T64 file has no BASIC program, or says wrongly where it begins or ends; \
+     load it in an emulator, and save it as name.prg";
 
 /// What is said of one that looks like a text.
 const PLAIN_TEXT: &str = "this looks like text: --from text or petcat reads one";
@@ -41,9 +61,22 @@ const PETCAT_NAMES: &str =
 const MAGAZINE_NAMES: &str = "in a string { begins a name of a key and } ends it, as {CLR}, \
      {5 SPACES}, {SHIFT-A} or {$A0}; [<A>] is A with the Commodore key; a count is 1 to 255";
 
+/// What is said of a magazine's listing with an unknown key.
+const MAGAZINE_KEYS: &str =
+    "in a string [< begins a key that is typed with the Commodore key and >] ends it: a letter, 1 to 8, \
+     or one of @ + - *, as in [<A>], [<5>] or [<3 A>]; a count is 1 to 255";
+
 /// What is said of a magazine's listing with a byte that its strings never have.
 const MAGAZINE_BYTES: &str = "a string of a magazine's listing has capitals, digits and signs: \
      the bytes 32 to 95; --from petcat reads small letters";
+
+/// What is said of a magazine's listing with a key in square brackets that is typed with shift.
+const MAGAZINE_SHIFT: &str = "a key that is typed with shift has a name in braces, as {SHIFT-A}";
+
+/// Pi, as UTF-8 has it, and what is said of it in a string of a typed listing.
+const PI: &[u8] = b"\xcf\x80";
+
+const PI_NAME: &str = "this is pi, which is {$de} in the strings of such a listing";
 
 /// What is said of petcat's text with a byte that it never has.
 const PETCAT_BYTES: &str =
@@ -150,17 +183,28 @@ pub fn tell_more(
 }
 
 /// Writes what is to be noted of an input whose job is answered.
-pub fn tell_notes(rt: &impl Eprint, bytes: &[u8], subject: Subject<'_>) {
+pub fn tell_notes(rt: &(impl Eprint + AllocGlobal), bytes: &[u8], subject: Subject<'_>) {
     match subject {
         Subject::Script(job) => note_script(rt, bytes, job.form),
         Subject::Bytes => note_bytes(rt, bytes),
-        Subject::Trace(_) | Subject::Recording(_) => {}
+        Subject::Trace(input) | Subject::Recording(input) => note_unit(rt, bytes, input),
     }
 }
 
-/// Whether notes can be of an input: those of a trace or a recording are not of its bytes.
+/// Whether an input is kept for notes: of a trace or a recording there are some only where it is a file, or is kept for
+/// an explanation.
 pub fn has_notes(subject: Subject<'_>) -> bool {
     matches!(subject, Subject::Script(_) | Subject::Bytes)
+}
+
+/// Whether there may be notes of an input whose job has this fault, or none: of a trace also where its edges are refused.
+pub fn is_notable(subject: Subject<'_>, fault: Option<CliFault>) -> bool {
+    match (subject, fault) {
+        (Subject::Script(_) | Subject::Bytes, None) => true,
+        (Subject::Trace(input), None | Some(CliFault::Wave(_)))
+        | (Subject::Recording(input), None) => input.source == Source::Csv,
+        _ => false,
+    }
 }
 
 /// Whether more can be said of a job's fault than its one line.
@@ -260,20 +304,48 @@ fn hint_of(
     }
 }
 
-/// What a script's text may be meant for, where it was not given in another form.
+/// What a script's text may be meant for, which was made of a listing in this form. That of a saved program begins with a
+/// digit.
 fn script_hint(
     script: &[u8],
     form: ListingForm,
     answer: Result<RunEnd, CliFault>,
 ) -> Option<&'static str> {
-    match answer {
-        Err(CliFault::Script(_)) if is_script(form) && found_form(script) == ListingForm::Program =>
-            { Some(SAVED_PROGRAM) }
-        Err(CliFault::Script(fault))
-            if is_script(form) && may_be_petcat(script) && !is_letter(script, fault) => {
-            Some(PETCAT_TEXT)
-        }
-        _ => None,
+    let Err(CliFault::Script(fault)) = answer else {
+        return None;
+    };
+    if found_form(script) == ListingForm::Program {
+        Some(SAVED_PROGRAM)
+    } else if is_wide(script) {
+        Some(WIDE_SCRIPT)
+    } else if ends_with_mark(script, fault) {
+        Some(END_MARK)
+    } else if (is_script(form) || form == ListingForm::Magazine)
+        && may_be_petcat(script)
+        && !is_letter(script, fault)
+    {
+        Some(PETCAT_TEXT)
+    } else {
+        None
+    }
+}
+
+/// Whether a script has two bytes a letter: a mark says so in front, or two letters do.
+fn is_wide(script: &[u8]) -> bool {
+    matches!(
+        script,
+        [0xff, 0xfe, ..]
+            | [0xfe, 0xff, ..]
+            | [1..=255, 0, 1..=255, 0, ..]
+            | [0, 1..=255, 0, 1..=255, ..]
+    )
+}
+
+/// Whether the refused line of a script ends with a byte 26.
+fn ends_with_mark(script: &[u8], fault: ScriptFault) -> bool {
+    match line_number(fault) {
+        Some(number) => matches!(line_numbered(script, number), [.., 26]),
+        None => false,
     }
 }
 
@@ -297,35 +369,75 @@ fn may_be_petcat(script: &[u8]) -> bool {
 }
 
 /// Writes what more there is to say of a listing that has no text, on standard error.
-pub fn tell_listing(rt: &impl Eprint, bytes: &[u8], form: ListingForm, fault: TextFault) {
+pub fn tell_listing(
+    rt: &(impl Eprint + AllocGlobal),
+    bytes: &[u8],
+    form: ListingForm,
+    fault: TextFault,
+) {
     let form = plain_form(form, bytes);
     match fault {
         TextFault::Listing(
             ListingFault::NoAddress | ListingFault::CutOff(_) | ListingFault::NoLine,
         ) => {
-            show_hint(rt, Some(PROGRAM_FORM));
+            show_hint(rt, Some(program_form(bytes)));
             if looks_like_text(bytes) {
                 show_hint(rt, Some(PLAIN_TEXT));
             }
         }
-        TextFault::Listing(ListingFault::UnknownName(..)) => show_hint(rt, Some(names_in(form))),
-        TextFault::Listing(ListingFault::BadByte(..)) => show_hint(rt, Some(bytes_in(form))),
+        TextFault::Listing(ListingFault::UnknownName(number, column)) => {
+            let line = line_numbered(bytes, number);
+            show_hint(rt, Some(names_in(form, line.get(column.saturating_sub(1)))));
+        }
+        TextFault::Listing(ListingFault::BadByte(number, column)) => {
+            tell_byte(
+                rt,
+                form,
+                line_numbered(bytes, number),
+                column.saturating_sub(1),
+            );
+        }
         _ => {}
     }
 }
 
-/// What is said of a listing in a form with an unknown name.
-fn names_in(form: ListingForm) -> &'static str {
-    match form {
-        ListingForm::Magazine => MAGAZINE_NAMES,
+/// What is said of a file without a saved program.
+fn program_form(bytes: &[u8]) -> &'static str {
+    if is_p00(bytes) {
+        P00_FORM
+    } else if is_t64(bytes) {
+        T64_FORM
+    } else {
+        PROGRAM_FORM
+    }
+}
+
+/// What is said of a listing in a form with an unknown name, whose brackets begin with this byte.
+fn names_in(form: ListingForm, bracket: Option<&u8>) -> &'static str {
+    match (form, bracket) {
+        (ListingForm::Magazine, Some(b'[')) => MAGAZINE_KEYS,
+        (ListingForm::Magazine, _) => MAGAZINE_NAMES,
         _ => PETCAT_NAMES,
     }
 }
 
-/// What is said of a listing in a form with a byte that its strings never have.
-fn bytes_in(form: ListingForm) -> &'static str {
-    match form {
-        ListingForm::Magazine => MAGAZINE_BYTES,
+/// Writes what more there is to say of a line of a listing in a form that has, behind so many bytes, a byte that its
+/// strings never have.
+fn tell_byte(rt: &(impl Eprint + AllocGlobal), form: ListingForm, line: &[u8], before: usize) {
+    let (front, rest) = line.split_at(before.min(line.len()));
+    if rest.starts_with(PI) {
+        show_hint(rt, Some(PI_NAME));
+    } else {
+        show(rt, explain_letter(rt.alloc(), rest));
+    }
+    show_hint(rt, Some(bytes_in(form, front, rest)));
+}
+
+/// What is said of a listing in a form with a byte that its strings never have, in front of `rest`.
+fn bytes_in(form: ListingForm, front: &[u8], rest: &[u8]) -> &'static str {
+    match (form, front, rest) {
+        (ListingForm::Magazine, [.., b'['], [b's', ..]) => MAGAZINE_SHIFT,
+        (ListingForm::Magazine, _, _) => MAGAZINE_BYTES,
         _ => PETCAT_BYTES,
     }
 }
@@ -395,7 +507,8 @@ fn refusal_told(
 }
 
 /// Why a script is refused that is made of a listing, by its line with the fault: a saved program's byte that the script
-/// has as `?` has its own name in the last line, and of a typed listing it is said of which text the column is.
+/// has as `?` has its own name in the last line, its letters are no keyword with spaces, and of a typed listing it is said
+/// of which text the column is.
 fn listing_told(
     alloc: Global,
     text: String,
@@ -407,6 +520,10 @@ fn listing_told(
     match listing.form {
         ListingForm::Program if matches!(line.get(before), Some(b'?')) => {
             byte_told(alloc, text, listing.bytes, place)
+        }
+        ListingForm::Program if text.as_str().ends_with(" without spaces\n") => {
+            let front = without_last_line(text.as_str());
+            format!(in alloc; "{front}\n  {LETTERS}\n")
         }
         ListingForm::Petcat | ListingForm::Magazine => {
             format!(in alloc; "{text}  the column is of the script made of it\n")

@@ -5,11 +5,12 @@ ghost use Rattle.pr_jobs.specs.Report.{IsOwnFault};
 ghost use Rattle.pr_explain.specs.TracePlaces.{capture_line, fault_line};
 
 use crate::names::{
-    first_field, has_fractions, has_units, is_number, push_dump_names, push_same_names,
-    push_table_names, separator_of,
+    first_field, has_column, has_units, has_volts, is_number, is_signal, is_volts, push_dump_names,
+    push_same_names, push_table_names, separator_of,
 };
 use crate::tables::{
-    begins_number, has_rate, other_said, push_other_said, push_times_rule, separator_at,
+    begins_number, names_before, other_said, push_other_said, push_row_rule, push_times_rule,
+    separator_at,
 };
 use crate::texts::{Cut, line_with, without_end};
 use crate::words::begins_listing;
@@ -42,8 +43,16 @@ const UNITS: &str =
 
 /// What a message says of a row whose cells have decimals in place of levels.
 const VOLTS: &str =
-    "expected level 0, 1, L or H: these look like volts; export digital channels, or let the analyzer \
-     compare with a threshold";
+    "expected level 0, 1, L or H: these look like volts, which --threshold compares: with --threshold 1.5 a line \
+     is 1 from 1.5 volts on";
+
+/// What a message says of a table whose lines have byte 13 alone at their ends.
+const RETURNS: &str =
+    "CR alone ends no line here, so this is one line: save the table with LF or CR LF line ends";
+
+/// What a cell has where volts are compared with a threshold.
+const NO_VOLTS: &str =
+    "expected volts, such as 3.3, -0.05 or 4e-1 (3,3 where ; or a tab separates); cells with levels need no --threshold";
 
 /// What a message says of text of 16 bits a letter.
 const WIDE: &str = "this is UTF-16 text: save the recording as UTF-8 text";
@@ -162,21 +171,44 @@ fn push_table_fault(
     let separator = separator_at(bytes, line, number);
     match fault {
         CaptureFault::NoSignal(_, wire) => {
+            if has_return(line) || has_return(line_with(bytes, 1)) {
+                return write!(text, "  {RETURNS}\n");
+            }
             if let Some(said) = other_said(bytes, line, number) {
                 return push_other_said(text, said);
             }
             push_columns(text, line, separator, wire, input.signals)?;
             push_skipped(text, bytes, line)
         }
-        CaptureFault::NoTime(_) => {
-            let is_rated = has_rate(bytes, input, number);
-            push_times_rule(text, line, separator.unwrap_or(b','), input, is_rated)
+        CaptureFault::NoTime(_) => match names_before(bytes, number) {
+            Some(names) => {
+                let separator = separator_at(bytes, names, number).unwrap_or(b',');
+                push_row_rule(text, names, line, separator, input)
+            }
+            None => push_times_rule(text, bytes, number, line, separator.unwrap_or(b','), input),
+        },
+        CaptureFault::BadLevel(_) if input.signals.probes.threshold.is_some() => {
+            write!(text, "  {NO_VOLTS}\n")
         }
-        CaptureFault::BadLevel(_) if has_fractions(separator.unwrap_or(b','), line) => {
+        CaptureFault::BadLevel(_) if may_be_volts(bytes, line, number, input.signals) => {
             write!(text, "  {VOLTS}\n")
         }
         _ => write!(text, "  {}\n", rule_of_tables(fault)),
     }
+}
+
+/// Whether a row of a table, of this number, has a cell of volts in a column that may be one of the signals.
+fn may_be_volts(bytes: &[u8], row: &[u8], number: usize, signals: Signals<'_>) -> bool {
+    let names = names_before(bytes, number).unwrap_or(row);
+    let separator = separator_at(bytes, names, number).unwrap_or(b',');
+    has_volts(separator, row)
+        || (is_signal(first_field(separator, names), signals)
+            && is_volts(first_field(separator, row)))
+}
+
+/// Whether a line has byte 13 elsewhere than at its end.
+fn has_return(line: &[u8]) -> bool {
+    without_end(line).contains(&b'\r')
 }
 
 /// The name of a line of the bus, and that of its signal.
@@ -196,6 +228,25 @@ fn push_missing(text: &mut String, wire: Wire, signals: Signals<'_>) -> Result<(
         "  found no signal named {} for the {line} line\n",
         Cut(name)
     )
+}
+
+/// Adds which name no column of a table has, by the line of its names, or that another line of the bus has its column.
+fn push_unmeant(
+    text: &mut String,
+    line: &[u8],
+    separator: u8,
+    wire: Wire,
+    signals: Signals<'_>,
+) -> Result<(), NoMemory> {
+    let (own, name) = line_and_name(wire, signals);
+    if has_column(separator, line, name) {
+        let name = Cut(name);
+        return write!(
+            text,
+            "  the column {name} is that of another line already: {own} needs one of its own\n"
+        );
+    }
+    push_missing(text, wire, signals)
 }
 
 /// Adds which name no column of a table has, and the names that this line gives, or why it gives none.
@@ -233,7 +284,7 @@ fn push_columns(
     if has_units(separator, line) {
         return write!(text, "  {UNITS}\n");
     }
-    push_missing(text, wire, signals)?;
+    push_unmeant(text, line, separator, wire, signals)?;
     push_table_names(text, separator, line)
 }
 
@@ -293,7 +344,7 @@ fn rule_of_dumps(fault: CaptureFault) -> &'static str {
 fn rule_of_tables(fault: CaptureFault) -> &'static str {
     match fault {
         CaptureFault::BadTime(_) => {
-            "expected a time first, such as 0.000125, -2 or 5e-05 (0,000125 where ; or a tab separates), in \
+            "expected a time, such as 0.000125, -2 or 5e-05 (0,000125 where ; or a tab separates), in \
              the unit of its column and below 2^64 microseconds; sample numbers are digits, and times after sigrok-cli's remark of a rate are \
              multiples of one sample's"
         }

@@ -4,7 +4,8 @@
 //! people and is only tested. [`explain_trace`] gives for a trace in any format the line that
 //! cannot be read and where its edges stop being lawful, with the edges that may follow there and
 //! by how much the interval was missed. [`explain_reading`] gives where a recording cannot be read
-//! further, [`explain_script`] the line and the column of a script's first fault, and [`explain_stop`]
+//! further, [`explain_script`] the line and the column of a script's first fault ([`explain_letter`] what
+//! a letter of a listing is that the C64 does not have), and [`explain_stop`]
 //! the line and the device of a statement at which a BASIC error stopped a run. [`rows_from`] gives
 //! the rows of the table of lawful traces at a place: an edge is taken there exactly if one of them
 //! has its levels and its time. [`rows_behind`] gives those that an edge after the last one can
@@ -16,7 +17,7 @@
 //!   first that is not allowed, and `input` reads a trace in any format as `check` reads it ([`read_input`]).
 //! - The words: `trace_text` and `states` of edges; `faults`, `tables` and `names` of a line that cannot be
 //!   read, what it should have, and which signals a recording has, by `declared` those of a dump;
-//!   `context` and `words` of the
+//!   `units` finds the unit that a table's times may be in; `context` and `words` of the
 //!   statement around a place of a script, and of the word that is there. The place's line and its
 //!   lexeme are those of pr_basic's `line_at` and `lexeme_at`. `texts` has times, levels and
 //!   escaped bytes.
@@ -41,6 +42,7 @@ mod tables;
 mod texts;
 mod trace_text;
 mod traces;
+mod units;
 mod words;
 
 pub use edges::EdgePlace;
@@ -48,9 +50,10 @@ pub use input::read_input;
 pub use lines::{FirstLine, first_line};
 pub use oddities::{Remarks, remark_on};
 pub use rows::{Miss, Row, rows_behind, rows_from};
-pub use scripts::{ScriptPlace, explain_line, explain_script};
+pub use scripts::{ScriptPlace, explain_letter, explain_line, explain_script};
 pub use stops::{StopCause, StopPlace, explain_stop};
 pub use traces::{ReadingPlace, TracePlace, explain_reading, explain_trace};
+pub use units::{TimeUnit, unit_meant};
 
 /// What there is to say of a refusal, or of an error. Where nothing is refused the place is none
 /// and the text empty, instead of an `Option` around both.

@@ -200,6 +200,43 @@ pub fn has_times_behind(separator: u8, line: &[u8]) -> bool {
     false
 }
 
+/// Whether a table has a column that this name means, by the line of its names: one that is called so, or, where it is a number, one
+/// with this number, from 0. Columns of times in front do not count.
+pub fn has_column(separator: u8, line: &[u8], name: &[u8]) -> bool {
+    let (first, later) = split_field(separator, line);
+    let mut rest = if is_front(unframed(first)) {
+        later
+    } else {
+        line
+    };
+    let mut left = number_of(name);
+    while !rest.is_empty() {
+        let (field, more) = split_field(separator, rest);
+        rest = more;
+        if left == Some(0) || unframed(field).eq_ignore_ascii_case(name) {
+            return true;
+        }
+        left = match left {
+            Some(number) => number.checked_sub(1),
+            None => None,
+        };
+    }
+    false
+}
+
+/// Whether a first column has times or numbers of samples by its name, as it seems.
+fn is_front(name: &[u8]) -> bool {
+    begins_time(name) || begins_with(name, b"sample") || begins_with(name, b"index")
+}
+
+/// The number that a name is, if it is one.
+fn number_of(name: &[u8]) -> Option<usize> {
+    match str::from_utf8(name) {
+        Ok(name) => name.parse().ok(),
+        Err(_) => None,
+    }
+}
+
 /// Whether a column is called as one of the signals, in capitals or not.
 pub fn is_signal(name: &[u8], signals: Signals<'_>) -> bool {
     name.eq_ignore_ascii_case(signals.atn)
@@ -260,6 +297,62 @@ pub fn push_later_columns(
     )
 }
 
+/// Adds which columns behind the first one have numbers in a row at a rate that are no levels, and are none of the
+/// signals, by the line of the names.
+pub fn push_later_numbers(
+    text: &mut String,
+    separator: u8,
+    names: &[u8],
+    row: &[u8],
+    signals: Signals<'_>,
+) -> Result<(), NoMemory> {
+    write!(
+        text,
+        "  at a rate a later column has numbers that are no levels"
+    )?;
+    let (_, mut names) = split_field(separator, names);
+    let (_, mut rest) = split_field(separator, row);
+    let mut place: usize = 1;
+    let mut count: usize = 0;
+    while !rest.is_empty() {
+        let (name, later) = split_field(separator, names);
+        let (cell, more) = split_field(separator, rest);
+        names = later;
+        rest = more;
+        place = place.wrapping_add(1);
+        let name = unframed(name);
+        if is_other_number(unframed(cell)) && !is_signal(name, signals) {
+            let sign = if count == 0 { " (" } else { "; " };
+            write!(text, "{sign}column {place}, {}", Cut(name))?;
+            count = count.wrapping_add(1);
+        }
+    }
+    let end = if count == 0 { "" } else { ")" };
+    write!(
+        text,
+        "{end}: move it to the front and name this column: Time [us], Sample; if it has neither, leave it out\n"
+    )
+}
+
+/// Whether a cell begins with a digit, after a sign or a point or not, and is no level.
+fn is_other_number(cell: &[u8]) -> bool {
+    let number = match cell {
+        [b'-' | b'+', rest @ ..] => rest,
+        _ => cell,
+    };
+    matches!(number, [b'0'..=b'9', ..] | [b'.' | b',', b'0'..=b'9', ..]) && !is_level(cell)
+}
+
+/// Whether a cell is a level, known or not, which may have a point and zeros behind it.
+pub fn is_level(cell: &[u8]) -> bool {
+    match cell {
+        [level, rest @ ..] if b"01LlHhXxZz".contains(level) => {
+            matches!(rest, [] | [b'.', ..]) && !rest.iter().any(|byte| matches!(*byte, b'1'..=b'9'))
+        }
+        _ => false,
+    }
+}
+
 /// Whether a name begins with a word for time.
 fn begins_time(name: &[u8]) -> bool {
     begins_with(name, b"time") || begins_with(name, b"elapsed") || begins_with(name, b"delta")
@@ -276,11 +369,29 @@ pub fn first_field(separator: u8, line: &[u8]) -> &[u8] {
     unframed(field)
 }
 
-/// Whether a field behind the first one has a point between digits, as volts have.
-pub fn has_fractions(separator: u8, line: &[u8]) -> bool {
+/// Whether a field behind the first one is 5, or has a point between digits, as volts have.
+pub fn has_volts(separator: u8, line: &[u8]) -> bool {
     let (_, fields) = split_field(separator, line);
-    for (i, byte) in fields.iter().enumerate() {
-        if *byte == b'.' && 0 < i && begins_fraction(&fields[i - 1..]) {
+    let mut rest = fields;
+    while !rest.is_empty() {
+        let (field, more) = split_field(separator, rest);
+        rest = more;
+        if is_volts(unframed(field)) {
+            return true;
+        }
+    }
+    false
+}
+
+/// Whether a cell is 5, or has a point between digits, as volts have.
+pub fn is_volts(cell: &[u8]) -> bool {
+    cell == b"5".as_slice() || has_fraction(cell)
+}
+
+/// Whether a cell has a point between digits.
+fn has_fraction(cell: &[u8]) -> bool {
+    for (i, byte) in cell.iter().enumerate() {
+        if *byte == b'.' && 0 < i && begins_fraction(&cell[i - 1..]) {
             return true;
         }
     }

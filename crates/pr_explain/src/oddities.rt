@@ -118,6 +118,16 @@ fn odd_lines(
     }
 }
 
+/// Whether some byte is acknowledged in a recording, up to its first fault.
+pub fn has_byte(alloc: Global, recording: &[u8], input: TraceInput<'_>) -> Result<bool, NoMemory> {
+    let said = read_input(alloc, recording, input)?;
+    let edges = said.edges.as_slice();
+    match place_read(edges, said.fault) {
+        Some(_) => Ok(false),
+        None => Ok(!oddities_of(edges).no_byte),
+    }
+}
+
 /// From where on edges count: the moment of the first, 0 where there is none.
 fn first_moment(edges: &[Edge]) -> u64
     ensures { result ≡ first_moment edges.now }

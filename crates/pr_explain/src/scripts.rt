@@ -205,6 +205,17 @@ fn word_in(line: CutLine<'_>) -> &[u8] {
     &line.rest[..len]
 }
 
+/// Says of a string's bytes that the letter in front is none of the C64, and what to type instead; nothing of a letter of ASCII.
+///
+/// # Errors
+///
+/// [`NoMemory`] where memory was refused.
+pub fn explain_letter(alloc: Global, rest: &[u8]) -> Result<String, NoMemory> {
+    let mut text = String::new(alloc);
+    push_letter(&mut text, rest)?;
+    Ok(text)
+}
+
 /// Adds that the letter in front is none of the C64, by its bytes, where it is none of ASCII.
 fn push_letter(text: &mut String, rest: &[u8]) -> Result<(), NoMemory> {
     let letter = letter_in(rest);

@@ -1,11 +1,11 @@
 //! What separates the fields of a table, and which of its columns has the times.
 
 use crate::names::{
-    begins_with, first_field, has_others, has_times_behind, is_signal, push_later_columns,
-    separator_of,
+    begins_with, first_field, has_others, has_times_behind, is_level, is_signal,
+    push_later_columns, push_later_numbers, separator_of,
 };
 use crate::texts::unframed;
-use pr_capture::TraceInput;
+use pr_capture::{TraceInput, read_rate};
 use pr_wire::NoMemory;
 
 /// A line that says what separates fields, as `sep=;` does.
@@ -80,7 +80,7 @@ pub fn push_other_said(text: &mut String, said: Said) -> Result<(), NoMemory> {
 }
 
 /// Whether a table that is refused in the line of this number has a rate, by an option or, as it seems, by a remark.
-pub fn has_rate(bytes: &[u8], input: TraceInput<'_>, number: usize) -> bool {
+fn has_rate(bytes: &[u8], input: TraceInput<'_>, number: usize) -> bool {
     input.rate.is_some() || has_rate_remark(bytes, number)
 }
 
@@ -119,24 +119,144 @@ fn has_digit(bytes: &[u8]) -> bool {
     false
 }
 
-/// Adds what a table has that is refused since it has no times: by this line, of its names or a row whose first cell is
-/// no level, and by whether a rate is given.
+/// The line before that of this number which has the names of a table's columns: the first that is no remark and does
+/// not say a rate or what separates fields. None where that line has them itself.
+pub fn names_before(bytes: &[u8], number: usize) -> Option<&[u8]> {
+    let mut at: usize = 0;
+    for line in bytes.split(|byte| *byte == b'\n') {
+        at = at.wrapping_add(1);
+        if at >= number {
+            break;
+        }
+        if !is_in_front(line) {
+            return Some(line);
+        }
+    }
+    None
+}
+
+/// Whether a line comes before that of the names.
+pub fn is_in_front(line: &[u8]) -> bool {
+    matches!(unframed(line), [] | [b';' | b'#', ..])
+        || begins_with(line, b"META samplerate")
+        || separator_in(line).is_some()
+}
+
+/// Whether the first column of a table is one of the signals or has numbers of samples, by its name.
+fn is_lawful(name: &[u8], input: TraceInput<'_>) -> bool {
+    is_signal(name, input.signals) || begins_with(name, b"sample") || begins_with(name, b"index")
+}
+
+/// Adds what a row of a table at a rate has, after this line of names, that is refused since it may have times: a first
+/// cell that is no level, or a later one that is a number.
+pub fn push_row_rule(
+    text: &mut String,
+    names: &[u8],
+    row: &[u8],
+    separator: u8,
+    input: TraceInput<'_>,
+) -> Result<(), NoMemory> {
+    let cell = first_field(separator, row);
+    if is_level(cell) || is_lawful(first_field(separator, names), input) {
+        return push_later_numbers(text, separator, names, row, input.signals);
+    }
+    write!(
+        text,
+        "  this first column has no levels, and its name is none of times: name this column: Time [us], \
+         Sample; or leave it out if it has neither\n"
+    )
+}
+
+/// Whether remarks before the line of this number give sample rates that differ, or one that is not read beside another.
+pub fn have_two_rates(bytes: &[u8], number: usize) -> bool {
+    let mut known = None;
+    let mut at: usize = 0;
+    for line in bytes.split(|byte| *byte == b'\n') {
+        at = at.wrapping_add(1);
+        if at >= number {
+            break;
+        }
+        if let Some(text) = behind_rate_word(line) {
+            let rate = rate_of(text);
+            if known.is_some() && known != rate {
+                return true;
+            }
+            known = rate;
+        }
+    }
+    false
+}
+
+/// What a remark of a sample rate has behind its words; None where a line is none.
+fn behind_rate_word(line: &[u8]) -> Option<&[u8]> {
+    match behind_letters(line, b"METAsamplerate") {
+        Some(rest) => Some(rest),
+        None => behind_letters(line, b"samplerate"),
+    }
+}
+
+/// What follows a word of letters with which a line begins, but for signs and blanks.
+fn behind_letters<'l>(line: &'l [u8], word: &[u8]) -> Option<&'l [u8]> {
+    let mut count: usize = 0;
+    for (i, byte) in line.iter().enumerate() {
+        if byte.is_ascii_alphanumeric() {
+            if count >= word.len() || !byte.eq_ignore_ascii_case(&word[count]) {
+                return None;
+            }
+            count = count.wrapping_add(1);
+            if count >= word.len() {
+                return Some(&line[i + 1..]);
+            }
+        }
+    }
+    None
+}
+
+/// The rate that a remark gives behind its words.
+fn rate_of(text: &[u8]) -> Option<u64> {
+    let start = text
+        .iter()
+        .position(|byte| !matches!(*byte, b' ' | b'\t' | b':' | b'='))?;
+    match str::from_utf8(unframed(&text[start..])) {
+        Ok(rate) => read_rate(rate),
+        Err(_) => None,
+    }
+}
+
+/// Adds that remarks give rates that differ.
+fn push_two_rates(text: &mut String) -> Result<(), NoMemory> {
+    write!(
+        text,
+        "  the remarks give sample rates that differ, so none of them counts: --rate gives one in their place, such as --rate 4M\n"
+    )
+}
+
+/// Whether a table without times is to have a rate, by the name of its first column and its later ones.
+fn wants_rate(separator: u8, line: &[u8], name: &[u8]) -> bool {
+    !begins_with(name, b"delta") && !has_times_behind(separator, line)
+}
+
+/// Adds what a table has that is refused since it has no times: by this line, of its names, which has this number.
 pub fn push_times_rule(
     text: &mut String,
+    bytes: &[u8],
+    number: usize,
     line: &[u8],
     separator: u8,
     input: TraceInput<'_>,
-    is_rated: bool,
 ) -> Result<(), NoMemory> {
     let name = first_field(separator, line);
     let signals = input.signals;
-    let is_first = is_signal(name, signals) || begins_with(name, b"sample");
-    if is_rated && is_first && has_others(separator, line, signals) {
+    let is_rated = has_rate(bytes, input, number);
+    if input.rate.is_none() && wants_rate(separator, line, name) && have_two_rates(bytes, number) {
+        return push_two_rates(text);
+    }
+    if is_rated && is_lawful(name, input) && has_others(separator, line, signals) {
         return push_later_columns(text, separator, line, signals);
     }
     let rule = if is_signal(name, signals) && !has_times_behind(separator, line) {
         "the first column is a signal: --rate gives the distance of the samples, such as --rate 4M, or a \
-         remark such as ; Samplerate: 4 MHz; a column of times would be the first"
+         remark such as ; Samplerate: 4 MHz; a column of times would be the first or the last"
     } else {
         rule_of_times(separator, line, name)
     };
@@ -145,10 +265,7 @@ pub fn push_times_rule(
 
 /// The same where no first column is one of a signal.
 fn rule_of_times(separator: u8, line: &[u8], name: &[u8]) -> &'static str {
-    if begins_number(name) {
-        "this first column has no levels, and its name is none of times: name this column: Time [us], \
-         Sample; or move it behind the signals if it is neither"
-    } else if has_times_behind(separator, line) {
+    if has_times_behind(separator, line) {
         "a later column has times: move it to the front, and name it with its unit, such as Time [us]"
     } else if begins_with(name, b"sample") {
         "these are numbers of samples: give the sample rate with --rate, such as --rate 4M, or in a remark \
@@ -173,7 +290,7 @@ pub fn begins_number(cell: &[u8]) -> bool {
 }
 
 /// Whether a column has a word for time as its name, without a unit.
-fn is_time_alone(name: &[u8]) -> bool {
+pub fn is_time_alone(name: &[u8]) -> bool {
     name.eq_ignore_ascii_case(b"time")
         || name.eq_ignore_ascii_case(b"timestamp")
         || name.eq_ignore_ascii_case(b"t")

@@ -89,10 +89,16 @@ fn push_bad_start(text: &mut String, trace: TraceSaid<'_>, edge: Edge) -> Result
     if edge.levels.atn || edge.levels.clock || edge.levels.line {
         return Ok(());
     }
-    if trace.input.signals.is_inverted {
+    let probes = trace.input.signals.probes;
+    if probes.atn && probes.clock && probes.line {
         write!(
             text,
             "  if the bus is idle there, the levels are not inverted: remove --invert\n"
+        )
+    } else if probes.inverts_any() {
+        write!(
+            text,
+            "  if the bus is idle there, the other lines are inverted, and those of --invert are not\n"
         )
     } else {
         write!(

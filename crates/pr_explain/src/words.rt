@@ -213,6 +213,7 @@ pub fn foreign_word(before: &[u8], rest: &[u8], wants_number: bool) -> Option<Fo
         [b'+' | b'-' | b'*' | b'/' | b'^' | b'=' | b'<' | b'>', ..] => {
             "operators are not supported; write the result"
         }
+        [b'\'', ..] => "a string begins and ends with \"",
         [b'$', digits @ ..] if is_hexadecimal(digits) => {
             "hexadecimal numbers are not supported; write decimal numbers"
         }
@@ -283,10 +284,26 @@ fn foreign_name(rest: &[u8], wants_number: bool) -> Option<Foreign> {
     match word_at(rest).kind {
         WordKind::Foreign(word) => Some(Foreign::Word(word)),
         WordKind::Variable => Some(Foreign::Sentence(VARIABLE)),
-        WordKind::Letters if wants_number => Some(Foreign::Sentence(VARIABLE)),
-        WordKind::Letters => Some(Foreign::Sentence("variables and other words are not supported")),
+        WordKind::Letters => Some(Foreign::Sentence(match abbreviated(rest) {
+            Some(sentence) => sentence,
+            None if wants_number => VARIABLE,
+            None => "variables and other words are not supported",
+        })),
         WordKind::Keyword(_) | WordKind::Digits | WordKind::Other => None,
     }
+}
+
+/// What to write for the abbreviation of a word of this profile in front, whose last letter is typed with shift.
+fn abbreviated(rest: &[u8]) -> Option<&'static str> {
+    let sentence = match rest {
+        [b'p', b'R', ..] => "the abbreviation pR is not supported; write PRINT#",
+        [b'o', b'P', ..] => "the abbreviation oP is not supported; write OPEN",
+        [b'c', b'l', b'O', ..] => "the abbreviation clO is not supported; write CLOSE",
+        [b'c', b'M', ..] => "the abbreviation cM is not supported; write CMD",
+        [b'c', b'H', ..] => "the abbreviation cH is not supported; write CHR$",
+        _ => return None,
+    };
+    Some(sentence)
 }
 
 /// Whether there are letters and digits in front that are all hexadecimal digits.

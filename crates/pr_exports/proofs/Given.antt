@@ -16,8 +16,9 @@ use Rattle.pr_recording.specs.Decoded.{AnswersDecode, readings_up_to}
 use Rattle.pr_decode.specs.declared.reading.Reading.{Reading}
 use Rattle.pr_report.specs.Intervals.{intervals}
 use Rattle.pr_dots.specs.declared.character_sets.Shapes.{Shapes}
+use Rattle.pr_recording.specs.Listening.{nobody}
 use Rattle.pr_recording.specs.Pages.{AnswersPages}
-use Rattle.pr_report.specs.declared.oddities.Oddities.{Oddities}
+use Rattle.pr_recording.specs.declared.pages.Reprinted.{Reprinted}
 use Rattle.pr_recording.specs.declared.wording.Wording.{Wording}
 use Rattle.pr_report.specs.declared.detail.Detail.{Detail}
 use Rattle.pr_report.specs.Contexts.{at_start}
@@ -36,8 +37,8 @@ pub gives-readings : (input : TraceInput) (wording : Wording) (bytes text old ne
 gives-readings input wording bytes text old new made told a g = (made, text, a, g)
 
 -- so are its pages
-pub gives-pages : (shapes : Shapes) (input : TraceInput) (format : Format) (bytes text old new : List ℕ) (made : Result Oddities CliFault) (told : Told)
-    → AnswersPages shapes input format bytes (Some []) (Some text) made → Gives (without_value made) text old new told → GivesPages shapes input format bytes old new told
+pub gives-pages : (shapes : Shapes) (input : TraceInput) (format : Format) (bytes text old new : List ℕ) (made : Result Reprinted CliFault) (told : Told)
+    → AnswersPages shapes input nobody format bytes (Some []) (Some text) made → Gives (without_value made) text old new told → GivesPages shapes input format bytes old new told
 gives-pages shapes input format bytes text old new made told a g = (made, text, a, g)
 
 -- so are edges

@@ -122,6 +122,7 @@ text_numbers text.NoMemory = (90, 0, 0)
 abbrev pub numbers_of : End → ℕ × ℕ × ℕ
 numbers_of end.Done = (0, 0, 0)
 numbers_of end.Stopped = (0, 0, 0)
+numbers_of end.Lacking = (0, 0, 0)
 numbers_of (end.StoppedAt statement stop) = (100 + stop_number stop, statement, 0)
 numbers_of (end.Job fault) = ((job_numbers fault).0, (job_numbers fault).1, 0)
 numbers_of (end.Listing fault) = text_numbers fault

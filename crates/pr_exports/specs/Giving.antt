@@ -15,13 +15,14 @@ use Rattle.pr_capture.specs.declared.format.TraceInput.{TraceInput}
 use Rattle.pr_dots.specs.declared.character_sets.Shapes.{Shapes}
 use Rattle.pr_recording.specs.Checked.{AnswersJson}
 use Rattle.pr_recording.specs.Decoded.{AnswersDecode, back_in, readings_up_to, stop_at}
+use Rattle.pr_recording.specs.Listening.{nobody}
 use Rattle.pr_recording.specs.Pages.{AnswersPages}
 use Rattle.pr_recording.specs.declared.wording.Wording.{Wording}
 use Rattle.pr_report.specs.declared.detail.Detail.{Detail}
 use Rattle.pr_report.specs.Contexts.{at_start}
 use Rattle.pr_options.specs.declared.outputs.CheckOutput.{CheckOutput}
 use Rattle.pr_options.specs.declared.outputs.CheckOutput.TheVariants.{Report as Reported, Json}
-use Rattle.pr_report.specs.declared.oddities.Oddities.{Oddities}
+use Rattle.pr_recording.specs.declared.pages.Reprinted.{Reprinted}
 use Rattle.pr_exports.specs.Answers.{answer_of}
 use Rattle.pr_exports.specs.EdgeDelays.{edge_delays}
 use Rattle.pr_report.specs.Intervals.{intervals}
@@ -88,7 +89,7 @@ GivesCheck input wanted bytes old new told =
 -- the buffer gets the pages that printers print of a recording
 abbrev pub GivesPages : Shapes → TraceInput → Format → List ℕ → (old new : List ℕ) → Told → Type 0
 GivesPages shapes input format bytes old new told =
-    (made : Result Oddities CliFault) × (text : List ℕ) × AnswersPages shapes input format bytes (Some []) (Some text) made
+    (made : Result Reprinted CliFault) × (text : List ℕ) × AnswersPages shapes input nobody format bytes (Some []) (Some text) made
     × Gives (without_value made) text old new told
 
 -- memory was refused, and the buffer is as it was

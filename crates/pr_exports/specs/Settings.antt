@@ -10,6 +10,7 @@ use Rattle.pr_dots.specs.declared.character_sets.Shapes.{Shapes}
 use Rattle.pr_listing.specs.declared.form.ListingForm.{ListingForm}
 use Rattle.pr_listing.specs.declared.form.ListingForm.TheVariants as listing
 use Rattle.pr_capture.specs.Found.{found_source}
+use Rattle.pr_capture.specs.Recording.{alike}
 use Rattle.pr_channels.specs.declared.faults.Stop.TheVariants as stop
 use Rattle.pr_render.specs.declared.format.Format.{Format}
 use Rattle.pr_render.specs.declared.format.Device.{Device}
@@ -125,7 +126,7 @@ check_of number =
 abbrev pub rate_of : ℕ → Option ℕ
 rate_of number = if number == 0 then None else Some number
 
--- a recording with these names of its signals, with levels as they are or inverted, which starts at this microsecond
+-- a recording with these names of its signals, with levels as they are or all inverted, which starts at this microsecond
 -- and has `rate` samples in a second, or says itself how many if `rate` is 0
 pub record IsInput (source : Source) (atn clock line : List ℕ) (is_inverted : Bool) (start rate : ℕ)
     (input : TraceInput) : Type 0 where
@@ -133,6 +134,7 @@ pub record IsInput (source : Source) (atn clock line : List ℕ) (is_inverted : 
   pub of_atn : input.signals.atn.now ≡ atn
   pub of_clock : input.signals.clock.now ≡ clock
   pub of_line : input.signals.line.now ≡ line
-  pub of_inverted : input.signals.is_inverted ≡ is_inverted
+  pub of_probes : input.signals.probes ≡ alike is_inverted
   pub of_start : input.start ≡ start
+  pub of_pulse : input.pulse ≡ 0
   pub of_rate : input.rate ≡ rate_of rate

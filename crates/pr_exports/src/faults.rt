@@ -29,7 +29,7 @@ pub fn numbers_of(end: End) -> (usize, usize, usize)
     ensures { result ≡ numbers_of end }
 {
     match end {
-        End::Done | End::Stopped => (0, 0, 0),
+        End::Done | End::Stopped | End::Lacking => (0, 0, 0),
         End::StoppedAt { statement, stop } => (STOP + usize::from(stop.number()), statement, 0),
         End::Job(fault) => at(job_numbers(fault)),
         End::Listing(fault) => text_numbers(fault),

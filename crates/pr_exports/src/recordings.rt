@@ -12,7 +12,7 @@ use pr_cli::End;
 use pr_dots::Shapes;
 use pr_jobs::{ShapesFault, Watched, check_as_over};
 use pr_options::CheckOutput;
-use pr_recording::{Wording, check_json_over, decode_over, reprint_over};
+use pr_recording::{Listening, Wording, check_json_over, decode_over, reprint_over};
 use pr_render::Format;
 use std::alloc::Global;
 
@@ -47,7 +47,16 @@ fn reprint(
 {
     let mut reader = Watched::new(bytes);
     let mut output = Watched::new(Vec::new(alloc));
-    let made = reprint_over(alloc, &mut reader, &mut output, input, format, shapes);
+    let nobody = Listening::nobody();
+    let made = reprint_over(
+        alloc,
+        &mut reader,
+        &mut output,
+        input,
+        nobody,
+        format,
+        shapes,
+    );
     give(without_value(made), &output.into_inner(), out)
 }
 

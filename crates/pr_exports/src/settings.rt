@@ -5,7 +5,7 @@ ghost use Rattle.pr_capture.specs.Found.{found_source};
 ghost use Rattle.pr_exports.specs.Settings.{AsksShapes, IsInput, check_of, detail_of, device_of, form_of, format_of, mode_of, presence, rate_of, sheet_of, shown_of, source_of, stop_of, wording_of};
 
 use pr_basic::StatusMode;
-use pr_capture::{Signals, Source, TraceInput, found_source};
+use pr_capture::{Probes, Signals, Source, TraceInput, found_source};
 use pr_channels::Stop;
 use pr_characters::{CharactersFault, read_shapes};
 use pr_dots::Shapes;
@@ -212,7 +212,7 @@ fn rate_for(number: u64) -> Option<u64>
     }
 }
 
-/// A recording with these names of its signals, of levels as they are or inverted, which starts at this
+/// A recording with these names of its signals, of levels as they are or all inverted, which starts at this
 /// microsecond and has `rate` samples in a second, or says itself how many (0).
 pub fn input_for<'a>(
     source: Source,
@@ -231,9 +231,10 @@ pub fn input_for<'a>(
             atn,
             clock,
             line,
-            is_inverted,
+            probes: Probes::alike(is_inverted),
         },
         start,
+        pulse: 0,
         rate: rate_for(rate),
     }
 }

@@ -6,7 +6,7 @@ use Rattle.std.specs.Io.KnownBytes.{Consumes, IsAtEnd}
 use Rattle.std.proofs.KnownBytes.{Consumes-nil, Consumes-trans}
 use Rattle.pr_wire.specs.declared.Edge.{Edge}
 use Rattle.pr_capture.specs.declared.format.TraceInput.{TraceInput}
-use Rattle.pr_jobs.specs.Inputs.{AddsLast, AddsSample, EachTextSaysEdges, EndsSource, GivesBlock, HasEdges, HasReached, HasReachedOr, HasReadEdges, ReadEdgesComeFirst, SaysFirst, SkipsFront, edges_in, edges_read, fault_read}
+use Rattle.pr_jobs.specs.Inputs.{AddsSample, EachTextSaysEdges, EndsSource, GivesBlock, HasEdges, HasReached, HasReachedOr, HasReadEdges, ReadEdgesComeFirst, SaysFirst, SkipsFront, edges_in, edges_read, fault_read}
 use Rattle.pr_jobs.specs.InputReads.{GivesEdges, IsTooLong, ReadsEdges, SaysAll, EndsInputs, EndsInput, GivesMore, GivesRepeats, MakesAll, MakesMore, MakesNone, RefusesInput}
 use Rattle.pr_jobs.specs.EdgesTaken.{EndsReading, HasTakenAll, HasTakenBefore}
 use Rattle.pr_jobs.specs.Report.{SaysWhole, edges_made, Says, SaysSamples, IsOwnFault}
@@ -35,14 +35,6 @@ pub adds_no_edge : (o : Option Edge) (s : Edge) (there : List Edge) (old new : E
 adds_no_edge o s there old new is makes = rw is (λ input samples before h.
     let P : List Edge → Type 0 = λ l. HasMade input (samples ++ s ∷ []) l new in
     subst P (append-nil (before ++ there)) (makes input samples (before ++ there) h))
-
--- and at the end
-pub adds_last : (e : Edge) (there all : List Edge) (m : EdgeMaker) → MakesAll m (Some e) → all ≡ there ++ e ∷ [] → AddsLast there m all
-adds_last e there all m makes items = λ input samples before h.
-    ap (λ l. before ++ l) items ∙ (sym (append_assoc before there (e ∷ [])) ∙ makes input samples (before ++ there) h)
-
-pub adds_no_last : (there : List Edge) (m : EdgeMaker) → MakesAll m None → AddsLast there m there
-adds_no_last there m makes = λ input samples before h. sym (append-nil (before ++ there)) ∙ makes input samples (before ++ there) h
 
 -- a front of a block was taken, and the edges known by it were added
 pub record TakesFront (block rest : List ℕ) (there : List Edge) (r : SourceReader) (m : EdgeMaker) (all : List Edge) (s : SourceReader) (n : EdgeMaker) : Type 0 where
@@ -126,7 +118,7 @@ front_faulty block rest there all r s v m n f g same other refuses k =
     ))
 
 -- an input that ends here
-pub ends_well : (r : SourceReader) (m n : EdgeMaker) (there all last : List Edge) (sample : Option Edge) → EndsInput r (Ok sample) → AddsSample sample there m all n → AddsLast all n last
+pub ends_well : (r : SourceReader) (m n : EdgeMaker) (there all last : List Edge) (sample : Option Edge) → EndsInput r (Ok sample) → AddsSample sample there m all n → MakesAll n all last
     → EndsSource r m there last None
 ends_well r m n there all last sample ends adds done = λ input text before h. (
   record {
@@ -138,7 +130,7 @@ ends_well r m n there all last sample ends adds done = λ input text before h. (
 )
 
 -- or has a fault at its end
-pub ends_faulty : (r : SourceReader) (m : EdgeMaker) (there all : List Edge) (f g : CliFault) → g ≡ f → (f ≡ NoMemory → ⊥) → EndsInput r (Err f) → AddsLast there m all → EndsSource r m there all (Some g)
+pub ends_faulty : (r : SourceReader) (m : EdgeMaker) (there all : List Edge) (f g : CliFault) → g ≡ f → (f ≡ NoMemory → ⊥) → EndsInput r (Err f) → MakesAll m there all → EndsSource r m there all (Some g)
 ends_faulty r m there all f g same other ends done =
     let own = own_is _ _ f other ends in
     rw same (λ input text before h. (
@@ -167,7 +159,7 @@ edges_more block there old new fault was empty is gives = λ input text given h.
     rw is (none input text (given ++ edges_in old) (subst P (sym (append-nil (given ++ edges_in old))) k))
 
 -- an input whose fault has come
-pub says_refused : (r : EdgeReader) (f : CliFault) (last : LastEdges) → r.fault ≡ Some f → last.fault ≡ Some f → AddsLast (edges_in r) r.maker last.edges.items → SaysAll r last
+pub says_refused : (r : EdgeReader) (f : CliFault) (last : LastEdges) → r.fault ≡ Some f → last.fault ≡ Some f → MakesAll r.maker (edges_in r) last.edges.items → SaysAll r last
 says_refused r f last is same done = λ input text more given h leftover.
     let k : HasReachedOr input text (given ++ edges_in r) r.reader r.maker (Some f) = rw is at h in
     let s = k.1 more in
@@ -284,26 +276,26 @@ edges_first samples_first some made_first = λ limit start now input given r h.
         let first = samples_first input text more h.samples says.0 says.1 r h.given says.2 in
         let made = made_first input h.samples first.0 edges m h.made in
         record {
-          edges = edges_made input.source input.start says.0;
+          edges = edges_made input.source input.start input.pulse says.0;
           fault = says.1;
           says = record { samples = says.0; are_samples = says.2; are_edges = refl };
           later = made.0;
-          first = ap (λ l. edges_made input.source input.start l) first.1 ∙ made.1;
+          first = ap (λ l. edges_made input.source input.start input.pulse l) first.1 ∙ made.1;
         }
     by input text edges r m (Some f) h more =
         let k = h.1 more in
         let made = made_first input k.samples [] edges m k.made in
         record {
-          edges = edges_made input.source input.start k.samples;
+          edges = edges_made input.source input.start input.pulse k.samples;
           fault = Some f;
           says = record { samples = k.samples; are_samples = k.says; are_edges = refl };
           later = made.0;
-          first = ap (λ l. edges_made input.source input.start l) (sym (append-nil k.samples)) ∙ made.1;
+          first = ap (λ l. edges_made input.source input.start input.pulse l) (sym (append-nil k.samples)) ∙ made.1;
         }
 
 -- each text says edges
 pub each_says_edges : EachTextSaysSamples → EachTextSaysEdges
 each_says_edges some = λ input text.
     let says = some input text in
-    let edges = edges_made input.source input.start says.0 in
+    let edges = edges_made input.source input.start input.pulse says.0 in
     record { edges = edges; fault = says.1; says = record { samples = says.0; are_samples = says.2; are_edges = refl }; later = edges; first = refl }

@@ -57,10 +57,10 @@ MakesNone last old new = (between : List Edge) → AllHave last.levels between
     → (input : TraceInput) (samples edges : List Edge) → HasMade input samples edges old
     → HasMade input ((samples ++ between) ++ last ∷ []) edges new
 
--- with the edge that comes at the end, if one comes, the edges are those that all samples make
-abbrev pub MakesAll : EdgeMaker → Option Edge → Type 0
-MakesAll m e = (input : TraceInput) (samples edges : List Edge) → HasMade input samples edges m
-    → edges ++ option_to_list e ≡ edges_made input.source input.start samples
+-- with the edges that come at the end, the edges are those that all samples make
+abbrev pub MakesAll : EdgeMaker → (there all : List Edge) → Type 0
+MakesAll m there all = (input : TraceInput) (samples before : List Edge) → HasMade input samples (before ++ there) m
+    → before ++ all ≡ edges_made input.source input.start input.pulse samples
 
 -- The edges of a text in blocks: `EdgeReader`.
 

@@ -4,7 +4,7 @@ use Rattle.std.specs.Io.KnownBytes.{Consumes}
 use Rattle.std.specs.Option.{option_to_list}
 use Rattle.pr_wire.specs.declared.Edge.{Edge}
 use Rattle.pr_capture.specs.declared.format.TraceInput.{TraceInput}
-use Rattle.pr_jobs.specs.Report.{edges_made, IsOwnFault, Says, SaysSamples}
+use Rattle.pr_jobs.specs.Report.{IsOwnFault, Says, SaysSamples}
 use Rattle.pr_jobs.specs.Sources.{HasGiven, HasMade, lines_read}
 use Rattle.pr_jobs.specs.declared.edge_maker.EdgeMaker.{EdgeMaker}
 use Rattle.pr_jobs.specs.declared.edge_reader.EdgeReader.{EdgeReader}
@@ -54,11 +54,6 @@ abbrev pub AddsSample : Option Edge → (there : List Edge) → EdgeMaker → (a
 AddsSample sample there old all new =
     (input : TraceInput) (samples before : List Edge) → HasMade input samples (before ++ there) old
     → HasMade input (samples ++ option_to_list sample) (before ++ all) new
-
--- and at the end of the samples
-abbrev pub AddsLast : (there : List Edge) → EdgeMaker → (all : List Edge) → Type 0
-AddsLast there m all = (input : TraceInput) (samples before : List Edge) → HasMade input samples (before ++ there) m
-    → before ++ all ≡ edges_made input.source input.start samples
 
 -- the edges that a block makes known come after those there
 abbrev pub GivesBlock :

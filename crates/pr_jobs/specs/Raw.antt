@@ -12,6 +12,8 @@ use Rattle.pr_system.specs.declared.outcome.Outcome.{Outcome}
 use Rattle.pr_jobs.specs.Formats.{text_in}
 use Rattle.pr_input.specs.PartlyWritten.{AppendsFront}
 use Rattle.pr_render.specs.declared.format.Format.{Format}
+use Rattle.pr_jobs.specs.Runs.{pages_end}
+use Rattle.pr_jobs.specs.declared.run.PagesEnd.{PagesEnd}
 use Rattle.pr_jobs.specs.declared.fault.CliFault.{CliFault}
 use Rattle.pr_jobs.specs.declared.fault.PictureFault.{PictureFault}
 use Rattle.pr_jobs.specs.declared.fault.CliFault.TheVariants.{Script, Trace, Wave, Capture, Picture, TooLarge, NoMemory, ReadFailed, WriteFailed}
@@ -45,11 +47,12 @@ pub record IsRawUnshown (shapes : Shapes) (lower : Bool) (format : Format) (byte
   pub is_page : IsPage (raw_inputs lower bytes) paper
   pub is_unshown : text_in shapes format four_alone (printed_on paper) ≡ Err fault
 
--- the answer, by the bytes and by what the writer held before and after
+-- the answer, by the bytes and by what the writer held before and after: how many marks the printer holds
 abbrev pub AnswersRaw :
-    Shapes → Bool → Format → List ℕ → Option (List ℕ) → Option (List ℕ) → Result (Unit {0}) CliFault → Type 0
-AnswersRaw shapes lower format bytes old new (Ok _) =
-    (text : List ℕ) × (length bytes ≤ raw_limit) × IsRawText shapes lower format bytes text × Appends old new text
+    Shapes → Bool → Format → List ℕ → Option (List ℕ) → Option (List ℕ) → Result PagesEnd CliFault → Type 0
+AnswersRaw shapes lower format bytes old new (Ok end) =
+    (text : List ℕ) × (length bytes ≤ raw_limit) × (is : IsRawText shapes lower format bytes text)
+    × (end ≡ pages_end (printed_on is.paper)) × Appends old new text
 AnswersRaw shapes lower format bytes old new (Err (Script fault)) = ⊥
 AnswersRaw shapes lower format bytes old new (Err (Trace fault)) = ⊥
 AnswersRaw shapes lower format bytes old new (Err (Wave fault)) = ⊥

@@ -1,6 +1,6 @@
 -- Trusted: what `check` answers for an input of any format and for a report of any kind, and what
 -- it leaves in the reader and in the writer.
-use Rattle.std.specs.Prelude.{◌≡◌, ℕ, ◌<◌, ◌≤◌, false, List, [], ◌∷◌, length, map, Option, Some, None, option_map, Result, Ok, Err}
+use Rattle.std.specs.Prelude.{◌≡◌, ℕ, ◌<◌, ◌≤◌, ◌==◌, false, if◌then◌else◌, List, [], ◌∷◌, length, map, Option, Some, None, option_map, Result, Ok, Err}
 use Rattle.std.specs.Io.KnownBytes.{Appends, IsAtEnd, Keeps}
 use Rattle.pr_wire.specs.declared.Edge.{Edge}
 use Rattle.pr_wire.specs.declared.Frame.{Frame}
@@ -13,6 +13,7 @@ use Rattle.pr_wire.specs.TraceText.{SaysEdges}
 use Rattle.pr_capture.specs.declared.fault.CaptureFault.TheVariants as capture
 use Rattle.pr_capture.specs.Csv.{csv_contents}
 use Rattle.pr_capture.specs.Recording.{CaptureContents}
+use Rattle.pr_capture.specs.Pulses.{without_pulses}
 use Rattle.pr_capture.specs.Samples.{counted_from, edges_of}
 use Rattle.pr_capture.specs.VcdReading.{vcd_contents}
 use Rattle.pr_report.specs.Moments.{timed_frames}
@@ -42,11 +43,19 @@ SaysSamples input source.Text text samples fault =
 SaysSamples input source.Csv text samples fault = IsTold (csv_contents input.signals input.rate text) samples fault
 SaysSamples input source.Vcd text samples fault = IsTold (vcd_contents input.signals text) samples fault
 
--- the edges that the samples of a format make, from a start on; a trace text already has edges
-abbrev pub edges_made : Source → (start : ℕ) → (samples : List Edge) → List Edge
-edges_made source.Text start samples = samples
-edges_made source.Csv start samples = edges_of start samples
-edges_made source.Vcd start samples = edges_of start samples
+-- the edges that the samples of a format are, from a start on; a trace text already has edges
+abbrev pub edges_found : Source → (start : ℕ) → (samples : List Edge) → List Edge
+edges_found source.Text start samples = samples
+edges_found source.Csv start samples = edges_of start samples
+edges_found source.Vcd start samples = edges_of start samples
+
+-- edges without the pulses of a line that last at most so many microseconds; with 0 all of them
+abbrev pub steadied : (pulse : ℕ) → List Edge → List Edge
+steadied pulse edges = if pulse == 0 then edges else without_pulses pulse edges
+
+-- the edges that samples make, without such pulses
+abbrev pub edges_made : Source → (start pulse : ℕ) → (samples : List Edge) → List Edge
+edges_made source start pulse samples = steadied pulse (edges_found source start samples)
 
 -- the edges that `check` holds against the table of lawful traces: those of a trace text as they are; those of a recording
 -- counted from the first, at which the three levels are first known: that is later than the start asked for, or at it
@@ -63,7 +72,7 @@ edges_checked source.Vcd edges = counted_from_first edges
 pub record Says (input : TraceInput) (text : List ℕ) (edges : List Edge) (fault : Option CliFault) : Type 0 where
   pub samples : List Edge
   pub are_samples : SaysSamples input input.source text samples fault
-  pub are_edges : edges ≡ edges_made input.source input.start samples
+  pub are_edges : edges ≡ edges_made input.source input.start input.pulse samples
 
 -- a fault of an input itself: of its text, not of its edges, of memory or of reading
 abbrev pub IsOwnFault : CliFault → Type 0

@@ -1,6 +1,7 @@
 -- Linking words, for proofs: what a reader of a trace in any format has given, and which edges were made of it. No reader needs to
 -- believe them.
-use Rattle.std.specs.Prelude.{◌≡◌, ℕ, List, ◌++◌, Option, Some, None}
+use Rattle.std.specs.Prelude.{◌≡◌, ℕ, List, [], ◌∷◌, ◌++◌, Option, Some, None}
+use Rattle.std.specs.Option.{option_to_list}
 use Rattle.pr_wire.specs.declared.Edge.{Edge}
 use Rattle.pr_wire.specs.declared.Levels.{Levels}
 use Rattle.pr_wire.specs.TraceReading as text
@@ -8,10 +9,13 @@ use Rattle.pr_capture.specs.declared.edge_detector.EdgeDetector.{EdgeDetector}
 use Rattle.pr_capture.specs.CsvSteps as csv
 use Rattle.pr_capture.specs.VcdSteps as vcd
 use Rattle.pr_capture.specs.Gathering as gathering
+use Rattle.pr_capture.specs.Pulses.{without_pulses}
 use Rattle.pr_capture.specs.Samples.{edges_of}
+use Rattle.pr_capture.specs.Sifting.{HasSifted}
 use Rattle.pr_capture.specs.declared.format.Source.TheVariants as source
 use Rattle.pr_capture.specs.declared.format.TraceInput.{TraceInput}
-use Rattle.pr_jobs.specs.Report.{edges_made, SaysSamples}
+use Rattle.pr_capture.specs.declared.pulse_filter.PulseFilter.{PulseFilter}
+use Rattle.pr_jobs.specs.Report.{edges_found, edges_made, steadied, SaysSamples}
 use Rattle.pr_jobs.specs.declared.edge_maker.EdgeMaker.{EdgeMaker}
 use Rattle.pr_jobs.specs.declared.source_reader.SourceReader.{SourceReader}
 use Rattle.pr_jobs.specs.declared.source_reader.SourceReader.TheVariants as reader
@@ -46,15 +50,46 @@ EachTextSaysSamples =
 
 -- Makers of edges.
 
--- these edges were made of these samples
-abbrev pub HasGathered : TraceInput → (samples edges : List Edge) → Option EdgeDetector → Type 0
-HasGathered input samples edges None = (input.source ≡ source.Text) × (edges ≡ samples)
-HasGathered input samples edges (Some g) =
-    ((ss : List Edge) → edges_made input.source input.start ss ≡ edges_of input.start ss)
-    × gathering.HasGathered input.start samples edges g
+-- a detector has found these edges in these samples, or the input has edges
+abbrev pub HasGathered : TraceInput → (samples found : List Edge) → Option EdgeDetector → Type 0
+HasGathered input samples found None = (input.source ≡ source.Text) × (found ≡ samples)
+HasGathered input samples found (Some g) =
+    ((ss : List Edge) → edges_found input.source input.start ss ≡ edges_of input.start ss)
+    × gathering.HasGathered input.start samples found g
 
-abbrev pub HasMade : TraceInput → (samples edges : List Edge) → EdgeMaker → Type 0
-HasMade input samples edges m = HasGathered input samples edges m.detector
+-- a filter has taken these edges, and has given these; or none is left out
+abbrev pub HasSteadied : (pulse : ℕ) → (found edges : List Edge) → Option PulseFilter → Type 0
+HasSteadied pulse found edges None = (pulse ≡ 0) × (edges ≡ found)
+HasSteadied pulse found edges (Some f) =
+    ((es : List Edge) → steadied pulse es ≡ without_pulses pulse es) × HasSifted pulse found edges f
+
+-- these edges were made of these samples
+pub record HasMade (input : TraceInput) (samples edges : List Edge) (m : EdgeMaker) : Type 0 where
+  pub found : List Edge
+  pub gathered : HasGathered input samples found m.detector
+  pub is_steadied : HasSteadied input.pulse found edges m.filter
+
+-- with a sample more this edge was found, if one was
+abbrev pub FindsMore : (sample : Edge) → (old : Option EdgeDetector) → (found : Option Edge)
+    → (new : Option EdgeDetector) → Type 0
+FindsMore sample old e new = (input : TraceInput) (samples found : List Edge) → HasGathered input samples found old
+    → HasGathered input (samples ++ sample ∷ []) (found ++ option_to_list e) new
+
+-- and at the end
+abbrev pub FindsAll : Option EdgeDetector → (last : Option Edge) → Type 0
+FindsAll g last = (input : TraceInput) (samples found : List Edge) → HasGathered input samples found g
+    → edges_found input.source input.start samples ≡ found ++ option_to_list last
+
+-- with an edge found, if one was, this one is given, if one is
+abbrev pub SteadiesMore : (found : Option Edge) → (old : Option PulseFilter) → (known : Option Edge)
+    → (new : Option PulseFilter) → Type 0
+SteadiesMore e old known new = (pulse : ℕ) (found edges : List Edge) → HasSteadied pulse found edges old
+    → HasSteadied pulse (found ++ option_to_list e) (edges ++ option_to_list known) new
+
+-- and at the end
+abbrev pub SteadiesAll : Option PulseFilter → (there all : List Edge) → Type 0
+SteadiesAll f there all = (pulse : ℕ) (found before : List Edge) → HasSteadied pulse found (before ++ there) f
+    → steadied pulse found ≡ before ++ all
 
 -- the levels of the last sample, if samples that have them make no edge
 abbrev pub settled_of : Option EdgeDetector → Option Levels
@@ -68,4 +103,4 @@ settled_in m = settled_of m.detector
 abbrev pub MadeEdgesComeFirst : Type 0
 MadeEdgesComeFirst =
     (input : TraceInput) (samples more edges : List Edge) (m : EdgeMaker) → HasMade input samples edges m
-    → (later : List Edge) × (edges_made input.source input.start (samples ++ more) ≡ edges ++ later)
+    → (later : List Edge) × (edges_made input.source input.start input.pulse (samples ++ more) ≡ edges ++ later)

@@ -1,7 +1,7 @@
 //! The edges of an input in any format, block by block.
 
 ghost use Rattle.std.specs.Prelude.{◌≡◌, ◌+◌, ◌^◌, ◌<◌, ◌≤◌, [], length, is_none, take, IfOk, None, OnErr, OnOk, Some};
-ghost use Rattle.pr_jobs.specs.Inputs.{AddsLast, AddsSample, EndsSource, GivesBlock, HasEdges, SkipsFront, edges_in, fault_in, lines_taken};
+ghost use Rattle.pr_jobs.specs.Inputs.{AddsSample, EndsSource, GivesBlock, HasEdges, SkipsFront, edges_in, fault_in, lines_taken};
 ghost use Rattle.pr_jobs.specs.InputReads.{GivesEdges, SaysAll};
 ghost use Rattle.pr_jobs.specs.Sources.{lines_read};
 ghost use Rattle.pr_jobs.specs.declared.source_reader.SourceReader.TheVariants.{Text};
@@ -47,7 +47,7 @@ impl<'a> EdgeReader<'a> {
     {
         EdgeReader {
             reader: SourceReader::new(alloc, input),
-            maker: EdgeMaker::new(input),
+            maker: EdgeMaker::new(alloc, input),
             edges: Vec::new(alloc),
             fault: None,
         }
@@ -105,7 +105,7 @@ impl<'a> EdgeReader<'a> {
     }
 
     /// Ends the input, and gives the edges of the last block, with the last of the input after
-    /// them, at most two, and the input's fault, if it has one: such a fault is no error.
+    /// them, at most 18, and the input's fault, if it has one: such a fault is no error.
     ///
     /// # Errors
     ///
@@ -114,7 +114,7 @@ impl<'a> EdgeReader<'a> {
         requires lines { lines_taken self + 1 < 2 ^ 64 }
         ensures says { IfOk result (λ last. SaysAll self.entry last) }
         ensures fault { IfOk result (λ last. last.fault ≡ None → fault_in self.entry ≡ None) }
-        ensures few { IfOk result (λ last. length last.edges.items ≤ length (edges_in self.entry) + 2) }
+        ensures few { IfOk result (λ last. length last.edges.items ≤ length (edges_in self.entry) + 18) }
     {
         let EdgeReader {
             reader,
@@ -124,7 +124,7 @@ impl<'a> EdgeReader<'a> {
         } = self;
         match fault {
             Some(_) => {
-                push_last(&mut edges, maker)?;
+                maker.finish(&mut edges)?;
                 Ok(LastEdges { edges, fault })
             }
             None => {
@@ -244,21 +244,11 @@ fn push_sample(
     let Some(sample) = sample else {
         return Ok(());
     };
-    if let Some(edge) = maker.take(sample) {
+    let known = maker.take(sample)?;
+    if let Some(edge) = known {
         // As `push`, which would also hand the edge back where memory is refused.
         edges.reserve(1)?;
         edges.push_reserved(edge);
-    }
-    Ok(())
-}
-
-/// Adds the last edge of the samples, if it was not given before.
-fn push_last(edges: &mut Vec<Edge>, maker: EdgeMaker) -> Result<(), AllocError>
-    ensures known { OnOk result (AddsLast edges.old.items maker edges.new.items) }
-    ensures few { OnOk result (length edges.new.items ≤ length edges.old.items + 1) }
-{
-    if let Some(edge) = maker.finish() {
-        edges.push(edge)?;
     }
     Ok(())
 }
@@ -271,17 +261,17 @@ fn end_source(
 ) -> Result<Option<CliFault>, AllocError>
     requires lines { lines_read reader + 1 < 2 ^ 64 }
     ensures says { IfOk result (λ fault. EndsSource reader.entry maker edges.old.items edges.new.items fault) }
-    ensures few { OnOk result (length edges.new.items ≤ length edges.old.items + 2) }
+    ensures few { OnOk result (length edges.new.items ≤ length edges.old.items + 18) }
 {
     match reader.finish() {
         Ok(sample) => {
             push_sample(edges, &mut maker, sample)?;
-            push_last(edges, maker)?;
+            maker.finish(edges)?;
             Ok(None)
         }
         Err(fault) => {
             let own = own_fault(fault)?;
-            push_last(edges, maker)?;
+            maker.finish(edges)?;
             Ok(Some(own))
         }
     }

@@ -105,7 +105,7 @@ impl<'a> InputReader<'a> {
     }
 
     /// Ends the input, and gives the edges of the last block, with the last of the input after
-    /// them, at most two, and the input's fault, if it has one: such a fault is no error.
+    /// them, at most 18, and the input's fault, if it has one: such a fault is no error.
     ///
     /// # Errors
     ///
@@ -113,7 +113,7 @@ impl<'a> InputReader<'a> {
     pub fn finish(self) -> Result<LastEdges, AllocError>
         requires lines { lines_ahead self + 1 < 2 ^ 64 }
         ensures ends { IfOk result (λ last. EndsInputs self.entry last) }
-        ensures few { IfOk result (λ last. length last.edges.items ≤ length (edges_read self.entry) + 2) }
+        ensures few { IfOk result (λ last. length last.edges.items ≤ length (edges_read self.entry) + 18) }
     {
         self.edges.finish()
     }

@@ -10,6 +10,7 @@ ghost use Rattle.pr_input.specs.Watched.{has_failed, wrapped};
 
 use crate::fault::CliFault;
 use crate::format::text_in_format;
+use crate::run::PagesEnd;
 use pr_dots::Shapes;
 use pr_input::{BLOCK, Watched, WriteFault};
 use pr_page::{Input, NoMemory, Paper, Printer, Sequence};
@@ -29,7 +30,8 @@ pub const RAW_LIMIT: usize = 4_294_967_295;
 ///
 /// The page is that of printer 4, as of a run in which nothing else happened: printer 5 printed
 /// nothing, and there are no statuses, no bytes on the screen and no stop. The input is printed as
-/// it is read and not kept, and the whole text is made before the first write.
+/// it is read and not kept, and the whole text is made before the first write. The answer is the end of such a run: it
+/// says how many marks printer 4 holds.
 ///
 /// # Errors
 ///
@@ -47,7 +49,7 @@ pub fn raw_over<R: Read, W: Write>(
     lower: bool,
     format: Format,
     shapes: &Shapes,
-) -> Result<(), CliFault>
+) -> Result<PagesEnd, CliFault>
     // the caller's part
     requires fresh { AreFresh input.old output.old }
     // what it gives
@@ -64,9 +66,10 @@ pub fn raw_over<R: Read, W: Write>(
         five: false,
     };
     let outcome = outcome_with(alloc, paper);
+    let end = PagesEnd::of(&outcome);
     let text = text_in_format(alloc, shapes, outcome, four_alone, format)?;
     match text.write_to(output) {
-        Ok(()) => Ok(()),
+        Ok(()) => Ok(end),
         Err(WriteFault) => Err(CliFault::WriteFailed),
     }
 }

@@ -138,7 +138,7 @@ pub fn report_input<R: Read>(
 /// Ends an input, and gives the report on it.
 fn last_report(reader: InputReader<'_>, mut frames: TraceReporter) -> Result<ReportText, AllocError>
     requires lines { lines_ahead reader + 1 < 2 ^ 64 }
-    requires edges { edges_counted frames + length (edges_read reader) + 3 < 2 ^ 64 }
+    requires edges { edges_counted frames + length (edges_read reader) + 19 < 2 ^ 64 }
     ensures { IfOk result (λ text. EndsReported reader.entry frames text) }
 {
     let last = reader.finish()?;

@@ -44,13 +44,13 @@ cut_at_files file start entry limit zero = limit
 cut_at_files file start entry limit (suc n) =
     cut_at_files file start (entry + 32) (nearer_end file start entry limit) n
 
--- where the file of an entry ends by its start address and its end address; an end address that is not
--- greater says nothing
+-- where the file of an entry ends by its start address and its end address, and two bytes after that: many end
+-- addresses are one or two bytes too small; one that is not greater than the start address says nothing
 abbrev pub addressed_end : List ℕ → ℕ → ℕ
 addressed_end file entry =
     let from = address_at (entry + 2) file in
     let to = address_at (entry + 4) file in
-    if nat_lt from to then offset_at file entry + (to - from) else length file
+    if nat_lt from to then offset_at file entry + (to - from) + 2 else length file
 
 -- the saved program of an entry: a T64 file has a load address only in the entry; since no load address counts,
 -- the two bytes before the program are taken for it

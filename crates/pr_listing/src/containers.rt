@@ -2,6 +2,7 @@
 
 ghost use Rattle.std.specs.Prelude.{◌≡◌, ◌≤◌, ◌<◌, ◌+◌, ◌*◌, ◌^◌, drop, slice_index_or, take, IfSome};
 ghost use Rattle.pr_listing.specs.Containers.{address_at, addressed_end, cut_at_files, entry_count, entry_program, is_p00, is_t64, is_used, nearer_end, offset_at, program_at, program_in, used_from};
+ghost use Rattle.pr_listing.specs.Hints.{file_count, tape_files, used_count};
 
 /// How many bytes are before the program in a P00 file.
 const P00_HEADER: usize = 26;
@@ -11,6 +12,10 @@ const FIRST_ENTRY: usize = 64;
 
 /// How many bytes an entry has.
 const ENTRY: usize = 32;
+
+/// How many bytes after its end by its addresses a program of a T64 file may have: many end addresses are one or
+/// two bytes too small, and what follows the last link of a program does not count.
+const SPARE: usize = 2;
 
 /// Whether a file is a P00 file, which emulators keep for a program.
 pub fn is_p00(file: &[u8]) -> bool
@@ -89,6 +94,32 @@ fn used_entry(file: &[u8]) -> Option<usize>
     None
 }
 
+/// How many files the entry at a place is of: one, or none.
+#[tactic(auto, unfolding(crate::specs::Hints::file_count))]
+fn file_count(file: &[u8], place: usize) -> usize
+    ensures value { result ≡ file_count file.now place }
+    ensures small { result ≤ 1 }
+{
+    if is_used(file, place) {
+        return 1;
+    }
+    0
+}
+
+/// Returns how many files a T64 file has: the entries of its directory that are in use.
+#[tactic(auto, unfolding(crate::specs::Hints::used_count))]
+pub fn tape_files(file: &[u8]) -> usize
+    ensures { result ≡ tape_files file.now }
+{
+    let mut count = 0;
+    let mut place = FIRST_ENTRY;
+    for _number in 0..entry_count(file) {
+        count += file_count(file, place);
+        place += ENTRY;
+    }
+    count
+}
+
 /// The limit of a file of a T64 file that begins at `start`, or before the limit where the file of the entry at a
 /// place begins.
 fn nearer_end(file: &[u8], start: usize, place: usize, limit: usize) -> usize
@@ -116,7 +147,7 @@ fn cut_at_files(file: &[u8], start: usize, limit: usize) -> usize
     stop
 }
 
-/// Where the file of the entry at a place ends by its addresses.
+/// Where the file of the entry at a place ends at the latest, by its addresses.
 fn addressed_end(file: &[u8], place: usize) -> usize
     requires { place < 2 ^ 32 }
     ensures { result ≡ addressed_end file.now place }
@@ -124,7 +155,7 @@ fn addressed_end(file: &[u8], place: usize) -> usize
     let from = address_at(file, place + 2);
     let to = address_at(file, place + 4);
     if from < to {
-        return offset_at(file, place) + (to - from);
+        return offset_at(file, place) + (to - from) + SPARE;
     }
     file.len()
 }

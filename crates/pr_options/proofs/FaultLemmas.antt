@@ -42,6 +42,10 @@ bad_is words (Err f) h own e = by f h own
     by fault.NoPicture (inr h) own = (e, h)
     by fault.NoReadings (inl h) own = absurd (cc h)
     by fault.NoReadings (inr h) own = (e, h)
+    by fault.NoPages (inl h) own = absurd (cc h)
+    by fault.NoPages (inr h) own = (e, h)
+    by fault.NoListener (inl h) own = absurd (cc h)
+    by fault.NoListener (inr h) own = (e, h)
 
 not_true : (b : Bool) → ¬ (b ≡ true) → b ≡ false
 not_true true h = absurd (h refl)
@@ -64,3 +68,5 @@ refused_is words error fault.NoTable h passes kinds = absurd h
 refused_is words error fault.NoPart h passes kinds = absurd h
 refused_is words error fault.NoPicture h passes kinds = absurd h
 refused_is words error fault.NoReadings h passes kinds = absurd h
+refused_is words error fault.NoPages h passes kinds = absurd h
+refused_is words error fault.NoListener h passes kinds = absurd h

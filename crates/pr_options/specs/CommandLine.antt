@@ -6,7 +6,7 @@ use Rattle.clap.specs.declared.builder.action.ArgAction.TheVariants.{SetTrue}
 use Rattle.pr_options.specs.Rows.{OptionRow, command_name, letter, options_of, row}
 use Rattle.pr_options.specs.Rows as option
 use Rattle.pr_options.specs.declared.options.Kind.{Kind}
-use Rattle.pr_options.specs.declared.options.Kind.TheVariants.{Value, Flag, File}
+use Rattle.pr_options.specs.declared.options.Kind.TheVariants.{Value, Lines, Flag, File}
 use Rattle.pr_options.specs.declared.options.Opt.{Opt}
 use Rattle.pr_options.specs.declared.options.Subcommand.{Subcommand}
 use Rattle.pr_options.specs.declared.options.Subcommand.TheVariants.{Pages, Bus, Check, Decode, Raw}
@@ -19,10 +19,17 @@ input_rule name = record (new_rule name) { value_names = 1 }
 abbrev pub output_rule : Text → Rule
 output_rule name = record (new_rule name) { long = Some name; short = Some 111; value_names = 1 }
 
--- an option by what follows its name: a value, which has a default; nothing, and then a letter may serve for its name;
--- or the name of a file
+-- an option by what follows its name: a value, which has a default; lines of the bus, all if nothing follows; nothing, and
+-- then a letter may serve for its name; or the name of a file
 abbrev pub kind_rule : Kind → (letter : Option ℕ) → OptionRow → Rule
 kind_rule Value letter o = record (new_rule o.name) { long = Some o.name; value_names = 1; defaults = o.default ∷ [] }
+kind_rule Lines letter o = record (new_rule o.name) {
+  long = Some o.name;
+  value_names = 1;
+  range = Some (record { start_inclusive = 0; end_inclusive = 1 });
+  defaults = o.default ∷ [];
+  missing = codes "ATN,CLOCK,DATA" ∷ [];
+}
 kind_rule Flag letter o = record (new_rule o.name) { long = Some o.name; short = letter; action = Some SetTrue }
 kind_rule File letter o = record (new_rule o.name) { long = Some o.name; value_names = 1 }
 

@@ -19,13 +19,14 @@ use Rattle.pr_capture.specs.declared.format.TraceFormat.{TraceFormat}
 use Rattle.pr_capture.specs.declared.format.Source.{Source}
 use Rattle.pr_capture.specs.declared.format.Source.TheVariants as source
 use Rattle.pr_capture.specs.declared.format.TraceInput.{TraceInput}
+use Rattle.pr_capture.specs.declared.signals.Probes.{Probes}
 use Rattle.pr_options.specs.declared.outputs.CheckOutput.{CheckOutput}
 use Rattle.pr_report.specs.declared.detail.Detail.{Detail}
 use Rattle.pr_options.specs.Rows as option
 use Rattle.pr_options.specs.CommandLine.{print1525}
 use Rattle.pr_options.specs.DelayLists.{delays_of}
 use Rattle.pr_options.specs.Given.{characters_in, file_in, is_given, value_in}
-use Rattle.pr_options.specs.Options.{before_of, bounds_of, decode_output_of, device_of, form_of, format_of, from_time_of, mode_of, pages_output_of, present_of, rate_of, reading_source_of, report_of, set_of, sheet_of, source_of, trace_format_of}
+use Rattle.pr_options.specs.Options.{before_of, bounds_of, decode_output_of, device_of, form_of, format_of, from_time_of, glitch_of, inverted_of, listening_of, mode_of, pages_output_of, present_of, rate_of, reading_source_of, report_of, set_of, sheet_of, source_of, threshold_of, trace_format_of, unhearing}
 use Rattle.pr_options.specs.SignalNames.{Names, names_of, names_of_signals}
 use Rattle.pr_options.specs.Values.{bad}
 use Rattle.pr_options.specs.declared.command_line.Job.{Job}
@@ -35,6 +36,7 @@ use Rattle.pr_options.specs.declared.options.Opt.{Opt}
 use Rattle.pr_options.specs.declared.options.Opt.TheVariants as opt
 use Rattle.pr_options.specs.declared.outputs.DecodeOutput.{DecodeOutput}
 use Rattle.pr_options.specs.declared.outputs.DecodeOutput.TheVariants as reading
+use Rattle.pr_options.specs.declared.outputs.Hearing.{Hearing}
 use Rattle.pr_options.specs.declared.outputs.PagesOutput.{PagesOutput}
 use Rattle.pr_options.specs.declared.outputs.PagesOutput.TheVariants as pages
 use Rattle.pr_options.specs.declared.command_line.Task.{Task}
@@ -50,8 +52,9 @@ pub record RunView : Type 0 where
 pub record InputView : Type 0 where
   pub source : Source
   pub names : Names
-  pub is_inverted : Bool
+  pub probes : Probes
   pub start : ℕ
+  pub pulse : ℕ
   pub rate : Option ℕ
 
 -- a job in plain values
@@ -76,8 +79,9 @@ abbrev pub input_view : TraceInput → InputView
 input_view i = record {
   source = i.source;
   names = names_of_signals i.signals;
-  is_inverted = i.signals.is_inverted;
+  probes = i.signals.probes;
   start = i.start;
+  pulse = i.pulse;
   rate = i.rate;
 }
 
@@ -131,13 +135,14 @@ wanted_run rows =
 
 -- an option is given that only a recording can have
 abbrev pub wants_recording : List Row → Bool
-wants_recording rows = is_given opt.Invert rows || (is_given opt.Names rows || is_given opt.FromTime rows)
+wants_recording rows = is_given opt.Invert rows
+    || (is_given opt.Names rows || (is_given opt.FromTime rows || is_given opt.Glitch rows))
 
 -- an option is given that only a table can have
 abbrev pub wants_table : List Row → Bool
-wants_table rows = is_given opt.Rate rows
+wants_table rows = is_given opt.Rate rows || is_given opt.Threshold rows
 
--- the options that are given fit the source: with a trace text, none of a recording, and --rate only with a table
+-- the options that are given fit the source: with a trace text, none of a recording, and those of a table only with one
 abbrev pub fitting : Source → List Row → Result (Unit {0}) JobFault
 fitting source.Text rows = if wants_recording rows then Err fault.NoRecording
     else (if wants_table rows then Err fault.NoTable else Ok tt)
@@ -148,14 +153,18 @@ fitting source.Csv rows = Ok tt
 abbrev pub wanted_input : Source → List Row → Result InputView JobFault
 wanted_input source rows =
     read opt.Names names_of rows >>= λ names.
+    read opt.Invert inverted_of rows >>= λ probes.
     read opt.FromTime from_time_of rows >>= λ start.
+    read opt.Glitch glitch_of rows >>= λ pulse.
     read opt.Rate rate_of rows >>= λ rate.
+    read opt.Threshold threshold_of rows >>= λ threshold.
     fitting source rows >>= λ fits.
     Ok (record {
       source = source;
       names = names;
-      is_inverted = is_given opt.Invert rows;
+      probes = record probes { threshold = threshold };
       start = start;
+      pulse = pulse;
       rate = rate;
     })
 
@@ -208,18 +217,43 @@ unmeasured rows =
     read opt.Bounds bounds_of rows >>= λ bounds.
     if wants_readings rows then Err fault.NoReadings else Ok tt
 
+-- an option is given that only pages and bytes can have
+abbrev pub wants_printers : List Row → Bool
+wants_printers rows = is_given opt.Listening rows || (is_given opt.Set rows || is_given opt.Strict rows)
+
+-- no option of pages and bytes is given
+abbrev pub unprinted : List Row → Result (Unit {0}) JobFault
+unprinted rows =
+    read_if_given opt.Listening listening_of rows >>= λ listening.
+    if wants_printers rows then Err fault.NoPages else Ok tt
+
+-- a character set goes with printers that listen at first: any other is called, which selects one
+abbrev pub hearing : (lower : Bool) → (listening : Option Present) → List Row → Result Hearing JobFault
+hearing lower None rows = if is_given opt.Set rows then Err fault.NoListener
+    else Ok (record unhearing { is_strict = is_given opt.Strict rows })
+hearing lower (Some printers) rows =
+    Ok (record { listening = printers; lower = lower; is_strict = is_given opt.Strict rows })
+
+-- how what printers hear of a recording is written
+abbrev pub wanted_hearing : (lower : Bool) → List Row → Result Hearing JobFault
+wanted_hearing lower rows = read_if_given opt.Listening listening_of rows >>= λ listening. hearing lower listening rows
+
 -- what is written, as the other options say
 abbrev pub pages_output : PagesOutput → List Row → Result PagesOutput JobFault
 pages_output (pages.Pages format) rows = shown format rows >>= λ shown. Ok (pages.Pages shown)
 pages_output (pages.Bytes plain) rows = heard rows >>= λ device. Ok (pages.Bytes device)
 
-abbrev pub decode_output : DecodeOutput → List Row → Result DecodeOutput JobFault
-decode_output (reading.Readings plain) rows = wanted_detail rows >>= λ detail. Ok (reading.Readings detail)
-decode_output reading.Json rows = shown format.List rows >>= λ whole. unmeasured rows >>= λ none. Ok reading.Json
-decode_output (reading.Bytes plain) rows =
-    heard rows >>= λ device. unmeasured rows >>= λ none. Ok (reading.Bytes device)
-decode_output (reading.Pages format) rows =
-    shown format rows >>= λ shown. unmeasured rows >>= λ none. Ok (reading.Pages shown)
+abbrev pub decode_output : DecodeOutput → (lower : Bool) → List Row → Result DecodeOutput JobFault
+decode_output (reading.Readings plain) lower rows =
+    wanted_detail rows >>= λ detail. unprinted rows >>= λ none. Ok (reading.Readings detail)
+decode_output reading.Json lower rows =
+    shown format.List rows >>= λ whole. unmeasured rows >>= λ none. unprinted rows >>= λ none. Ok reading.Json
+decode_output (reading.Bytes plain first) lower rows =
+    heard rows >>= λ device. unmeasured rows >>= λ none.
+    wanted_hearing lower rows >>= λ hearing. Ok (reading.Bytes device hearing)
+decode_output (reading.Pages format first) lower rows =
+    shown format rows >>= λ shown. unmeasured rows >>= λ none.
+    wanted_hearing lower rows >>= λ hearing. Ok (reading.Pages shown hearing)
 
 -- the jobs of the subcommands; each has its own values of --as
 abbrev pub wanted_check : List Row → Result JobView JobFault
@@ -235,12 +269,12 @@ abbrev pub unless_found : List Row → Source
 unless_found rows = if wants_recording rows || wants_table rows then source.Csv else source.Text
 
 -- the first part of a job of `decode` says whether the format is to be found in the first bytes, since no option gives it
-abbrev pub wanted_decode : List Row → Result JobView JobFault
-wanted_decode rows =
+abbrev pub wanted_decode : Bool → List Row → Result JobView JobFault
+wanted_decode lower rows =
     read opt.ReadingFrom reading_source_of rows >>= λ source.
     wanted_input (unwrap_or source (unless_found rows)) rows >>= λ input.
     read opt.ReadingAs decode_output_of rows >>= λ plain.
-    decode_output plain rows >>= λ output.
+    decode_output plain lower rows >>= λ output.
     Ok (Decode (is_none source) input output)
 
 abbrev pub wanted_bus : RunView → List Row → Result JobView JobFault
@@ -269,7 +303,7 @@ wanted name rows =
     wanted_run rows >>= λ run.
     read opt.Set set_of rows >>= λ lower.
     if bytes_eq name (codes "check") then wanted_check rows
-    else (if bytes_eq name (codes "decode") then wanted_decode rows
+    else (if bytes_eq name (codes "decode") then wanted_decode lower rows
     else (if bytes_eq name (codes "bus") then wanted_bus run rows
     else (if bytes_eq name (codes "raw") then wanted_raw lower rows
     else wanted_pages run rows)))

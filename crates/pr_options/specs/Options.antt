@@ -1,10 +1,16 @@
 -- Trusted: the values of the program's options.
 use Rattle.std.specs.Prelude.{ℕ, ◌*◌, ◌^◌, ◌==◌, ◌&&◌, ◌∷◌, [], Bool, List, length, nat_lt, Option, Some, None, true, false, codes, if◌then◌else◌, find, option_and_then, option_map}
-use Rattle.std.specs.List.{after_first, before_first, list_all}
+use Rattle.std.specs.Int.{div_ceil}
+use Rattle.std.specs.List.{after_first, before_first, list_all, slice_split}
 use Rattle.std.specs.Str.{bytes_eq}
 use Rattle.clap.specs.Words.{Text}
 use Rattle.pr_base.specs.Digits.{is_digit, number_of}
+use Rattle.pr_capture.specs.Recording.{alike}
 use Rattle.pr_capture.specs.TableTimes.{rate_given}
+use Rattle.pr_capture.specs.Volts.{is_at_least, volts_in}
+use Rattle.pr_capture.specs.declared.signals.Probes.{Probes}
+use Rattle.pr_capture.specs.declared.volts.Threshold.{Threshold}
+use Rattle.pr_capture.specs.declared.volts.Volts.{Volts}
 use Rattle.pr_serial.specs.declared.Present.{Present}
 use Rattle.pr_basic.specs.declared.session.StatusMode.{StatusMode}
 use Rattle.pr_basic.specs.declared.session.StatusMode.TheVariants.{Each, Kept}
@@ -26,6 +32,7 @@ use Rattle.pr_report.specs.declared.detail.Bounds.{Bounds}
 use Rattle.pr_report.specs.declared.detail.Bounds.TheVariants.{Profile, Guide}
 use Rattle.pr_options.specs.declared.outputs.DecodeOutput.{DecodeOutput}
 use Rattle.pr_options.specs.declared.outputs.DecodeOutput.TheVariants as reading
+use Rattle.pr_options.specs.declared.outputs.Hearing.{Hearing}
 use Rattle.pr_options.specs.declared.outputs.PagesOutput.{PagesOutput}
 use Rattle.pr_options.specs.declared.outputs.PagesOutput.TheVariants as pages
 
@@ -64,14 +71,25 @@ abbrev pub pages_output_of : Text → Option PagesOutput
 pages_output_of text =
     if bytes_eq text (codes "bytes") then Some (pages.Bytes device.Four) else option_map (λ format. pages.Pages format) (format_of text)
 
+-- which printers listen when a recording begins: 4, 5 or 4,5
+abbrev pub listening_of : Text → Option Present
+listening_of = meaning_of ((codes "4", record { four = true; five = false })
+    ∷ (codes "5", record { four = false; five = true })
+    ∷ (codes "4,5", record { four = true; five = true }) ∷ [])
+
+-- no printer listens then
+abbrev pub unhearing : Hearing
+unhearing = record { listening = record { four = false; five = false }; lower = false; is_strict = false }
+
 -- the output of `decode`: its readings as a list or as json, the bytes that a printer hears, or a format of the pages;
--- a list without intervals, by this project's bounds, and bytes of printer 4, if no option says more
+-- a list without intervals, by this project's bounds, and bytes of printer 4, and no printer listens at first, if no
+-- option says more
 abbrev pub decode_output_of : Text → Option DecodeOutput
 decode_output_of text =
     if bytes_eq text (codes "list") then Some (reading.Readings (record { intervals = false; bounds = Profile }))
     else (if bytes_eq text (codes "json") then Some reading.Json
-    else (if bytes_eq text (codes "bytes") then Some (reading.Bytes device.Four)
-    else option_map (λ format. reading.Pages format) (format_of text)))
+    else (if bytes_eq text (codes "bytes") then Some (reading.Bytes device.Four unhearing)
+    else option_map (λ format. reading.Pages format unhearing) (format_of text)))
 
 -- the bounds that intervals are measured against: this project's profile or the Programmer's Reference Guide
 abbrev pub bounds_of : Text → Option Bounds
@@ -80,6 +98,39 @@ bounds_of = meaning_of ((codes "profile", Profile) ∷ (codes "guide", Guide) �
 -- the samples in a second, as in 4M, or none
 abbrev pub rate_of : Text → Option (Option ℕ)
 rate_of text = if bytes_eq text (codes "none") then Some None else option_map (λ rate. Some rate) (rate_given text)
+
+-- two voltages, if the second is at least the first
+abbrev pub threshold_between : (low high : Option Volts) → Option Threshold
+threshold_between (Some low) (Some high) =
+    if is_at_least high low then Some (record { low = low; high = high }) else None
+threshold_between _ _ = None
+
+-- the volts from which on a line is 1, as in 1.5, and those below which it is 0, if they are others, as in 0.8,2
+abbrev pub threshold_in : Text → Option Threshold
+threshold_in text =
+    if nat_lt (length (before_first (λ b. b == 44) text)) (length text)
+    then threshold_between (volts_in 44 (before_first (λ b. b == 44) text)) (volts_in 44 (after_first (λ b. b == 44) text))
+    else threshold_between (volts_in 44 text) (volts_in 44 text)
+
+-- the same, or none
+abbrev pub threshold_of : Text → Option (Option Threshold)
+threshold_of text = if bytes_eq text (codes "none") then Some None else option_map (λ threshold. Some threshold) (threshold_in text)
+
+-- a line by its name, whose probe inverts too
+abbrev pub with_line : Probes → Text → Option Probes
+with_line probes name =
+    if bytes_eq name (codes "ATN") then Some (record probes { atn = true })
+    else (if bytes_eq name (codes "CLOCK") then Some (record probes { clock = true })
+    else (if bytes_eq name (codes "DATA") then Some (record probes { line = true }) else None))
+
+abbrev pub with_lines : Probes → List Text → Option Probes
+with_lines probes [] = Some probes
+with_lines probes (name ∷ names) = option_and_then (λ more. with_lines more names) (with_line probes name)
+
+-- the lines whose probes invert: none, or names separated by commas
+abbrev pub inverted_of : Text → Option Probes
+inverted_of [] = Some (alike false)
+inverted_of (b ∷ bs) = with_lines (alike false) (slice_split (λ x. x == 44) (b ∷ bs))
 
 -- the printer whose pages are drawn, or whose bytes are written: 4 or 5
 abbrev pub device_of : Text → Option Device
@@ -136,6 +187,12 @@ before_of text = if is_back text then moment_of (after_first (λ b. b == 45) tex
 -- it is 0, the recording's first moment, until that of its own moment 0 is known
 abbrev pub from_time_of : Text → Option ℕ
 from_time_of text = if is_back text then option_map (λ n. 0) (before_of text) else moment_of text
+
+-- the longest pulse that is left out, in microseconds: a time as above, or nanoseconds, as in 200ns, rounded up
+abbrev pub glitch_of : Text → Option ℕ
+glitch_of text =
+    if bytes_eq (after_first (λ b. b == 110) text) (codes "s")
+    then option_map (λ n. div_ceil n 1000) (start_of (before_first (λ b. b == 110) text)) else moment_of text
 
 -- the sheet of a number; sheets count from 1
 abbrev pub sheet_numbered : ℕ → Option ℕ

@@ -3,14 +3,14 @@
 use Rattle.std.specs.Prelude.{◌∷◌, ℕ, [], List, Option, Some, None, codes}
 use Rattle.clap.specs.Words.{Text}
 use Rattle.pr_options.specs.declared.options.Kind.{Kind}
-use Rattle.pr_options.specs.declared.options.Kind.TheVariants.{Value, Flag, File}
+use Rattle.pr_options.specs.declared.options.Kind.TheVariants.{Value, Lines, Flag, File}
 use Rattle.pr_options.specs.declared.options.Opt.{Opt}
 use Rattle.pr_options.specs.declared.options.Opt.TheVariants as opt
 use Rattle.pr_options.specs.declared.options.Subcommand.{Subcommand}
 use Rattle.pr_options.specs.declared.options.Subcommand.TheVariants.{Pages, Bus, Check, Decode, Raw}
-use Rattle.pr_options.specs.declared.options.TheConstants.{BOUNDS_HELP, BOUNDS_VALUES, CHARACTERS_HELP, DELAYS_HELP, DELAYS_VALUES, DEVICE_HELP, DEVICE_VALUES, EXPLAIN_HELP, FROM_HELP, FROM_TIME_HELP, FROM_TIME_VALUES, FROM_VALUES, INTERVALS_HELP, INVERT_HELP, LISTING_FROM_HELP, LISTING_FROM_VALUES, NAMES_HELP, NAMES_VALUES, PAGE_AS_HELP, PAGE_AS_VALUES, PRESENT_HELP, PRESENT_VALUES, QUIET_HELP, RATE_HELP, RATE_VALUES, RAW_AS_HELP, RAW_AS_VALUES, RAW_DEVICE_HELP, READING_AS_HELP, READING_AS_VALUES, READING_FROM_HELP, READING_FROM_VALUES, REPORT_AS_HELP, REPORT_AS_VALUES, SET_HELP, SET_VALUES, SHEET_HELP, SHEET_VALUES, STATUS_HELP, STATUS_VALUES, TRACE_AS_HELP, TRACE_AS_VALUES}
+use Rattle.pr_options.specs.declared.options.TheConstants.{BOUNDS_HELP, BOUNDS_VALUES, CHARACTERS_HELP, DELAYS_HELP, DELAYS_VALUES, DEVICE_HELP, DEVICE_VALUES, EXPLAIN_HELP, FROM_HELP, FROM_TIME_HELP, FROM_TIME_VALUES, FROM_VALUES, GLITCH_HELP, GLITCH_VALUES, INTERVALS_HELP, INVERT_HELP, INVERT_VALUES, LISTENING_HELP, LISTENING_VALUES, LISTING_FROM_HELP, LISTING_FROM_VALUES, NAMES_HELP, NAMES_VALUES, PAGE_AS_HELP, PAGE_AS_VALUES, PRESENT_HELP, PRESENT_VALUES, QUIET_HELP, RATE_HELP, RATE_VALUES, RAW_AS_HELP, RAW_AS_VALUES, RAW_DEVICE_HELP, READING_AS_HELP, READING_AS_VALUES, READING_FROM_HELP, READING_FROM_VALUES, REPORT_AS_HELP, REPORT_AS_VALUES, SET_HELP, SET_VALUES, SHEET_HELP, SHEET_VALUES, STATUS_HELP, STATUS_VALUES, STRICT_HELP, THRESHOLD_HELP, THRESHOLD_VALUES, TRACE_AS_HELP, TRACE_AS_VALUES}
 
--- an option: what follows its name (a value, nothing, or a file's name); its name; the value where nothing else gives
+-- an option: what follows its name (a value, lines of the bus, nothing, or a file's name); its name; the value where nothing else gives
 -- one; the values that the endings of a file's name give, where the argument `file` names one; and its values, in a few
 -- words and as help says them
 pub record OptionRow : Type 0 where
@@ -77,8 +77,8 @@ reading_endings = (codes ".svg", codes "svg") ∷ (codes ".png", codes "png") �
 abbrev pub foreign_listings : List (Text × Text)
 foreign_listings = (codes ".d64", codes "d64") ∷ (codes ".d71", codes "d71") ∷ (codes ".d80", codes "d80")
     ∷ (codes ".d81", codes "d81") ∷ (codes ".d82", codes "d82") ∷ (codes ".g64", codes "g64")
-    ∷ (codes ".g71", codes "g71") ∷ (codes ".nib", codes "nib") ∷ (codes ".s00", codes "s00") ∷ (codes ".tap", codes "tap")
-    ∷ (codes ".crt", codes "crt") ∷ (codes ".lnx", codes "lnx") ∷ (codes ".gz", codes "gz")
+    ∷ (codes ".g71", codes "g71") ∷ (codes ".nib", codes "nib") ∷ (codes ".s00", codes "s00")
+    ∷ (codes ".u00", codes "u00") ∷ (codes ".r00", codes "r00") ∷ (codes ".tap", codes "tap") ∷ (codes ".crt", codes "crt") ∷ (codes ".lnx", codes "lnx") ∷ (codes ".gz", codes "gz")
     ∷ (codes ".xz", codes "xz") ∷ (codes ".zip", codes "zip") ∷ (codes ".7z", codes "7z")
     ∷ (codes ".rar", codes "rar") ∷ (codes ".vcd", codes "vcd") ∷ (codes ".svg", codes "svg")
     ∷ (codes ".png", codes "png") ∷ (codes ".pdf", codes "pdf")
@@ -116,9 +116,11 @@ row opt.Delays = plain (codes "delays") [] DELAYS_VALUES.now DELAYS_HELP.now
 row opt.Status = plain (codes "status") (codes "each") STATUS_VALUES.now STATUS_HELP.now
 row opt.Set = plain (codes "set") (codes "upper") SET_VALUES.now SET_HELP.now
 row opt.Names = plain (codes "names") (codes "ATN,CLOCK,DATA") NAMES_VALUES.now NAMES_HELP.now
-row opt.Invert = no_value Flag (codes "invert") INVERT_HELP.now
+row opt.Invert = record (plain (codes "invert") [] INVERT_VALUES.now INVERT_HELP.now) { kind = Lines }
 row opt.FromTime = plain (codes "from-time") (codes "0") FROM_TIME_VALUES.now FROM_TIME_HELP.now
+row opt.Glitch = plain (codes "glitch") (codes "0") GLITCH_VALUES.now GLITCH_HELP.now
 row opt.Rate = plain (codes "rate") (codes "none") RATE_VALUES.now RATE_HELP.now
+row opt.Threshold = plain (codes "threshold") (codes "none") THRESHOLD_VALUES.now THRESHOLD_HELP.now
 row opt.PageAs = by_file output page_endings (plain (codes "as") (codes "list") PAGE_AS_VALUES.now PAGE_AS_HELP.now)
 row opt.RawAs = by_file output page_endings (plain (codes "as") (codes "list") RAW_AS_VALUES.now RAW_AS_HELP.now)
 row opt.TraceAs =
@@ -135,6 +137,8 @@ row opt.Sheet = plain (codes "sheet") [] SHEET_VALUES.now SHEET_HELP.now
 row opt.Characters = no_value File (codes "characters") CHARACTERS_HELP.now
 row opt.Intervals = no_value Flag (codes "intervals") INTERVALS_HELP.now
 row opt.Bounds = plain (codes "bounds") (codes "profile") BOUNDS_VALUES.now BOUNDS_HELP.now
+row opt.Listening = plain (codes "listening") [] LISTENING_VALUES.now LISTENING_HELP.now
+row opt.Strict = no_value Flag (codes "strict") STRICT_HELP.now
 
 -- what the endings of a file's name say that no format has: values that are none of the option
 abbrev pub foreign : Opt → List (Text × Text)
@@ -168,8 +172,9 @@ options_of Pages = opt.ListingFrom ∷ opt.Present ∷ opt.Delays ∷ opt.Status
     ∷ opt.Device ∷ opt.Sheet ∷ opt.Characters ∷ []
 options_of Bus = opt.ListingFrom ∷ opt.Present ∷ opt.Delays ∷ opt.Status ∷ opt.TraceAs ∷ opt.Explain
     ∷ opt.Quiet ∷ []
-options_of Check = opt.From ∷ opt.Names ∷ opt.Invert ∷ opt.FromTime ∷ opt.Rate ∷ opt.ReportAs ∷ opt.Explain
-    ∷ opt.Quiet ∷ []
-options_of Decode = opt.ReadingFrom ∷ opt.Names ∷ opt.Invert ∷ opt.FromTime ∷ opt.Rate ∷ opt.ReadingAs
-    ∷ opt.Explain ∷ opt.Quiet ∷ opt.Device ∷ opt.Sheet ∷ opt.Characters ∷ opt.Intervals ∷ opt.Bounds ∷ []
+options_of Check = opt.From ∷ opt.Names ∷ opt.Invert ∷ opt.FromTime ∷ opt.Glitch ∷ opt.Rate ∷ opt.Threshold ∷ opt.ReportAs
+    ∷ opt.Explain ∷ opt.Quiet ∷ []
+options_of Decode = opt.ReadingFrom ∷ opt.Names ∷ opt.Invert ∷ opt.FromTime ∷ opt.Glitch ∷ opt.Rate ∷ opt.Threshold ∷ opt.ReadingAs
+    ∷ opt.Explain ∷ opt.Quiet ∷ opt.Device ∷ opt.Sheet ∷ opt.Characters ∷ opt.Intervals ∷ opt.Bounds
+    ∷ opt.Listening ∷ opt.Set ∷ opt.Strict ∷ []
 options_of Raw = opt.Set ∷ opt.RawAs ∷ opt.Explain ∷ opt.Quiet ∷ opt.RawDevice ∷ opt.Sheet ∷ opt.Characters ∷ []

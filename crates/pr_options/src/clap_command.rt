@@ -9,7 +9,7 @@ ghost use Rattle.pr_options.specs.Subcommands.{IsLocal, alone, row_view, with_fi
 use crate::help;
 use crate::help::HelpText;
 use crate::options::{
-    FileArgument, INPUT, Kind, OUTPUT, OUTPUT_LETTER, Opt, OptionRow, Subcommand,
+    ALL_LINES, FileArgument, INPUT, Kind, OUTPUT, OUTPUT_LETTER, Opt, OptionRow, Subcommand,
 };
 use clap::{Arg, ArgAction, Command};
 use std::alloc::{AllocError, Global};
@@ -28,6 +28,7 @@ fn option_argument<'a>(alloc: Global, opt: Opt) -> Arg<'a>
     let row = opt.row();
     match row.kind {
         Kind::Value => value_option(alloc, row),
+        Kind::Lines => lines_option(alloc, row),
         Kind::Flag => flag_option(alloc, row, opt.letter()),
         Kind::File => file_option(alloc, row),
     }
@@ -44,6 +45,16 @@ fn value_option<'a>(alloc: Global, row: OptionRow) -> Arg<'a>
         .default_value(row.default)
         .help(row.help)
         .hide_default_value(row.default.is_empty())
+}
+
+/// An option that lines of the bus may follow.
+fn lines_option<'a>(alloc: Global, row: OptionRow) -> Arg<'a>
+    ensures rule { rule_of result ≡ kind_rule Kind.Lines None (row_view row) }
+    ensures local { result.global ≡ false }
+{
+    value_option(alloc, row)
+        .num_args(..=1)
+        .default_missing_value(ALL_LINES)
 }
 
 /// An option without a value, and with a letter if it has one.

@@ -15,8 +15,8 @@ use crate::clap_command::make_command;
 use crate::delays::{DelayFault, read_delays};
 use crate::option_values::{
     read_before, read_decode_output, read_form, read_format, read_from_time, read_given_rate,
-    read_pages_output, read_present, read_reading_source, read_report, read_set, read_source,
-    read_status, read_trace_format,
+    read_glitch, read_inverted, read_pages_output, read_present, read_reading_source, read_report, read_set,
+    read_source, read_status, read_threshold, read_trace_format,
 };
 use crate::options::{INPUT, OUTPUT, Opt};
 use crate::outputs::{CheckOutput, DecodeOutput, PagesOutput};
@@ -28,7 +28,7 @@ use clap::ArgMatches;
 use clap::error::ErrorKind;
 use pr_basic::StatusMode;
 use pr_bus::Delays;
-use pr_capture::{Source, TraceFormat, TraceInput};
+use pr_capture::{Probes, Signals, Source, TraceFormat, TraceInput};
 use pr_listing::ListingForm;
 use pr_render::Format;
 use pr_serial::Present;
@@ -99,11 +99,11 @@ pub enum JobFault {
     /// The value of any other option is none of its values, which [`JobFault::good_values`] has.
     #[error("bad --{0}")]
     Bad(Opt),
-    /// `--names`, `--invert` or `--from-time` is given where the trace is a text.
-    #[error("--names, --invert and --from-time go with --from vcd or csv")]
+    /// `--names`, `--invert`, `--from-time` or `--glitch` is given where the trace is a text.
+    #[error("--names, --invert, --from-time and --glitch go with --from vcd or csv")]
     NoRecording,
-    /// `--rate` is given where the trace is a text or a dump.
-    #[error("--rate goes with --from csv")]
+    /// `--rate` or `--threshold` is given where the trace is a text or a dump.
+    #[error("--rate and --threshold go with --from csv")]
     NoTable,
     /// `--device` is given where no picture and no bytes are written, or `--sheet` where no picture of a sheet is.
     #[error("--device goes with --as svg, png, pdf or bytes, --sheet with svg or png")]
@@ -114,6 +114,12 @@ pub enum JobFault {
     /// `--intervals` or `--bounds` is given where no list of readings is written.
     #[error("--intervals and --bounds go with --as list")]
     NoReadings,
+    /// `--listening`, `--set` or `--strict` of `decode` is given where neither pages nor bytes are written.
+    #[error("--listening, --set and --strict go with --as text, svg, png, pdf or bytes")]
+    NoPages,
+    /// `--set` of `decode` is given where no printer listens at first.
+    #[error("--set goes with --listening")]
+    NoListener,
     /// Memory was refused.
     #[error("out of memory")]
     NoMemory,
@@ -198,8 +204,8 @@ impl From<DelayFault> for JobFault {
 /// only for words that clap takes, and report the first bad value: of [`JobFault::BadPresent`],
 /// [`JobFault::BadDelays`], [`JobFault::BadStatus`] and then of [`JobFault::Bad`], in the order of [`Opt`]. What does
 /// not go together comes after the values that it is judged by: [`JobFault::NoRecording`] and [`JobFault::NoTable`]
-/// after [`Opt::Rate`], [`JobFault::NoPart`] and [`JobFault::NoPicture`] after [`Opt::Sheet`], and
-/// [`JobFault::NoReadings`] at last.
+/// after [`Opt::Threshold`], [`JobFault::NoPart`] and [`JobFault::NoPicture`] after [`Opt::Sheet`],
+/// [`JobFault::NoReadings`] after [`Opt::Bounds`], and [`JobFault::NoPages`] or [`JobFault::NoListener`] at last.
 pub fn read_task<'a>(alloc: Global, words: &'a [&'a str]) -> Result<Task<'a>, JobFault>
     ensures ok { IfOk result (λ task. asked (map (λ s. s.now) words.entry.now) ≡ Some (Ok (task_view task))) }
     ensures taken { OnOk result (fault_of print1525 (map (λ s. s.now) words.entry.now) ≡ []) }
@@ -323,7 +329,7 @@ fn job_of<'a>(alloc: Global, name: &str, options: &ArgMatches<'a>) -> Result<Job
     let lower = read_set(value_in(options, Opt::Set)).ok_or(Opt::Set)?;
     match name {
         "check" => check_job(options),
-        "decode" => decode_job(options),
+        "decode" => decode_job(lower, options),
         "bus" => bus_job(run, options),
         "raw" => raw_job(lower, options),
         _ => pages_job(run, options),
@@ -353,14 +359,25 @@ fn input_of<'a>(source: Source, options: &ArgMatches<'a>) -> Result<TraceInput<'
     ensures bad { IfErr result (λ f. wanted_input source (rows_of (found_of options.now)) ≡ Err f) }
     ensures own { IfErr result IsOwn }
 {
-    let signals = signals_in(options)?;
+    let named = signals_in(options)?;
+    let probes = read_inverted(value_in(options, Opt::Invert)).ok_or(Opt::Invert)?;
     let start = read_from_time(value_in(options, Opt::FromTime)).ok_or(Opt::FromTime)?;
+    let pulse = read_glitch(value_in(options, Opt::Glitch)).ok_or(Opt::Glitch)?;
     let rate = read_given_rate(value_in(options, Opt::Rate)).ok_or(Opt::Rate)?;
+    let threshold = read_threshold(value_in(options, Opt::Threshold)).ok_or(Opt::Threshold)?;
     fitting(source, options)?;
+    let signals = Signals {
+        probes: Probes {
+            threshold,
+            ..probes
+        },
+        ..named
+    };
     Ok(TraceInput {
         source,
         signals,
         start,
+        pulse,
         rate,
     })
 }
@@ -377,14 +394,14 @@ fn check_job<'a>(options: &ArgMatches<'a>) -> Result<Job<'a>, JobFault>
 }
 
 /// The job of `decode`.
-fn decode_job<'a>(options: &ArgMatches<'a>) -> Result<Job<'a>, JobFault>
-    ensures value { job_result result ≡ wanted_decode (rows_of (found_of options.now)) }
+fn decode_job<'a>(lower: bool, options: &ArgMatches<'a>) -> Result<Job<'a>, JobFault>
+    ensures value { job_result result ≡ wanted_decode lower (rows_of (found_of options.now)) }
     ensures own { IfErr result IsOwn }
 {
     let source = read_reading_source(value_in(options, Opt::ReadingFrom)).ok_or(Opt::ReadingFrom)?;
     let input = input_of(source.unwrap_or(unless_found(options)), options)?;
     let plain = read_decode_output(value_in(options, Opt::ReadingAs)).ok_or(Opt::ReadingAs)?;
-    let output = decode_output_in(plain, options)?;
+    let output = decode_output_in(plain, lower, options)?;
     Ok(Job::Decode {
         is_found: source.is_none(),
         input,

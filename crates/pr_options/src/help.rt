@@ -26,6 +26,7 @@ PRINT1525_EXPLAIN=1 in the environment asks for the same as --explain.
 Exit status:
   0  done
   1  a BASIC error stopped the run; what was printed until then is written
+     (decode --strict: something of the recording is left out)
   2  the input or the command line is refused, with a line on standard error
   3  memory ran out, or a file cannot be opened, read or written
 
@@ -103,10 +104,12 @@ A table has a row of names, then a row for each sample: its time, in the unit
 of the column's name or in seconds, and a level, 0 or 1, of each signal. A FILE
 named *.vcd or *.csv is read so without --from.
 
---names, --invert and --from-time go with --from vcd or csv, --rate with csv.
+--names, --invert, --from-time and --glitch go with --from vcd or csv, --rate
+and --threshold with csv.
 Case and blanks around a name do not matter. Where no signal is called CLOCK,
-CLK is taken. A table without a column of times has the rate of --rate, or of
-a remark such as `; Samplerate: 4 MHz`.
+CLK is taken. After --invert any word but ATN, CLOCK, DATA or some of them, as
+in ATN,DATA, is the FILE. A table without a column of times has the rate of
+--rate, or of a remark such as `; Samplerate: 4 MHz`.
 
 Output: a line for each frame, `command 36`, `data 72` or `data 13 eoi`, then
 `lawful`. A story has the time when the talker offers each byte, the time when
@@ -131,7 +134,7 @@ in a format of `print1525 check`. Without --from the ending of FILE says which,
 or the first bytes do: `$` begins a dump, also after sigrok-cli's line
 `META samplerate: ..`; that line, `;` or `#` begins a table, or it has a comma,
 a semicolon or a tab in its first line. Otherwise it is a trace text, or with
---names, --invert, --from-time or --rate a table.
+--names, --invert, --from-time, --glitch, --rate or --threshold a table.
 
 Output: a line for each byte, as in a story of `print1525 check`;
 unacknowledged and incomplete bytes (glitches); how many there are; and a
@@ -142,12 +145,14 @@ intervals. With --bounds guide they and the verdict are by the Guide alone, for
 real hardware. Both go with the list alone; json has a line for each byte with
 all its intervals.
 Or the pages that printers 4 and 5 print of the bytes; or with --as bytes the
-bytes that printer 4 hears, or the one of --device, for `print1525 raw`.
+bytes that printer 4 hears, or the one of --device, for `print1525 raw`. Notes
+on standard error say what they leave out of the recording. If it begins after
+LISTEN, --listening 4 prints its first bytes, with the character set of --set.
 A recording that cannot be read is refused at its first fault, after the lines
 of what comes before it.
 
-Exit status: 0 read to its end, 2 refused, 3 memory ran out or a file cannot be
-opened, read or written.
+Exit status: 0 read to its end, 1 with --strict where something is left out, 2
+refused, 3 memory ran out or a file cannot be opened, read or written.
 
 Example:
   print1525 decode --intervals --bounds guide session.vcd

@@ -35,6 +35,6 @@ pub use command_line::{
     Job, JobFault, Task, bad_value, explains, is_quiet, read_task, subcommands_are_these,
 };
 pub use delays::{DelayFault, read_delays};
-pub use option_values::{read_present, read_status};
+pub use option_values::{read_inverted, read_present, read_status};
 pub use options::Opt;
-pub use outputs::{CheckOutput, DecodeOutput, PagesOutput};
+pub use outputs::{CheckOutput, DecodeOutput, Hearing, PagesOutput};

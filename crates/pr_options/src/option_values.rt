@@ -1,13 +1,15 @@
 //! The values of the program's options.
 
-ghost use Rattle.std.specs.Prelude.{◌≡◌, ◌∷◌, [], option_map, IfSome};
-ghost use Rattle.pr_options.specs.Options.{before_of, bounds_of, decode_output_of, device_of, form_of, format_of, from_time_of, mode_of, moment_of, pages_output_of, present_of, rate_of, reading_source_of, report_of, scaled, set_of, sheet_numbered, sheet_of, source_of, start_of, trace_format_of};
+ghost use Rattle.std.specs.Prelude.{[], false, option_map, ◌∷◌, ◌≡◌, IfSome};
+ghost use Rattle.pr_capture.specs.Recording.{alike};
+ghost use Rattle.pr_options.specs.Options.{before_of, bounds_of, decode_output_of, device_of, form_of, format_of, from_time_of, glitch_of, inverted_of, listening_of, mode_of, moment_of, pages_output_of, present_of, rate_of, reading_source_of, report_of, scaled, set_of, sheet_numbered, sheet_of, source_of, start_of, threshold_between, threshold_in, threshold_of, trace_format_of, with_line};
+ghost use Rattle.std.specs.Int.{div_ceil};
 ghost use Rattle.pr_options.specs.SignalNames.{are_names, differ, is_clock_twice, is_name, names_of, names_of_signals, three_names};
 
-use crate::outputs::{CheckOutput, DecodeOutput, PagesOutput};
+use crate::outputs::{CheckOutput, DecodeOutput, Hearing, PagesOutput};
 use crate::parts::{all_digits, cut};
 use pr_basic::StatusMode;
-use pr_capture::{Signals, Source, TraceFormat, read_rate};
+use pr_capture::{Probes, Signals, Source, Threshold, TraceFormat, Volts, read_rate, read_volts};
 use pr_listing::ListingForm;
 use pr_render::{Device, Format, Part};
 use pr_report::{Bounds, Detail, Report};
@@ -94,9 +96,19 @@ pub fn read_pages_output(text: &str) -> Option<PagesOutput>
     }
 }
 
+/// No printer listens when a recording begins.
+pub const UNHEARING: Hearing = Hearing {
+    listening: Present {
+        four: false,
+        five: false,
+    },
+    lower: false,
+    is_strict: false,
+};
+
 /// The output of `decode`: its readings as a `list` or as `json`, the `bytes` that a printer hears, or a format of the
-/// pages (profile); a list without intervals, by this project's bounds, and bytes of printer 4, if no option says
-/// more. None for any other text.
+/// pages (profile); a list without intervals, by this project's bounds, and bytes of printer 4, and no printer listens
+/// at first, if no option says more. None for any other text.
 pub fn read_decode_output(text: &str) -> Option<DecodeOutput>
     ensures { result ≡ decode_output_of text.now }
 {
@@ -106,11 +118,32 @@ pub fn read_decode_output(text: &str) -> Option<DecodeOutput>
             bounds: Bounds::Profile,
         })),
         "json" => Some(DecodeOutput::Json),
-        "bytes" => Some(DecodeOutput::Bytes(Device::Four)),
+        "bytes" => Some(DecodeOutput::Bytes(Device::Four, UNHEARING)),
         _ => {
             let format = read_format(text)?;
-            Some(DecodeOutput::Pages(format))
+            Some(DecodeOutput::Pages(format, UNHEARING))
         }
+    }
+}
+
+/// The printers that listen when a recording begins: `4`, `5` or `4,5` (profile). None for any other text.
+pub fn read_listening(text: &str) -> Option<Present>
+    ensures { result ≡ listening_of text.now }
+{
+    match text {
+        "4" => Some(Present {
+            four: true,
+            five: false,
+        }),
+        "5" => Some(Present {
+            four: false,
+            five: true,
+        }),
+        "4,5" => Some(Present {
+            four: true,
+            five: true,
+        }),
+        _ => None,
     }
 }
 
@@ -137,6 +170,82 @@ pub fn read_given_rate(text: &str) -> Option<Option<u64>>
             Some(Some(rate))
         }
     }
+}
+
+/// A threshold of these volts, of which the second are at least the first.
+fn threshold_between(low: Option<Volts>, high: Option<Volts>) -> Option<Threshold>
+    ensures { result ≡ threshold_between low high }
+{
+    match (low, high) {
+        (Some(low), Some(high)) if high.is_at_least(low) => Some(Threshold { low, high }),
+        _ => None,
+    }
+}
+
+/// The volts from which on a line is 1, as [`read_volts`] reads them, or those below which it is 0, a comma and those from
+/// which on it is 1.
+fn threshold_in(text: &str) -> Option<Threshold>
+    ensures { result ≡ threshold_in text.now }
+{
+    let (low, high) = cut(text, ',');
+    if low.len() < text.len() {
+        threshold_between(read_volts(low), read_volts(high))
+    } else {
+        threshold_between(read_volts(text), read_volts(text))
+    }
+}
+
+/// By which volts a line is 1 or 0: one voltage, or a low one and a high one that is no lower, separated by a comma; or
+/// `none` (profile). None for any other text.
+pub fn read_threshold(text: &str) -> Option<Option<Threshold>>
+    ensures { result ≡ threshold_of text.now }
+{
+    match text {
+        "none" => Some(None),
+        _ => {
+            let threshold = threshold_in(text)?;
+            Some(Some(threshold))
+        }
+    }
+}
+
+/// The probes of which that of this line inverts too: `ATN`, `CLOCK` or `DATA`. None for any other text.
+fn with_line(probes: Probes, name: &str) -> Option<Probes>
+    ensures { result ≡ with_line probes name.now }
+{
+    match name {
+        "ATN" => Some(Probes {
+            atn: true,
+            ..probes
+        }),
+        "CLOCK" => Some(Probes {
+            clock: true,
+            ..probes
+        }),
+        "DATA" => Some(Probes {
+            line: true,
+            ..probes
+        }),
+        _ => None,
+    }
+}
+
+/// Reads which probes invert, from the names of their lines, separated by commas: `ATN`, `CLOCK` and `DATA` (profile);
+/// where no name is given, none do. None for any other text. It takes no memory.
+pub fn read_inverted(text: &str) -> Option<Probes>
+    ensures { result ≡ inverted_of text.now }
+{
+    let mut probes = Probes::alike(false);
+    if text.is_empty() {
+        return Some(probes);
+    }
+    for name in text.split(',') {
+        let Some(more) = with_line(probes, name) else {
+            return None;
+        };
+        probes = more;
+    }
+    Some(probes)
 }
 
 /// The printer whose pages are drawn, or whose bytes are written: `4` or `5` (profile). None for any other text.
@@ -218,34 +327,24 @@ pub fn read_report(text: &str) -> Option<CheckOutput>
 }
 
 /// The signals of a recording by the names of ATN, CLOCK and DATA, which are in this order, parted
-/// by commas. White space around a name does not count; no name is empty or begins with a quotation
-/// mark, and no two are the same or CLOCK and CLK, capitals or not (profile). None for any other text.
-pub fn read_signals(text: &str, is_inverted: bool) -> Option<Signals<'_>>
+/// by commas, with probes that do not invert. White space around a name does not count; no name is empty or begins with
+/// a quotation mark, and no two are the same or CLOCK and CLK, capitals or not (profile). None for any other text.
+pub fn read_signals(text: &str) -> Option<Signals<'_>>
     ensures names { option_map names_of_signals result ≡ names_of text.now }
-    ensures levels { IfSome result (λ s. s.is_inverted ≡ is_inverted) }
+    ensures straight { IfSome result (λ s. s.probes ≡ alike false) }
 {
     let (atn, others) = cut(text, ',');
     let (clock, line) = cut(others, ',');
     if line.contains(',') {
         return None;
     }
-    signals_named(
-        atn.trim_ascii(),
-        clock.trim_ascii(),
-        line.trim_ascii(),
-        is_inverted,
-    )
+    signals_named(atn.trim_ascii(), clock.trim_ascii(), line.trim_ascii())
 }
 
 /// The signals of these names, if they are names of three signals.
-fn signals_named<'a>(
-    atn: &'a str,
-    clock: &'a str,
-    line: &'a str,
-    is_inverted: bool,
-) -> Option<Signals<'a>>
+fn signals_named<'a>(atn: &'a str, clock: &'a str, line: &'a str) -> Option<Signals<'a>>
     ensures names { option_map names_of_signals result ≡ three_names (atn.now ∷ clock.now ∷ line.now ∷ []) }
-    ensures levels { IfSome result (λ s. s.is_inverted ≡ is_inverted) }
+    ensures straight { IfSome result (λ s. s.probes ≡ alike false) }
 {
     if !are_names(atn, clock, line) {
         return None;
@@ -254,7 +353,7 @@ fn signals_named<'a>(
         atn: atn.as_bytes(),
         clock: clock.as_bytes(),
         line: line.as_bytes(),
-        is_inverted,
+        probes: Probes::alike(false),
     })
 }
 
@@ -358,5 +457,28 @@ pub fn read_before(text: &str) -> Option<u64>
         read_moment(behind)
     } else {
         None
+    }
+}
+
+/// The longest pulse that is left out, in microseconds: a time as [`read_moment`] reads it, or a number of nanoseconds
+/// and `ns`, rounded up (profile). None for any other text.
+pub fn read_glitch(text: &str) -> Option<u64>
+    ensures { result ≡ glitch_of text.now }
+{
+    let (nanos, behind) = cut(text, 'n');
+    if behind == "s" {
+        in_micros(read_start(nanos))
+    } else {
+        read_moment(text)
+    }
+}
+
+/// Nanoseconds in microseconds, rounded up.
+fn in_micros(nanos: Option<u64>) -> Option<u64>
+    ensures { result ≡ option_map (λ n. div_ceil n 1000) nanos }
+{
+    match nanos {
+        Some(nanos) => Some(nanos.div_ceil(1000)),
+        None => None,
     }
 }

@@ -47,7 +47,7 @@ impl Subcommand {
         }
     }
 
-    /// Its options, in the order in which help lists them, which is that of [`Opt`].
+    /// Its options, in the order in which help lists them, which is that of [`Opt`], but for `--set` of `decode`.
     pub fn options(self) -> &'static [Opt]
         ensures { result.now ≡ options_of self }
     {
@@ -78,7 +78,9 @@ impl Subcommand {
                 Opt::Names,
                 Opt::Invert,
                 Opt::FromTime,
+                Opt::Glitch,
                 Opt::Rate,
+                Opt::Threshold,
                 Opt::ReportAs,
                 Opt::Explain,
                 Opt::Quiet,
@@ -88,7 +90,9 @@ impl Subcommand {
                 Opt::Names,
                 Opt::Invert,
                 Opt::FromTime,
+                Opt::Glitch,
                 Opt::Rate,
+                Opt::Threshold,
                 Opt::ReadingAs,
                 Opt::Explain,
                 Opt::Quiet,
@@ -97,6 +101,9 @@ impl Subcommand {
                 Opt::Characters,
                 Opt::Intervals,
                 Opt::Bounds,
+                Opt::Listening,
+                Opt::Set,
+                Opt::Strict,
             ],
             Subcommand::Raw => &[
                 Opt::Set,
@@ -131,12 +138,16 @@ pub enum Opt {
     Set,
     /// The signals of a recording.
     Names,
-    /// A flag: the probes invert.
+    /// The lines whose probes invert.
     Invert,
     /// The moment of a recording at which the trace starts.
     FromTime,
+    /// The longest pulse of a line that is left out of a recording.
+    Glitch,
     /// The samples in a second of a recording without times.
     Rate,
+    /// By which volts a line is 1 or 0 in a table of volts.
+    Threshold,
     /// What `pages` writes: its `--as`.
     PageAs,
     /// The format of the page of a printer's bytes: `--as` of `raw`.
@@ -163,6 +174,10 @@ pub enum Opt {
     Intervals,
     /// The bounds that the intervals of a recording are measured against.
     Bounds,
+    /// The printers that listen when a recording begins.
+    Listening,
+    /// A flag: it is no success where something of a recording is left out.
+    Strict,
 }
 
 /// What follows the name of an option.
@@ -170,6 +185,8 @@ pub enum Opt {
 pub enum Kind {
     /// A value.
     Value,
+    /// Lines of the bus, or nothing, which means [`ALL_LINES`].
+    Lines,
     /// Nothing.
     Flag,
     /// The name of a file.
@@ -231,6 +248,9 @@ pub const OUTPUT: FileArgument = FileArgument {
            [default: standard output, as with -]",
 };
 
+/// The value of an option that lines of the bus may follow, where nothing does.
+pub const ALL_LINES: &str = "ATN,CLOCK,DATA";
+
 /// The letter of [`OUTPUT`], after `-`.
 pub const OUTPUT_LETTER: char = 'o';
 
@@ -290,6 +310,8 @@ const FOREIGN_LISTINGS: &[Ending] = &[
     (".g71", "g71"),
     (".nib", "nib"),
     (".s00", "s00"),
+    (".u00", "u00"),
+    (".r00", "r00"),
     (".tap", "tap"),
     (".crt", "crt"),
     (".lnx", "lnx"),
@@ -408,7 +430,10 @@ const NAMES_HELP: &str = "The signals that are ATN, CLOCK and DATA:\n\
 
 const NAMES_VALUES: &str = "three different names, as in ATN,CLOCK,DATA";
 
-const INVERT_HELP: &str = "The probes invert: 0 is released, 1 is pulled";
+const INVERT_HELP: &str = "The probes of these lines invert, or all do if no\n\
+     line follows: 0 is released, 1 is pulled";
+
+const INVERT_VALUES: &str = "lines of the bus, as in DATA or ATN,CLOCK";
 
 const FROM_TIME_HELP: &str = "The time of the recording at which the trace\n\
      starts: microseconds, or as in 5ms or 2s; =-500\n\
@@ -416,11 +441,24 @@ const FROM_TIME_HELP: &str = "The time of the recording at which the trace\n\
 
 const FROM_TIME_VALUES: &str = "microseconds below 2^64, as in 1500, 5ms, 2s or -500";
 
+const GLITCH_HELP: &str = "Leave out pulses of a line up to this length, as\n\
+     cross-talk makes them: a time as in 200ns or 2us,\n\
+     rounded up to whole microseconds";
+
+const GLITCH_VALUES: &str = "microseconds below 2^64, as in 2, 200ns, 2us or 1ms";
+
 const RATE_HELP: &str = "The samples in a second of a table that has no\n\
-     times: a number, also with k, M, G (12.5M), or\n\
+     times, such as 4e6, 4M, 4MHz, 4MS/s or 500k, or\n\
      none (its remarks say it)";
 
 const RATE_VALUES: &str = "samples in a second, as in 4M, 500k or 1000000, or none";
+
+const THRESHOLD_HELP: &str = "The volts from which on a line is 1 in a table of\n\
+     volts; with LOW,HIGH it is 0 below LOW, 1 from\n\
+     HIGH on, and stays as it was between; or none\n\
+     (cells are levels)";
+
+const THRESHOLD_VALUES: &str = "volts, as in 1.5 or 0.8,2, or none";
 
 const PAGE_AS_HELP: &str = "list (every mark with its place), text (lines for\n\
      a terminal), svg (a picture), png (a sheet as a\n\
@@ -484,6 +522,14 @@ const BOUNDS_HELP: &str = "Bounds of intervals and of the verdict: profile\n\
      Programmer's Reference Guide)";
 
 const BOUNDS_VALUES: &str = "profile or guide";
+
+const LISTENING_HELP: &str = "4, 5 or 4,5: the printers that listen when the\n\
+     recording begins, as if it began with LISTEN";
+
+const LISTENING_VALUES: &str = "4, 5 or 4,5";
+
+const STRICT_HELP: &str = "Ends with status 1 where pages or bytes leave out\n\
+     something of the recording, as notes say it";
 
 /// The row of an option with a value that no file's name gives.
 fn valued(
@@ -566,9 +612,20 @@ impl Opt {
             Opt::Status => valued("status", "MODE", "each", STATUS_VALUES, STATUS_HELP),
             Opt::Set => valued("set", "SET", "upper", SET_VALUES, SET_HELP),
             Opt::Names => valued("names", "NAMES", "ATN,CLOCK,DATA", NAMES_VALUES, NAMES_HELP),
-            Opt::Invert => bare(Kind::Flag, "invert", "", INVERT_HELP),
+            Opt::Invert => OptionRow {
+                kind: Kind::Lines,
+                ..valued("invert", "LINES", "", INVERT_VALUES, INVERT_HELP)
+            },
             Opt::FromTime => valued("from-time", "TIME", "0", FROM_TIME_VALUES, FROM_TIME_HELP),
+            Opt::Glitch => valued("glitch", "TIME", "0", GLITCH_VALUES, GLITCH_HELP),
             Opt::Rate => valued("rate", "RATE", "none", RATE_VALUES, RATE_HELP),
+            Opt::Threshold => valued(
+                "threshold",
+                "VOLTS",
+                "none",
+                THRESHOLD_VALUES,
+                THRESHOLD_HELP,
+            ),
             Opt::PageAs => with_endings(
                 valued("as", "FORMAT", "list", PAGE_AS_VALUES, PAGE_AS_HELP),
                 OUTPUT_NAME,
@@ -602,6 +659,14 @@ impl Opt {
             Opt::Characters => bare(Kind::File, "characters", "FILE", CHARACTERS_HELP),
             Opt::Intervals => bare(Kind::Flag, "intervals", "", INTERVALS_HELP),
             Opt::Bounds => valued("bounds", "BOUNDS", "profile", BOUNDS_VALUES, BOUNDS_HELP),
+            Opt::Listening => valued(
+                "listening",
+                "PRINTERS",
+                "",
+                LISTENING_VALUES,
+                LISTENING_HELP,
+            ),
+            Opt::Strict => bare(Kind::Flag, "strict", "", STRICT_HELP),
         }
     }
 }

@@ -2,6 +2,7 @@
 
 use pr_render::{Device, Format};
 use pr_report::{Detail, Report};
+use pr_serial::Present;
 
 /// What `pages` writes of a run.
 #[derive(Clone, Copy, Debug, PartialEq, Eq)]
@@ -21,6 +22,17 @@ pub enum CheckOutput {
     Json,
 }
 
+/// How what printers hear of a recording is written.
+#[derive(Clone, Copy, Debug, PartialEq, Eq)]
+pub struct Hearing {
+    /// The printers that listen then.
+    pub listening: Present,
+    /// Their character set is lower/upper case then, else graphic/upper case.
+    pub lower: bool,
+    /// The program ends otherwise where something of the recording is left out.
+    pub is_strict: bool,
+}
+
 /// What `decode` writes of a recording.
 #[derive(Clone, Copy, Debug, PartialEq, Eq)]
 pub enum DecodeOutput {
@@ -28,8 +40,8 @@ pub enum DecodeOutput {
     Readings(Detail),
     /// The readings as lines of JSON, with all their intervals.
     Json,
-    /// The bytes that this printer hears.
-    Bytes(Device),
-    /// The pages that the bytes print, in this format.
-    Pages(Format),
+    /// The bytes that this printer hears, which may listen from the start.
+    Bytes(Device, Hearing),
+    /// The pages that the bytes print, in this format; printers may listen from the start.
+    Pages(Format, Hearing),
 }

@@ -1,24 +1,27 @@
 //! What words give the options, and what of it goes together.
 
-ghost use Rattle.std.specs.Prelude.{◌≡◌, IfErr, IfOk, find, option_map, unwrap_or};
+ghost use Rattle.std.specs.Prelude.{◌≡◌, IfErr, find, option_map, unwrap_or};
 ghost use Rattle.std.specs.Str.{str_eq_ignore_ascii_case};
 ghost use Rattle.clap.specs.Words.{first_of, found_of, rows_of};
 ghost use Rattle.pr_options.specs.Given.{characters_in, ending_value, file_in, has_ending, is_given, is_named, is_of_words, named, value_by_ending, value_by_name, value_in};
-ghost use Rattle.pr_options.specs.Jobs.{decode_output, drawn, fitting, heard, is_picture, pages_output, read, read_if_given, shown, unless_found, unmeasured, wanted_detail, wanted_part, wants_readings, wants_recording, wants_table};
-ghost use Rattle.pr_options.specs.Options.{bounds_of, device_of, sheet_of};
+ghost use Rattle.pr_options.specs.Jobs.{decode_output, drawn, fitting, heard, hearing, is_picture, pages_output, read, read_if_given, shown, unless_found, unmeasured, unprinted, wanted_detail, wanted_hearing, wanted_part, wants_printers, wants_readings, wants_recording, wants_table};
+ghost use Rattle.pr_options.specs.Options.{bounds_of, device_of, listening_of, sheet_of};
 ghost use Rattle.pr_options.specs.SignalNames.{names_of};
 ghost use Rattle.pr_options.specs.Steps.{IsOwn, signals_result};
 ghost use Rattle.pr_options.specs.Subcommands.{endings_view, row_view};
 
 use crate::command_line::JobFault;
-use crate::option_values::{read_bounds, read_device, read_sheet, read_signals};
+use crate::option_values::{
+    UNHEARING, read_bounds, read_device, read_listening, read_sheet, read_signals,
+};
 use crate::options::{Ending, FileArgument, Opt, OptionRow};
-use crate::outputs::{DecodeOutput, PagesOutput};
+use crate::outputs::{DecodeOutput, Hearing, PagesOutput};
 use clap::ArgMatches;
 use clap::parser::ValueSource;
 use pr_capture::{Signals, Source};
 use pr_render::{Device, Format, Part};
 use pr_report::{Bounds, Detail};
+use pr_serial::Present;
 
 /// The format of a recording whose first bytes show none.
 pub fn unless_found(options: &ArgMatches<'_>) -> Source
@@ -31,14 +34,12 @@ pub fn unless_found(options: &ArgMatches<'_>) -> Source
     }
 }
 
-/// The signals of a recording, by their names and by whether the probes invert.
+/// The signals of a recording by their names, with probes that do not invert.
 pub fn signals_in<'a>(options: &ArgMatches<'a>) -> Result<Signals<'a>, JobFault>
     ensures names { signals_result result ≡ read Opt.Names names_of (rows_of (found_of options.now)) }
-    ensures levels { IfOk result (λ s. s.is_inverted ≡ is_given Opt.Invert (rows_of (found_of options.now))) }
     ensures own { IfErr result IsOwn }
 {
-    let is_inverted = is_given(options, Opt::Invert);
-    read_signals(value_in(options, Opt::Names), is_inverted).ok_or(JobFault::Bad(Opt::Names))
+    read_signals(value_in(options, Opt::Names)).ok_or(JobFault::Bad(Opt::Names))
 }
 
 /// What `pages` writes, as the other options say.
@@ -142,35 +143,107 @@ fn sheet_in(options: &ArgMatches<'_>) -> Result<Option<u64>, JobFault>
     Ok(Some(sheet))
 }
 
-/// What `decode` writes, as the other options say.
+/// What `decode` writes, as the other options say, with this character set of `--set`.
 pub fn decode_output_in(
     plain: DecodeOutput,
+    lower: bool,
     options: &ArgMatches<'_>,
 ) -> Result<DecodeOutput, JobFault>
-    ensures value { result ≡ decode_output plain (rows_of (found_of options.now)) }
+    ensures value { result ≡ decode_output plain lower (rows_of (found_of options.now)) }
     ensures own { IfErr result IsOwn }
 {
     match plain {
         DecodeOutput::Readings(_) => {
             let detail = detail_in(options)?;
+            unprinted(options)?;
             Ok(DecodeOutput::Readings(detail))
         }
         DecodeOutput::Json => {
             shown_in(Format::List, options)?;
             unmeasured(options)?;
+            unprinted(options)?;
             Ok(DecodeOutput::Json)
         }
-        DecodeOutput::Bytes(_) => {
+        DecodeOutput::Bytes(_, _) => {
             let device = heard_in(options)?;
             unmeasured(options)?;
-            Ok(DecodeOutput::Bytes(device))
+            let hearing = hearing_in(lower, options)?;
+            Ok(DecodeOutput::Bytes(device, hearing))
         }
-        DecodeOutput::Pages(format) => {
+        DecodeOutput::Pages(format, _) => {
             let shown = shown_in(format, options)?;
             unmeasured(options)?;
-            Ok(DecodeOutput::Pages(shown))
+            let hearing = hearing_in(lower, options)?;
+            Ok(DecodeOutput::Pages(shown, hearing))
         }
     }
+}
+
+/// How what printers hear of a recording is written.
+fn hearing_in(lower: bool, options: &ArgMatches<'_>) -> Result<Hearing, JobFault>
+    ensures value { result ≡ wanted_hearing lower (rows_of (found_of options.now)) }
+    ensures own { IfErr result IsOwn }
+{
+    let listening = listening_in(options)?;
+    hearing(lower, listening, options)
+}
+
+/// The same by the printers that listen then, if words name any. A character set goes with them alone: any other printer
+/// is called, which selects one.
+fn hearing(
+    lower: bool,
+    listening: Option<Present>,
+    options: &ArgMatches<'_>,
+) -> Result<Hearing, JobFault>
+    ensures value { result ≡ hearing lower listening (rows_of (found_of options.now)) }
+    ensures own { IfErr result IsOwn }
+{
+    let is_strict = is_given(options, Opt::Strict);
+    match listening {
+        Some(listening) => Ok(Hearing {
+            listening,
+            lower,
+            is_strict,
+        }),
+        None if is_given(options, Opt::Set) => Err(JobFault::NoListener),
+        None => Ok(Hearing {
+            is_strict,
+            ..UNHEARING
+        }),
+    }
+}
+
+/// The printers that listen when a recording begins, if words name any.
+fn listening_in(options: &ArgMatches<'_>) -> Result<Option<Present>, JobFault>
+    ensures value { result ≡ read_if_given Opt.Listening listening_of (rows_of (found_of options.now)) }
+    ensures own { IfErr result IsOwn }
+{
+    if !is_given(options, Opt::Listening) {
+        return Ok(None);
+    }
+    let listening = read_listening(value_in(options, Opt::Listening)).ok_or(Opt::Listening)?;
+    Ok(Some(listening))
+}
+
+/// Refuses what is given and goes with pages and bytes alone.
+fn unprinted(options: &ArgMatches<'_>) -> Result<(), JobFault>
+    ensures value { result ≡ unprinted (rows_of (found_of options.now)) }
+    ensures own { IfErr result IsOwn }
+{
+    listening_in(options)?;
+    if wants_printers(options) {
+        return Err(JobFault::NoPages);
+    }
+    Ok(())
+}
+
+/// Whether anything is given that goes with pages and bytes alone.
+fn wants_printers(options: &ArgMatches<'_>) -> bool
+    ensures { result ≡ wants_printers (rows_of (found_of options.now)) }
+{
+    is_given(options, Opt::Listening)
+        || is_given(options, Opt::Set)
+        || is_given(options, Opt::Strict)
 }
 
 /// What of the intervals of readings is written. Readings are no pictures: they show no part and draw no characters.
@@ -205,8 +278,8 @@ fn wants_readings(options: &ArgMatches<'_>) -> bool
     is_given(options, Opt::Intervals) || is_given(options, Opt::Bounds)
 }
 
-/// Refuses what is given and does not go with the source: with a text what goes with a recording alone, and a rate
-/// unless it is a table's.
+/// Refuses what is given and does not go with the source: with a text what goes with a recording alone, and what
+/// goes with a table alone unless it is one.
 pub fn fitting(source: Source, options: &ArgMatches<'_>) -> Result<(), JobFault>
     ensures value { result ≡ fitting source (rows_of (found_of options.now)) }
     ensures own { IfErr result IsOwn }
@@ -222,7 +295,7 @@ pub fn fitting(source: Source, options: &ArgMatches<'_>) -> Result<(), JobFault>
 fn wants_table(options: &ArgMatches<'_>) -> bool
     ensures { result ≡ wants_table (rows_of (found_of options.now)) }
 {
-    is_given(options, Opt::Rate)
+    is_given(options, Opt::Rate) || is_given(options, Opt::Threshold)
 }
 
 /// Whether anything is given that goes with a recording alone.
@@ -232,6 +305,7 @@ fn wants_recording(options: &ArgMatches<'_>) -> bool
     is_given(options, Opt::Invert)
         || is_given(options, Opt::Names)
         || is_given(options, Opt::FromTime)
+        || is_given(options, Opt::Glitch)
 }
 
 /// The file that words name by this argument. None where they name none, or give `-`.

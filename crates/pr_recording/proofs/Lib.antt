@@ -15,5 +15,7 @@ pub mod Adding
 pub mod BusPrinting
 pub mod Taken
 pub mod Logging
+pub mod LeftLogging
+pub mod ListeningTakes
 pub mod RunLogging
 pub mod RunAnswering

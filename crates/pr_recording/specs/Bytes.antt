@@ -1,6 +1,6 @@
 -- Trusted: the bytes that a device hears, what they do not say of its inputs, and what `decode` answers for a recording
 -- where they are wanted: with what is odd about the recording.
-use Rattle.std.specs.Prelude.{◌≡◌, ℕ, ◌<◌, ◌≤◌, Bool, false, not, ◌&&◌, List, [], ◌∷◌, length, Option, Some, None, Result, Ok, Err}
+use Rattle.std.specs.Prelude.{◌≡◌, ℕ, ◌<◌, ◌≤◌, Bool, false, not, ◌&&◌, List, [], ◌∷◌, length, nat_lt, Option, Some, None, Result, Ok, Err}
 use Rattle.std.specs.Io.KnownBytes.{Appends, IsAtEnd, Keeps}
 use Rattle.std.specs.List.{filter_map, list_any}
 use Rattle.pr_page.specs.declared.input.Input.{Input}
@@ -18,7 +18,12 @@ use Rattle.pr_jobs.specs.Report.{Says}
 use Rattle.pr_jobs.specs.declared.fault.CliFault.{CliFault}
 use Rattle.pr_jobs.specs.declared.fault.CliFault.TheVariants.{Script, Trace, Wave, Capture, Picture, TooLarge, NoMemory, ReadFailed, WriteFailed}
 use Rattle.pr_recording.specs.declared.byte_log.Heard.{Heard}
+use Rattle.pr_recording.specs.declared.bytes.Overheard.{Overheard}
+use Rattle.pr_recording.specs.declared.left_out.LeftOut.{LeftOut}
+use Rattle.pr_recording.specs.declared.listening.Listening.{Listening}
 use Rattle.pr_recording.specs.Decoded.{back_in, readings_up_to, stop_at}
+use Rattle.pr_recording.specs.LeftOut.{left_out_of}
+use Rattle.pr_recording.specs.Listening.{with_calls}
 use Rattle.pr_recording.specs.PrintedPages.{heard_in}
 
 -- the number of a printer
@@ -58,40 +63,46 @@ are_both sets = list_any (λ lower. lower) sets && list_any (λ lower. not lower
 abbrev pub heard_with : List Input → Heard
 heard_with inputs = record { lower = first_set (sets_of inputs); reselected = are_both (sets_of inputs) }
 
--- what the writer holds with each answer, by the length of the recording, why it stops, what the device hears, and what
--- is odd about the recording
-abbrev pub LeavesBytes :
-    (len : ℕ) → (stop : Option CliFault) → List Input → Oddities → Option (List ℕ) → Option (List ℕ)
-    → Result (Heard × Oddities) CliFault
-    → Type 0
-LeavesBytes len stop inputs odd old new (Ok answer) =
-    (len ≤ trace_limit) × (stop ≡ None) × (answer.0 ≡ heard_with inputs) × (answer.1 ≡ odd)
-    × Appends old new (bytes_of inputs)
-LeavesBytes len stop inputs odd old new (Err (Script fault)) = ⊥
-LeavesBytes len stop inputs odd old new (Err (Trace fault)) =
-    (stop ≡ Some (Trace fault)) × Appends old new (bytes_of inputs)
-LeavesBytes len stop inputs odd old new (Err (Wave fault)) =
-    (stop ≡ Some (Wave fault)) × Appends old new (bytes_of inputs)
-LeavesBytes len stop inputs odd old new (Err (Capture fault)) =
-    (stop ≡ Some (Capture fault)) × Appends old new (bytes_of inputs)
-LeavesBytes len stop inputs odd old new (Err (Picture fault)) = ⊥
-LeavesBytes len stop inputs odd old new (Err TooLarge) = (trace_limit < len) × Keeps old new
-LeavesBytes len stop inputs odd old new (Err NoMemory) = Keeps old new
-LeavesBytes len stop inputs odd old new (Err ReadFailed) = Keeps old new
-LeavesBytes len stop inputs odd old new (Err WriteFailed) = AppendsFront old new (bytes_of inputs)
+-- what is said of bytes, by what they do not say, what is odd about the recording, and what it has that they have not
+abbrev pub overheard_of : List ℕ → Heard → Oddities → LeftOut → Overheard
+overheard_of bytes heard odd left =
+    record { heard = heard; odd = odd; left = left; has_byte = nat_lt 0 (length bytes) }
 
--- the answer, by the text and by what the writer held before and after
-pub record AnswersBytes (input : TraceInput) (device : Device) (text : List ℕ) (old new : Option (List ℕ))
-    (result : Result (Heard × Oddities) CliFault) : Type 0 where
+-- what the writer holds with each answer, by the length of the recording, why it stops, what the device hears, what is
+-- odd about the recording, and what it has that the bytes have not
+abbrev pub LeavesBytes :
+    (len : ℕ) → (stop : Option CliFault) → List Input → Oddities → LeftOut → Option (List ℕ) → Option (List ℕ)
+    → Result Overheard CliFault
+    → Type 0
+LeavesBytes len stop inputs odd left old new (Ok said) =
+    (len ≤ trace_limit) × (stop ≡ None) × (said ≡ overheard_of (bytes_of inputs) (heard_with inputs) odd left)
+    × Appends old new (bytes_of inputs)
+LeavesBytes len stop inputs odd left old new (Err (Script fault)) = ⊥
+LeavesBytes len stop inputs odd left old new (Err (Trace fault)) =
+    (stop ≡ Some (Trace fault)) × Appends old new (bytes_of inputs)
+LeavesBytes len stop inputs odd left old new (Err (Wave fault)) =
+    (stop ≡ Some (Wave fault)) × Appends old new (bytes_of inputs)
+LeavesBytes len stop inputs odd left old new (Err (Capture fault)) =
+    (stop ≡ Some (Capture fault)) × Appends old new (bytes_of inputs)
+LeavesBytes len stop inputs odd left old new (Err (Picture fault)) = ⊥
+LeavesBytes len stop inputs odd left old new (Err TooLarge) = (trace_limit < len) × Keeps old new
+LeavesBytes len stop inputs odd left old new (Err NoMemory) = Keeps old new
+LeavesBytes len stop inputs odd left old new (Err ReadFailed) = Keeps old new
+LeavesBytes len stop inputs odd left old new (Err WriteFailed) = AppendsFront old new (bytes_of inputs)
+
+-- the answer, by the printers that listen at first, by the text and by what the writer held before and after
+pub record AnswersBytes (input : TraceInput) (listening : Listening) (device : Device) (text : List ℕ) (old new : Option (List ℕ))
+    (result : Result Overheard CliFault) : Type 0 where
   pub edges : List Edge
   pub own : Option CliFault
   pub says : Says input text edges own
   pub leaves :
       let stop = stop_at (back_in edges) own in
-      LeavesBytes (length text) stop (heard_in (number_of device) (readings_up_to stop edges))
-      (oddities_of edges (readings_of edges)) old new result
+      let readings = with_calls listening (readings_up_to stop edges) in
+      LeavesBytes (length text) stop (heard_in (number_of device) readings) (oddities_of edges (readings_of edges))
+      (left_out_of readings) old new result
 
 -- the recording has been read to its end where all of it is answered
-abbrev pub HasReadBytes : Option (List ℕ) → Result (Heard × Oddities) CliFault → Type 0
-HasReadBytes left (Ok answer) = IsAtEnd left
+abbrev pub HasReadBytes : Option (List ℕ) → Result Overheard CliFault → Type 0
+HasReadBytes left (Ok said) = IsAtEnd left
 HasReadBytes left (Err fault) = Unit {0}

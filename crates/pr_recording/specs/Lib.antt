@@ -10,6 +10,9 @@ pub mod Writes
 pub mod Laws
 pub mod PrintedPages
 pub mod Taking
+pub mod Listening
+pub mod LeftOut
+pub mod LeftLogged
 pub mod Bytes
 pub mod Logged
 pub mod RunBytes

@@ -32,7 +32,7 @@ pub fn read_into<R: Read, T: Takes>(
     // the caller's part
     requires fresh { has_failed input.old ≡ false }
     requires few { limit ≤ trace_limit }
-    requires room { T.may_take (limit + 3) taker.old }
+    requires room { T.may_take (limit + 19) taker.old }
     // what it gives
     ensures read { IfSome (R.remaining (wrapped input.old)) (λ text. ReadsInto T.takes limit trace.entry text taker.old taker.new result) }
     ensures at_end { HasReadTape (R.remaining (wrapped input.new)) result }
@@ -59,8 +59,8 @@ fn end_input<T: Takes>(
     taker: &mut T,
 ) -> Result<TapeEnd, AllocError>
     requires lines { lines_ahead reader + 1 < 2 ^ 64 }
-    requires edges { edges_taped tape + length (edges_read reader) + 2 < 2 ^ 64 }
-    requires room { T.may_take (length (edges_read reader) + 3) taker.old }
+    requires edges { edges_taped tape + length (edges_read reader) + 18 < 2 ^ 64 }
+    requires room { T.may_take (length (edges_read reader) + 19) taker.old }
     ensures { IfOk result (λ end. EndsInput T.takes reader.entry tape taker.old taker.new end) }
 {
     let last = reader.finish()?;

@@ -155,7 +155,7 @@ fn end_input(
     is_checked: bool,
 ) -> Result<Ended, AllocError>
     requires lines { lines_ahead reader + 1 < 2 ^ 64 }
-    requires edges { load report + 3 * length (edges_read reader) + 9 < 2 ^ 64 }
+    requires edges { load report + 3 * length (edges_read reader) + 57 < 2 ^ 64 }
     ensures { IfOk result (λ ended. EndsNarrated trace.entry is_checked reader.entry report ended) }
 {
     let last = reader.finish()?;

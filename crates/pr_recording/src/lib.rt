@@ -17,11 +17,14 @@
 //!   and printer 5 was refused cannot be given to both again, so a refusal is for good.
 //! - `bytes` has them go to a `device_log`: one printer's listening part with a `byte_log`, which keeps the bytes of
 //!   its inputs and the character sets in which they come.
+//! - Both have printers called first that listen when the recording begins (`listening`).
+//! - `left_out` takes the readings of both (`both`), and counts what no page has.
 //! - `run_bytes` performs a script statement by statement, and hands the edges of each to `run_log`, a tape's
 //!   head with a `device_log`.
 #![tactic(auto)]
 
 mod blocks;
+mod both;
 mod bus_printer;
 mod byte_log;
 mod bytes;
@@ -31,6 +34,8 @@ mod decode_report;
 mod device_log;
 mod judge;
 mod laws;
+mod left_out;
+mod listening;
 mod pages;
 mod printer_pair;
 mod reading_log;
@@ -41,11 +46,13 @@ mod wording;
 
 pub use blocks::read_into;
 pub use byte_log::Heard;
-pub use bytes::bytes_over;
+pub use bytes::{Overheard, bytes_over};
 pub use checked::check_json_over;
 pub use decode::{decode_json_over, decode_over, tell_input};
 pub use laws::{readings_are_heard_in_turn, traces_are_heard_as_spelled};
-pub use pages::{PRINT_LIMIT, reprint_over};
+pub use left_out::LeftOut;
+pub use listening::{Listening, call_first};
+pub use pages::{PRINT_LIMIT, Reprinted, reprint_over};
 pub use printer_pair::{PrintedPages, PrinterPair};
 pub use run_bytes::run_bytes_over;
 pub use tape::{Takes, Tape, TapeEnd};

@@ -8,14 +8,18 @@ ghost use Rattle.pr_recording.specs.Pages.{AnswersPages, IsReprintFault, ReadsPa
 ghost use Rattle.pr_recording.specs.Writes.{WritesPrint};
 
 use crate::blocks::read_into;
+use crate::both::Both;
+use crate::left_out::{LeftOut, LeftOutLog};
+use crate::listening::{Listening, call_first};
 use crate::printer_pair::{PrintedPages, PrinterPair};
 use crate::tape::TapeEnd;
 use pr_capture::TraceInput;
 use pr_dots::Shapes;
-use pr_jobs::{CliFault, Watched, WriteFault, read_edges_come_first, text_in_format};
+use pr_jobs::{CliFault, PagesEnd, Watched, WriteFault, read_edges_come_first, text_in_format};
 use pr_page::Sequence;
 use pr_render::Format;
 use pr_report::Oddities;
+use pr_serial::Present;
 use pr_system::Outcome;
 use std::alloc::Global;
 use std::io::{Read, Write};
@@ -24,10 +28,24 @@ use std::io::{Read, Write};
 /// byte of a recording makes more than one.
 pub const PRINT_LIMIT: usize = 4_000_000_000;
 
+/// What is said of a recording whose pages were written.
+#[derive(Clone, Copy, Debug, PartialEq, Eq)]
+pub struct Reprinted {
+    /// What is odd about it.
+    pub odd: Oddities,
+    /// What it has that no page has.
+    pub left: LeftOut,
+    /// Which printers hear a byte.
+    pub present: Present,
+    /// What the printers hold of lines that have not ended. No run stopped.
+    pub end: PagesEnd,
+}
+
 /// Reads any recording of the bus, in any format, and writes the pages that printers 4 and 5 print of it,
-/// in this format: of the bytes that were acknowledged, those that each of them hears. The sheets are
+/// in this format: of the bytes that were acknowledged, those that each of them hears, where these printers listen
+/// when the recording begins. The sheets are
 /// those of the printers that hear a byte; there are no statuses, no bytes on the screen and no stop.
-/// Pictures draw characters in these shapes. The answer is what is odd about the recording.
+/// Pictures draw characters in these shapes. The answer is what is odd about the recording, and what the pages lack.
 ///
 /// The recording may begin anywhere and have any levels. It is read block by block and not kept, and the
 /// whole text is made before the first write.
@@ -52,22 +70,36 @@ pub fn reprint_over<R: Read, W: Write>(
     input: &mut Watched<R>,
     output: &mut Watched<W>,
     trace: TraceInput<'_>,
+    listening: Listening,
     format: Format,
     shapes: &Shapes,
-) -> Result<Oddities, CliFault>
+) -> Result<Reprinted, CliFault>
     // the caller's part
     requires fresh { AreFresh input.old output.old }
     // what it gives
     ensures pages { IfSome (R.remaining (wrapped input.old)) (λ text.
-        AnswersPages shapes.now trace.entry format text (W.contents (wrapped output.old)) (W.contents (wrapped output.new)) result) }
+        AnswersPages shapes.now trace.entry listening format text (W.contents (wrapped output.old)) (W.contents (wrapped output.new)) result) }
     ensures at_end { ReadsPages (R.remaining (wrapped input.new)) result }
     // when it refuses, and what that leaves
     ensures does { DoesJob IsReprintFault input.new output.new result }
 {
     read_edges_come_first();
-    let mut printers = PrinterPair::new(alloc);
-    let end = read_into(alloc, input, trace, PRINT_LIMIT, &mut printers)?;
-    write_pages(alloc, output, printers.finish(), end, format, shapes)
+    let mut taker = Both {
+        first: PrinterPair::new(alloc),
+        second: LeftOutLog::new(),
+    };
+    call_first(&mut taker, listening)?;
+    let end = read_into(alloc, input, trace, PRINT_LIMIT, &mut taker)?;
+    let Both { first, second } = taker;
+    write_pages(
+        alloc,
+        output,
+        first.finish(),
+        second.finish(),
+        end,
+        format,
+        shapes,
+    )
 }
 
 /// The outcome that is these papers and nothing else.
@@ -84,20 +116,21 @@ fn papers_alone(alloc: Global, pages: PrintedPages) -> Outcome
     }
 }
 
-/// Writes the pages, and answers why no more was printed, if that has a reason.
+/// Writes the pages, and answers what is said of the recording, or why no more was printed, if that has a reason.
 fn write_pages<W: Write>(
     alloc: Global,
     output: &mut Watched<W>,
     pages: PrintedPages,
+    left: LeftOut,
     end: TapeEnd,
     format: Format,
     shapes: &Shapes,
-) -> Result<Oddities, CliFault>
+) -> Result<Reprinted, CliFault>
     // the caller's part
     requires fresh { has_failed output.old ≡ false }
     requires stop { IfSome end.stop IsStop }
     // what it gives
-    ensures written { WritesPrint shapes.now format pages end (W.contents (wrapped output.old)) (W.contents (wrapped output.new)) result }
+    ensures written { WritesPrint shapes.now format pages left end (W.contents (wrapped output.old)) (W.contents (wrapped output.new)) result }
     ensures flushed { OnOk result (is_flushed output.new ≡ true) }
     // when it refuses, and what that leaves
     ensures own { IfErr result IsReprintFault }
@@ -105,13 +138,19 @@ fn write_pages<W: Write>(
 {
     let present = pages.present;
     let outcome = papers_alone(alloc, pages);
+    let held = PagesEnd::of(&outcome);
     let text = text_in_format(alloc, shapes, outcome, present, format)?;
     match text.write_to(output) {
         Ok(()) => {}
         Err(WriteFault) => return Err(CliFault::WriteFailed),
     }
     match end.stop {
-        None => Ok(end.odd),
+        None => Ok(Reprinted {
+            odd: end.odd,
+            left,
+            present,
+            end: held,
+        }),
         Some(fault) => Err(fault),
     }
 }

@@ -5,6 +5,7 @@ use Rattle.std.specs.List.{list_any}
 use Rattle.pr_capture.specs.declared.format.Source.{Source}
 use Rattle.pr_capture.specs.declared.format.Source.TheVariants.{Csv, Text, Vcd}
 use Rattle.pr_capture.specs.declared.format.TraceInput.{TraceInput}
+use Rattle.pr_capture.specs.Recording.{inverts_any}
 use Rattle.pr_wire.specs.declared.Edge.{Edge}
 use Rattle.pr_wire.specs.declared.Levels.{Levels}
 use Rattle.pr_decode.specs.declared.reading.FrameEnd.TheVariants.{Acknowledged, Cut, Unacknowledged}
@@ -79,7 +80,7 @@ to_try Csv no_byte is_inverted = other_signals no_byte is_inverted
 
 -- the same, if anything is odd
 abbrev pub advice : TraceInput → Oddities → List ℕ
-advice input o = told_if (is_odd o) (to_try input.source o.no_byte input.signals.is_inverted)
+advice input o = told_if (is_odd o) (to_try input.source o.no_byte (inverts_any input.signals.probes))
 
 -- the lines, of a recording that is read so
 abbrev pub oddities_text : TraceInput → Oddities → List ℕ

@@ -213,7 +213,8 @@ fn push_advice(text: &mut Vec<u8>, input: TraceInput<'_>, odd: Oddities) -> Resu
     ensures { OnOk result (text.new.items ≡ text.old.items ++ advice input.entry odd) }
 {
     if is_odd(odd) {
-        push_to_try(text, input.source, odd.no_byte, input.signals.is_inverted)?;
+        let is_inverted = input.signals.probes.inverts_any();
+        push_to_try(text, input.source, odd.no_byte, is_inverted)?;
     }
     Ok(())
 }

@@ -5,7 +5,7 @@ ghost use Rattle.std.specs.Prelude.{◌≤◌, length};
 
 use crate::samples::edges_from;
 use crate::tables::NAMES;
-use pr_capture::{CaptureFault, Signals, VcdReader, write_vcd};
+use pr_capture::{CaptureFault, Probes, Signals, VcdReader, write_vcd};
 use pr_wire::{Edge, read_trace, write_trace};
 use std::alloc::Global;
 use std::process::Abort;
@@ -71,7 +71,12 @@ const INVERTED: Signals<'static> = Signals {
     atn: b"ATN",
     clock: b"CLOCK",
     line: b"DATA",
-    is_inverted: true,
+    probes: Probes {
+        atn: true,
+        clock: true,
+        line: true,
+        threshold: None,
+    },
 };
 
 /// Custom names, and inverted probes.
@@ -79,7 +84,12 @@ const OWN: Signals<'static> = Signals {
     atn: b"D0",
     clock: b"D1",
     line: b"D2",
-    is_inverted: true,
+    probes: Probes {
+        atn: true,
+        clock: true,
+        line: true,
+        threshold: None,
+    },
 };
 
 /// Of a simulator: scopes, other signals, a section of first levels, one of them twice.
@@ -124,7 +134,12 @@ const CHANNELS: Signals<'static> = Signals {
     atn: b"Channel 0",
     clock: b"channel 1",
     line: b"Channel2",
-    is_inverted: true,
+    probes: Probes {
+        atn: true,
+        clock: true,
+        line: true,
+        threshold: None,
+    },
 };
 
 /// Names with scopes, and one with the place of a bit.
@@ -132,7 +147,12 @@ const SCOPES: Signals<'static> = Signals {
     atn: b"bus.ATN",
     clock: b"IEC[0]",
     line: b"top.DATA",
-    is_inverted: false,
+    probes: Probes {
+        atn: false,
+        clock: false,
+        line: false,
+        threshold: None,
+    },
 };
 
 /// Signals that are no wires whatever their name: numbers, texts and events.

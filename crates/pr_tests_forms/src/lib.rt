@@ -18,6 +18,8 @@ mod oddities;
 #[cfg(test)]
 mod picture;
 #[cfg(test)]
+mod pulses;
+#[cfg(test)]
 mod readings;
 #[cfg(test)]
 mod samples;

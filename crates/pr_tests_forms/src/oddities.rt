@@ -1,6 +1,6 @@
 //! What is odd about a recording.
 
-use pr_capture::{Signals, Source, TraceInput};
+use pr_capture::{Probes, Signals, Source, TraceInput};
 use pr_report::{LinesSeen, push_oddities};
 use pr_wire::{Edge, Levels};
 use std::process::Abort;
@@ -31,9 +31,10 @@ fn input(source: Source, is_inverted: bool) -> TraceInput<'static> {
             atn: b"ATN",
             clock: b"CLOCK",
             line: b"DATA",
-            is_inverted,
+            probes: Probes::alike(is_inverted),
         },
         start: 0,
+        pulse: 0,
         rate: None,
     }
 }

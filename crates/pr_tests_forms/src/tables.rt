@@ -2,7 +2,7 @@
 
 ghost use Rattle.std.specs.Prelude.{◌≤◌, length};
 
-use pr_capture::{CaptureFault, CsvReader, Signals, csv_is_read_back};
+use pr_capture::{CaptureFault, CsvReader, Probes, Signals, csv_is_read_back};
 use pr_wire::{Edge, NoMemory, read_trace, write_trace};
 use std::alloc::Global;
 use std::process::Abort;
@@ -13,7 +13,12 @@ pub const NAMES: Signals<'static> = Signals {
     atn: b"ATN",
     clock: b"CLOCK",
     line: b"DATA",
-    is_inverted: false,
+    probes: Probes {
+        atn: false,
+        clock: false,
+        line: false,
+        threshold: None,
+    },
 };
 
 /// The samples of a text that comes in two blocks, as a trace text.
@@ -62,7 +67,12 @@ const OWN: Signals<'static> = Signals {
     atn: b"Channel 0",
     clock: b"Channel 1",
     line: b"Channel 2",
-    is_inverted: true,
+    probes: Probes {
+        atn: true,
+        clock: true,
+        line: true,
+        threshold: None,
+    },
 };
 
 /// Whose signals, a table, and its samples: other columns, lines without a word, quoted names, spaces, both

@@ -2,7 +2,7 @@
 //! tests/refused.c; the lines that the program prints are in tests/cases/explained.
 
 use pr_basic::StatusMode;
-use pr_capture::{Signals, Source, TraceInput};
+use pr_capture::{Probes, Signals, Source, TraceInput};
 use pr_channels::Stop;
 use pr_explain::{
     EdgePlace, Miss, ReadingPlace, Row, ScriptPlace, StopCause, StopPlace, TracePlace,
@@ -19,9 +19,15 @@ const TEXT: TraceInput<'static> = TraceInput {
         atn: b"ATN",
         clock: b"CLOCK",
         line: b"DATA",
-        is_inverted: false,
+        probes: Probes {
+            atn: false,
+            clock: false,
+            line: false,
+            threshold: None,
+        },
     },
     start: 0,
+    pulse: 0,
     rate: None,
 };
 

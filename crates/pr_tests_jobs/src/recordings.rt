@@ -1,6 +1,6 @@
 //! The limits of recordings, tried with small ones: the program's are 4,000,000,000 and 1,099,511,627,776 bytes.
 
-use pr_capture::{Signals, Source, TraceInput};
+use pr_capture::{Probes, Signals, Source, TraceInput};
 use pr_jobs::{CliFault, Watched};
 use pr_recording::{
     PrinterPair, Wording, read_into, readings_are_heard_in_turn, tell_input,
@@ -14,9 +14,15 @@ const TEXT: TraceInput<'_> = TraceInput {
         atn: b"ATN",
         clock: b"CLOCK",
         line: b"DATA",
-        is_inverted: false,
+        probes: Probes {
+            atn: false,
+            clock: false,
+            line: false,
+            threshold: None,
+        },
     },
     start: 0,
+    pulse: 0,
     rate: None,
 };
 

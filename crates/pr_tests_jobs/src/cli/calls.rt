@@ -5,7 +5,7 @@ ghost use Rattle.pr_input.specs.Watched.{has_failed};
 
 use pr_basic::StatusMode;
 use pr_bus::Delays;
-use pr_capture::{Signals, Source, TraceFormat, TraceInput};
+use pr_capture::{Probes, Signals, Source, TraceFormat, TraceInput};
 use pr_dots::Shapes;
 use pr_jobs::{
     CliFault, Ending, Start, Watched, bus_as_over, bus_over, check_as_over, check_over,
@@ -233,9 +233,15 @@ pub const USUAL: TraceInput<'static> = TraceInput {
         atn: b"ATN",
         clock: b"CLOCK",
         line: b"DATA",
-        is_inverted: false,
+        probes: Probes {
+            atn: false,
+            clock: false,
+            line: false,
+            threshold: None,
+        },
     },
     start: 0,
+    pulse: 0,
     rate: None,
 };
 
@@ -299,14 +305,10 @@ impl Call {
                 let trace = TraceInput { source, ..USUAL };
                 done(check_as_over(alloc, input, output, trace, report))
             }
-            Call::Raw(format) => done(raw_over(
-                alloc,
-                input,
-                output,
-                false,
-                format,
-                &Shapes::own(),
-            )),
+            Call::Raw(format) => {
+                let end = raw_over(alloc, input, output, false, format, &Shapes::own())?;
+                Ok(end.run.ending())
+            }
         }
     }
 

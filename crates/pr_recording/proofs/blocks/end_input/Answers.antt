@@ -10,16 +10,16 @@ take_all-requires-clause-room g c =
     let len = length c.as_slice.result.now in
     let all = length (edges_read c.args.reader) in
     let P : ℕ → Type 0 = λ n. g.T.Takes.may_take n c.args.taker.now in
-    let fits : all + 3 ≡ (all + 3 - len) + len = omega (arith, c.in_ok-last.ensures.few, ap length c.as_slice.ensures.value) in
-    g.met.T.Takes.takes_fewer (all + 3 - len) len c.args.taker.now (subst P fits c.requires.room)
+    let fits : all + 19 ≡ (all + 19 - len) + len = omega (arith, c.in_ok-last.ensures.few, ap length c.as_slice.ensures.value) in
+    g.met.T.Takes.takes_fewer (all + 19 - len) len c.args.taker.now (subst P fits c.requires.room)
 
 pub finish-requires-2 : goal.finish-requires-2
 finish-requires-2 g c =
     let len = length c.as_slice.result.now in
     let all = length (edges_read c.args.reader) in
     let P : ℕ → Type 0 = λ n. g.T.Takes.may_take n c.args.taker.now in
-    let fits : all + 3 ≡ (all + 2 - len) + (len + 1) = omega (arith, c.in_ok-last.ensures.few, ap length c.as_slice.ensures.value) in
-    record { room = c.in_ok-take_all.ensures.room 1 (g.met.T.Takes.takes_fewer (all + 2 - len) (len + 1) c.args.taker.now (subst P fits c.requires.room)) }
+    let fits : all + 19 ≡ (all + 18 - len) + (len + 1) = omega (arith, c.in_ok-last.ensures.few, ap length c.as_slice.ensures.value) in
+    record { room = c.in_ok-take_all.ensures.room 1 (g.met.T.Takes.takes_fewer (all + 18 - len) (len + 1) c.args.taker.now (subst P fits c.requires.room)) }
 
 pub returns : goal.returns
 returns g c =

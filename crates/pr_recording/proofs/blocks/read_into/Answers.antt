@@ -9,7 +9,7 @@ pub pieces-init : goal.pieces-init
 pieces-init g c =
     let takes = g.T.Takes.takes in
     let taker = c.args.taker.now in
-    let P : ℕ → Type 0 = λ n. g.T.Takes.may_take (n + 3) taker in
+    let P : ℕ → Type 0 = λ n. g.T.Takes.may_take (n + 19) taker in
     record {
       read = taken_none c.args.limit (g.R.Read.remaining c.args.input.now.inner) c.args.trace c.new-reader.result (HasTakenTo takes taker taker c.new-tape.result)
           (c.new-reader.ensures.read (g.R.Read.remaining c.args.input.now.inner)) c.new-reader.ensures.edges
@@ -42,8 +42,8 @@ end_input-requires-clause-room g c =
     let len = length (edges_read c.read_block.new.self) in
     let left = bytes_left c.pieces.reader in
     let P : ℕ → Type 0 = λ n. g.T.Takes.may_take n c.pieces.taker in
-    let fits : left + 3 ≡ (left - len) + (len + 3) = omega (arith, c.in_ok-read_block.ensures.few) in
-    g.met.T.Takes.takes_fewer (left - len) (len + 3) c.pieces.taker (subst P fits c.pieces.invariant.room)
+    let fits : left + 19 ≡ (left - len) + (len + 19) = omega (arith, c.in_ok-read_block.ensures.few) in
+    g.met.T.Takes.takes_fewer (left - len) (len + 19) c.pieces.taker (subst P fits c.pieces.invariant.room)
 
 pub returns-then-not-branch : goal.returns-then-not-branch
 returns-then-not-branch g c =
@@ -61,8 +61,8 @@ take_all-requires-clause-room g c =
     let len = length c.edges.result.now in
     let left = bytes_left c.pieces.reader in
     let P : ℕ → Type 0 = λ n. g.T.Takes.may_take n c.pieces.taker in
-    let fits : left + 3 ≡ (left + 3 - len) + len = omega (arith, c.in_ok-read_block.ensures.few, ap length c.edges.ensures) in
-    g.met.T.Takes.takes_fewer (left + 3 - len) len c.pieces.taker (subst P fits c.pieces.invariant.room)
+    let fits : left + 19 ≡ (left + 19 - len) + len = omega (arith, c.in_ok-read_block.ensures.few, ap length c.edges.ensures) in
+    g.met.T.Takes.takes_fewer (left + 19 - len) len c.pieces.taker (subst P fits c.pieces.invariant.room)
 
 pub pieces-preserved : goal.pieces-preserved
 pieces-preserved g c =
@@ -79,14 +79,14 @@ pieces-preserved g c =
     let left = bytes_left c.pieces.reader in
     let rest = bytes_left c.read_block.new.self in
     let P : ℕ → Type 0 = λ n. g.T.Takes.may_take n c.pieces.taker in
-    let fits : left + 3 ≡ (left - (len + rest)) + (len + (rest + 3)) = omega (arith, c.in_ok-read_block.ensures.few, ap length c.edges.ensures) in
+    let fits : left + 19 ≡ (left - (len + rest)) + (len + (rest + 19)) = omega (arith, c.in_ok-read_block.ensures.few, ap length c.edges.ensures) in
     record {
       read = taken_all c.args.limit start now c.args.trace c.read_block.new.self claim after before
           (takes_more takes g.met.T.Takes.takes_both c.args.taker.now c.pieces.taker c.take_all.new.taker c.pieces.tape c.take_all.new.self _ tapes);
       faultless = stops;
       lines = omega (arith, c.in_ok-read_block.ensures.lines, c.pieces.invariant.lines);
       edges = omega (arith, c.in_ok-take_all.ensures.edges, c.in_ok-read_block.ensures.few, c.pieces.invariant.edges, ap length c.edges.ensures);
-      room = c.in_ok-take_all.ensures.room (rest + 3) (g.met.T.Takes.takes_fewer (left - (len + rest)) (len + (rest + 3)) c.pieces.taker (subst P fits c.pieces.invariant.room));
+      room = c.in_ok-take_all.ensures.room (rest + 19) (g.met.T.Takes.takes_fewer (left - (len + rest)) (len + (rest + 19)) c.pieces.taker (subst P fits c.pieces.invariant.room));
       fresh = search rules;
       block = omega (arith, c.in_ok-read_block.ensures.room, c.pieces.invariant.block);
     }

@@ -11,7 +11,7 @@ invariant-pieces g l = record {
   faultless : fault_read l.reader ≡ None;
   lines : lines_ahead l.reader ≤ l.limit + 1;
   edges : edges_taped l.tape + bytes_left l.reader ≤ l.limit;
-  room : g.T.Takes.may_take (bytes_left l.reader + 3) l.taker;
+  room : g.T.Takes.may_take (bytes_left l.reader + 19) l.taker;
   fresh : l.input.failed ≡ false;
   block : 0 < length l.block;
 }

@@ -11,7 +11,7 @@ returns-in_err-sample-clause-refused c =
 
 pub returns-clause-read : goal.returns-clause-read
 returns-clause-read c =
-    let inverted = c.args.self.now.signals.is_inverted in
-    let P : List ℕ → Type 0 = λ l. IsRowOf inverted c.take_line.new.self l c.in_ok-sample.sample in
+    let probes = c.args.self.now.signals.probes in
+    let P : List ℕ → Type 0 = λ l. IsRowOf probes c.take_line.new.self l c.in_ok-sample.sample in
     read-line c.args.self.now _ c.in_ok-sample.sample c.as_slice.result.now c.as_slice.ensures.value c.in_ok-sample.ensures.read refl refl c.note.ensures.line
-    (λ inner. c.note.ensures.known inverted inner (subst P c.as_slice.ensures.value c.in_ok-sample.ensures.row))
+    (λ inner. c.note.ensures.known probes inner (subst P c.as_slice.ensures.value c.in_ok-sample.ensures.row))

@@ -6,4 +6,4 @@ pub returns-in_ok-copies-in-Rows-clause-read : goal.returns-in_ok-copies-in-Rows
 returns-in_ok-copies-in-Rows-clause-read c =
     let old = c.args.self.now in
     let copies = c.in_ok-copies-in-Rows.copies in
-    skips-run old _ _ c.in-Rows.layout c.in-Rows.moment copies.count copies.row c.in_ok-copies-in-Rows.ensures.rows c.in_ok-copies-in-Rows.ensures.some c.in-Rows.is c.requires.whole refl c.requires.whole refl refl refl
+    skips-run old _ _ c.in-Rows.layout c.in-Rows.moment copies.count copies.row c.in_ok-copies-in-Rows.ensures.rows c.in_ok-copies-in-Rows.ensures.levels c.in_ok-copies-in-Rows.ensures.some c.in-Rows.is c.requires.whole refl c.requires.whole refl refl refl

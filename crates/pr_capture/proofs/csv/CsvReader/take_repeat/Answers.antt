@@ -8,4 +8,4 @@ returns-in_ok-len-in-Rows-clause-read c =
     let old = c.args.self.now in
     let none : length old.line.items ≡ 0 = grind (arith, common_steps, c.is_empty.ensures, c.if-not-is_empty.false, old.line.ok.0) in
     let empty : old.line.items ≡ [] = none-begun old.line.items none in
-    read-repeat old _ _ c.in-Rows.layout c.in-Rows.moment c.in_ok-len-in-Rows.row c.in_ok-len-in-Rows.ensures.row c.in-Rows.is empty refl empty refl refl refl
+    read-repeat old _ _ c.in-Rows.layout c.in-Rows.moment c.in_ok-len-in-Rows.row c.in_ok-len-in-Rows.ensures.row c.in_ok-len-in-Rows.ensures.levels c.in-Rows.is empty refl empty refl refl refl

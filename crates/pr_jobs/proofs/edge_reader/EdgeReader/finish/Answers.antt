@@ -2,10 +2,10 @@ use Rattle.pr_jobs.specs.declared.edge_reader.LastEdges.{LastEdges}
 use Rattle.pr_jobs.proofs.InputLemmas.{says_open, says_refused}
 use Rattle.pr_jobs.proofs.edge_reader.EdgeReader.finish.Goals as goal
 
-pub returns-in_ok-push_last-in-Some-clause-says : goal.returns-in_ok-push_last-in-Some-clause-says
-returns-in_ok-push_last-in-Some-clause-says c =
-    let last : LastEdges = record { edges = c.push_last.new.edges; fault = c.args.self.fault } in
-    says_refused c.args.self c.in-Some.field-0 last c.in-Some.is c.in-Some.is c.in_ok-push_last-in-Some.ensures.known
+pub returns-in_ok-finish-in-Some-clause-says : goal.returns-in_ok-finish-in-Some-clause-says
+returns-in_ok-finish-in-Some-clause-says c =
+    let last : LastEdges = record { edges = c.finish.new.edges; fault = c.args.self.fault } in
+    says_refused c.args.self c.in-Some.field-0 last c.in-Some.is c.in-Some.is c.in_ok-finish-in-Some.ensures.all
 
 pub returns-in_ok-fault-in-None-clause-says : goal.returns-in_ok-fault-in-None-clause-says
 returns-in_ok-fault-in-None-clause-says c =
