@@ -53,7 +53,7 @@ const TAPE_FILES: &str =
 const NO_ADDRESS: &str =
     "the load address, the two bytes 1 and 8, is missing in front of this program: put it there";
 
-/// What is said of a saved program whose load address is followed by another one, or comes in the directory of a T64 file too.
+/// What is said of a saved program with another load address after its own, which of a T64 file is in the directory.
 const TWO_ADDRESSES: &str =
     "a second load address is in front of this program: save what begins with it as name.prg";
 
@@ -450,9 +450,13 @@ fn has_line_in_heading(text: &[u8]) -> bool {
     false
 }
 
-/// What is to be noted of the strings of a script: names of keys in brackets, or HTML's names. What is in a remark is no string.
+/// What is to be noted of the strings of a script: names of keys in brackets, or HTML's names. What is in a remark is no
+/// string.
 fn noted_in_strings(script: &[u8]) -> Option<&'static str> {
-    if !script.iter().any(|byte| matches!(*byte, b'[' | b'<' | b'&')) {
+    if !script
+        .iter()
+        .any(|byte| matches!(*byte, b'[' | b'<' | b'&'))
+    {
         return None;
     }
     let mut rest = script;

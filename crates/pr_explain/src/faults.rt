@@ -5,8 +5,8 @@ ghost use Rattle.pr_jobs.specs.Report.{IsOwnFault};
 ghost use Rattle.pr_explain.specs.TracePlaces.{capture_line, fault_line};
 
 use crate::names::{
-    first_field, has_column, has_signal, has_units, has_volts, is_number, is_signal, is_volts, push_dump_names,
-    push_same_names, push_table_names, separator_of,
+    first_field, has_column, has_signal, has_units, has_volts, is_number, is_signal, is_volts,
+    push_dump_names, push_same_names, push_table_names, separator_of,
 };
 use crate::tables::{
     begins_number, names_before, other_said, push_other_said, push_row_rule, push_times_rule,

@@ -5,7 +5,8 @@
 //! cannot be read and where its edges stop being lawful, with the edges that may follow there and
 //! by how much the interval was missed. [`explain_reading`] gives where a recording cannot be read
 //! further, [`explain_script`] the line and the column of a script's first fault ([`explain_letter`] what
-//! a letter of a listing is that the C64 does not have, [`html_instead`] what HTML's name for a character is), and [`explain_stop`]
+//! a letter of a listing is that the C64 does not have, [`html_instead`] what HTML's name for a character
+//! is), and [`explain_stop`]
 //! the line and the device of a statement at which a BASIC error stopped a run. [`rows_from`] gives
 //! the rows of the table of lawful traces at a place: an edge is taken there exactly if one of them
 //! has its levels and its time. [`rows_behind`] gives those that an edge after the last one can

@@ -269,7 +269,7 @@ pub fn html_instead(rest: &[u8]) -> Option<&'static str> {
     Some(sentence)
 }
 
-/// Whether what is in front, after the bytes `before` of its line, is of a checksum program, as it seems: it is alone before the
+/// Whether what is in front, after the bytes `before` of its line, is for a checksum program, as it seems: it is before the
 /// line's number, or at the line's end.
 fn is_checksum(before: &[u8], rest: &[u8]) -> bool {
     let len = checksum_len(rest);
@@ -283,8 +283,8 @@ fn is_checksum(before: &[u8], rest: &[u8]) -> bool {
     }
 }
 
-/// Whether a checksum in front may be at the end of a line, after these bytes and the last of them that is no blank: brackets
-/// may, and after a blank and a statement, letters and `*`; but letters after `;` are a variable.
+/// Whether a checksum in front may be at the end of a line, after these bytes and the last of them that is no blank:
+/// brackets may, and after a statement and a blank, letters and `*`; but letters after `;` are a variable.
 fn may_end(before: &[u8], last: u8, rest: &[u8]) -> bool {
     if matches!(rest, [b'<' | b'[', ..]) {
         return true;
@@ -297,7 +297,8 @@ fn may_end(before: &[u8], last: u8, rest: &[u8]) -> bool {
     }
 }
 
-/// How many bytes a checksum in front has: two capitals, `*` and digits, or what magazines put between brackets; 0 for others.
+/// How many bytes a checksum in front has: two capitals, `*` and digits, or what magazines put between brackets; 0 for
+/// others.
 fn checksum_len(rest: &[u8]) -> usize
     ensures { result ≤ length rest.now }
 {
@@ -313,8 +314,8 @@ fn checksum_len(rest: &[u8]) -> usize
     }
 }
 
-/// How many bytes a checksum between brackets has, with both: a number, or four capitals; 0 for others. The first one is before
-/// these bytes.
+/// How many bytes a checksum between brackets has, with both: a number, or four capitals; 0 for others. The first bracket
+/// is before these bytes.
 fn code_len(code: &[u8], end: u8) -> usize
     ensures { result ≤ length code.now + 1 }
 {
@@ -328,10 +329,8 @@ fn code_len(code: &[u8], end: u8) -> usize
 
 /// Whether a code is four capitals, and no key's name.
 fn is_four(code: &[u8]) -> bool {
-    matches!(
-        code,
-        [b'A'..=b'Z', b'A'..=b'Z', b'A'..=b'Z', b'A'..=b'Z']
-    ) && !SHORT_KEYS.contains(&code)
+    matches!(code, [b'A'..=b'Z', b'A'..=b'Z', b'A'..=b'Z', b'A'..=b'Z'])
+        && !SHORT_KEYS.contains(&code)
 }
 
 /// What to type for a letter that editors and web pages put in the place of a key of the C64, as UTF-8 has it or as one
