@@ -3,10 +3,10 @@
 use crate::lacking::{BOTH, hears, holds};
 use pr_basic::cut_line;
 use pr_capture::TraceInput;
-use pr_explain::unit_meant;
+use pr_explain::{html_instead, unit_meant};
 use pr_jobs::{HeldMarks, PagesEnd, shown_of};
 use pr_listing::{
-    ListingForm, has_typed_strings, is_t64, looks_like_disk, looks_saved, tape_files,
+    ListingForm, has_typed_strings, is_t64, looks_like_disk, looks_saved, program_in, tape_files,
 };
 use pr_options::{DecodeOutput, Job, PagesOutput};
 use pr_recording::{LeftOut, Overheard, Reprinted};
@@ -30,24 +30,38 @@ const HEADING_RETURNS: &str =
     "a heading of petcat's text has carriage returns in it, which do not end a line here, so what follows them is no line \
      of the program: if it was meant to be, save the text with LF or CR LF line ends";
 
-/// What is said of a script or a magazine's listing with names of keys in square brackets.
-const SQUARE_NAMES: &str =
-    "names of keys in square brackets are printed as they are: a magazine's listing (--from magazine) has them in braces, \
+/// What is said of a script or a magazine's listing with names of keys in square or angle brackets.
+const BRACKET_NAMES: &str =
+    "names of keys in square or angle brackets are printed as they are: a magazine's listing (--from magazine) has them in braces, \
      as {CLR}, and in [< and >] a key that is typed with the Commodore key, as [<A>]";
 
-/// The names of keys that some magazines print in square brackets.
+/// The names of keys that some magazines print in square or angle brackets.
 const KEY_NAMES: [&str; 13] = [
     "CLR", "CLEAR", "HOME", "UP", "DOWN", "LEFT", "RIGHT", "RVS", "RVS ON", "RVS OFF", "SPACE",
     "SPACES", "SPC",
 ];
 
-/// The most bytes that stand between square brackets around the name of a key: a count, a space and a name.
+/// The most bytes that stand between brackets around the name of a key: a count, a space and a name.
 const LONGEST_NAME: usize = 11;
 
 /// What is said of a T64 file with more than one program.
 const TAPE_FILES: &str =
     "this T64 file has several programs, of which the first one is read; an emulator loads another, \
      and saves that as name.prg";
+
+/// What is said of a saved program without its load address.
+const NO_ADDRESS: &str =
+    "the load address, the two bytes 1 and 8, is missing in front of this program: put it there";
+
+/// What is said of a saved program with another load address after its own, which of a T64 file is in the directory.
+const TWO_ADDRESSES: &str =
+    "a second load address is in front of this program: save what begins with it as name.prg";
+
+/// The address of a BASIC program's first byte.
+const BASIC_START: usize = 0x0801;
+
+/// How many bytes a line of a saved program has beside its own: a link, a number and a 0.
+const LINE_FRAME: usize = 5;
 
 /// What is said of a run that a BASIC error stopped.
 const STOPPED: &str = "a BASIC error stopped the run; --explain says which one, and where";
@@ -94,8 +108,10 @@ pub fn note_script(rt: &impl Eprint, script: &[u8], form: ListingForm) {
     if is_script(form) && is_typed(script) {
         note(rt, TYPED_STRINGS);
     }
-    if (is_script(form) || form == ListingForm::Magazine) && has_square_names(script) {
-        note(rt, SQUARE_NAMES);
+    if is_script(form) || form == ListingForm::Magazine {
+        if let Some(text) = noted_in_strings(script) {
+            note(rt, text);
+        }
     }
     if let Some(line) = line_with_return(script) {
         let _ = rt.eprintln(format_args!(
@@ -117,6 +133,10 @@ pub enum ListingNote {
     HeadingReturns,
     /// The strings of petcat's text have more capitals than small letters.
     PetcatCapitals,
+    /// A saved program has no load address, as it seems.
+    NoAddress,
+    /// It has two.
+    TwoAddresses,
     /// A T64 file has more than one program.
     TapeFiles,
 }
@@ -134,20 +154,49 @@ pub fn petcat_note(text: &[u8]) -> ListingNote {
 
 /// What is to be noted of the file of a saved program.
 pub fn program_note(file: &[u8]) -> ListingNote {
-    if is_t64(file) && tape_files(file) > 1 {
-        ListingNote::TapeFiles
-    } else {
-        ListingNote::Nothing
+    match address_note(file) {
+        ListingNote::Nothing if is_t64(file) && tape_files(file) > 1 => ListingNote::TapeFiles,
+        noted => noted,
+    }
+}
+
+/// What is to be noted of the load address of a saved program.
+pub fn address_note(file: &[u8]) -> ListingNote {
+    match program_in(file) {
+        [_, _, 1, 8, program @ ..] if begins_line(program) => ListingNote::TwoAddresses,
+        program if !is_t64(file) && begins_line(program) => ListingNote::NoAddress,
+        _ => ListingNote::Nothing,
+    }
+}
+
+/// Whether bytes begin with a line of a saved program, whose link is the address after it where BASIC programs begin.
+fn begins_line(bytes: &[u8]) -> bool {
+    let [low, high, _, _, line @ ..] = bytes else {
+        return false;
+    };
+    let link = usize::from(*low) + 256 * usize::from(*high);
+    match line.iter().position(|byte| *byte == 0) {
+        Some(size) => link.checked_sub(BASIC_START + LINE_FRAME) == Some(size),
+        None => false,
     }
 }
 
 /// Writes a note of a listing.
 pub fn note_listing(rt: &impl Eprint, noted: ListingNote) {
+    if let Some(text) = listing_text(noted) {
+        note(rt, text);
+    }
+}
+
+/// The text of a note of a listing.
+pub fn listing_text(noted: ListingNote) -> Option<&'static str> {
     match noted {
-        ListingNote::Nothing => {}
-        ListingNote::HeadingReturns => note(rt, HEADING_RETURNS),
-        ListingNote::PetcatCapitals => note(rt, PETCAT_CAPITALS),
-        ListingNote::TapeFiles => note(rt, TAPE_FILES),
+        ListingNote::Nothing => None,
+        ListingNote::HeadingReturns => Some(HEADING_RETURNS),
+        ListingNote::PetcatCapitals => Some(PETCAT_CAPITALS),
+        ListingNote::NoAddress => Some(NO_ADDRESS),
+        ListingNote::TwoAddresses => Some(TWO_ADDRESSES),
+        ListingNote::TapeFiles => Some(TAPE_FILES),
     }
 }
 
@@ -401,41 +450,58 @@ fn has_line_in_heading(text: &[u8]) -> bool {
     false
 }
 
-/// Whether a string of a script has the name of a key in square brackets. What is in a remark is no string.
-fn has_square_names(script: &[u8]) -> bool {
-    if !script.iter().any(|byte| *byte == b'[') {
-        return false;
+/// What is to be noted of the strings of a script: names of keys in brackets, or HTML's names. What is in a remark is no
+/// string.
+fn noted_in_strings(script: &[u8]) -> Option<&'static str> {
+    if !script
+        .iter()
+        .any(|byte| matches!(*byte, b'[' | b'<' | b'&'))
+    {
+        return None;
     }
     let mut rest = script;
     while !rest.is_empty() {
         let (line, more) = cut_line(rest);
         let before = line.len().saturating_sub(remark_of(line).len());
-        if has_square_name(&line[..before]) {
-            return true;
+        let noted = noted_in_line(&line[..before]);
+        if noted.is_some() {
+            return noted;
         }
         rest = more;
     }
-    false
+    None
 }
 
-/// Whether a string has such a name, in the part of a line before its remark.
-fn has_square_name(front: &[u8]) -> bool {
+/// What is to be noted of the strings in the part of a line before its remark.
+fn noted_in_line(front: &[u8]) -> Option<&'static str> {
     let mut is_quoted = false;
     for i in 0..front.len() {
-        match front[i] {
-            b'"' => is_quoted = !is_quoted,
-            b'[' if is_quoted && begins_square_name(&front[i + 1..]) => return true,
-            _ => {}
+        if front[i] == b'"' {
+            is_quoted = !is_quoted;
+        } else if is_quoted {
+            let noted = noted_at(&front[i..]);
+            if noted.is_some() {
+                return noted;
+            }
         }
     }
-    false
+    None
 }
 
-/// Whether bytes begin with the name of a key and a square bracket behind it.
-fn begins_square_name(bytes: &[u8]) -> bool {
+/// What is to be noted of what is in front in a string.
+fn noted_at(bytes: &[u8]) -> Option<&'static str> {
+    match bytes {
+        [b'[', name @ ..] if begins_name(name, b']') => Some(BRACKET_NAMES),
+        [b'<', name @ ..] if begins_name(name, b'>') => Some(BRACKET_NAMES),
+        _ => html_instead(bytes),
+    }
+}
+
+/// Whether bytes begin with the name of a key and this bracket behind it.
+fn begins_name(bytes: &[u8], bracket: u8) -> bool {
     for (i, byte) in bytes.iter().enumerate() {
-        if *byte == b']' {
-            return is_square_name(&bytes[..i]);
+        if *byte == bracket {
+            return is_name(&bytes[..i]);
         }
         if i == LONGEST_NAME || *byte == b'"' {
             return false;
@@ -444,8 +510,8 @@ fn begins_square_name(bytes: &[u8]) -> bool {
     false
 }
 
-/// Whether a name between square brackets is a key's, maybe behind a count: a word, or one byte between `<` and `>`.
-fn is_square_name(name: &[u8]) -> bool {
+/// Whether a name between brackets is a key's, maybe behind a count: a word, or one byte between `<` and `>`.
+fn is_name(name: &[u8]) -> bool {
     if matches!(name, [b'<', _, b'>'] | [b'<', _, b' ', _, b'>']) {
         return true;
     }

@@ -1,11 +1,13 @@
 //! What more there is to say of a job's input, on standard error.
 
-use crate::notes::{is_script, is_typed, note_bytes, note_script, note_unit};
+use crate::notes::{
+    address_note, is_script, is_typed, listing_text, note_bytes, note_script, note_unit,
+};
 use pr_basic::{ScriptFault, StatusMode, cut_line};
 use pr_capture::{Source, TraceFormat, TraceInput};
 use pr_explain::{
     Explanation, ScriptPlace, explain_letter, explain_line, explain_reading, explain_script,
-    explain_stop, explain_trace, remark_on,
+    explain_stop, explain_trace, html_instead, remark_on,
 };
 use pr_jobs::{CliFault, PictureFault, RunEnd};
 use pr_listing::{
@@ -179,7 +181,7 @@ pub fn tell_more(
     answer: Result<RunEnd, CliFault>,
 ) {
     show(rt, told(rt, bytes, listing, subject, answer));
-    show_hint(rt, hint_of(bytes, subject, answer));
+    show_hint(rt, hint_of(bytes, listing, subject, answer));
 }
 
 /// Writes what is to be noted of an input whose job is answered.
@@ -295,11 +297,12 @@ fn sheets_told(rt: &impl AllocGlobal, fault: PictureFault) -> Result<String, All
 /// What an input may be meant for, by the answer of its job.
 fn hint_of(
     bytes: &[u8],
+    listing: Option<Listing<'_>>,
     subject: Subject<'_>,
     answer: Result<RunEnd, CliFault>,
 ) -> Option<&'static str> {
     match (subject, answer) {
-        (Subject::Script(job), _) => script_hint(bytes, job.form, answer),
+        (Subject::Script(job), _) => script_hint(bytes, listing, job.form, answer),
         _ => None,
     }
 }
@@ -308,14 +311,22 @@ fn hint_of(
 /// digit.
 fn script_hint(
     script: &[u8],
+    listing: Option<Listing<'_>>,
     form: ListingForm,
     answer: Result<RunEnd, CliFault>,
 ) -> Option<&'static str> {
     let Err(CliFault::Script(fault)) = answer else {
         return None;
     };
+    let file = match listing {
+        Some(listing) => listing.bytes,
+        None => script,
+    };
+    let address = listing_text(address_note(file));
     if found_form(script) == ListingForm::Program {
         Some(SAVED_PROGRAM)
+    } else if address.is_some() {
+        address
     } else if is_wide(script) {
         Some(WIDE_SCRIPT)
     } else if ends_with_mark(script, fault) {
@@ -403,7 +414,9 @@ pub fn tell_listing(
 
 /// What is said of a file without a saved program.
 fn program_form(bytes: &[u8]) -> &'static str {
-    if is_p00(bytes) {
+    if let Some(text) = listing_text(address_note(bytes)) {
+        text
+    } else if is_p00(bytes) {
         P00_FORM
     } else if is_t64(bytes) {
         T64_FORM
@@ -430,7 +443,8 @@ fn tell_byte(rt: &(impl Eprint + AllocGlobal), form: ListingForm, line: &[u8], b
     } else {
         show(rt, explain_letter(rt.alloc(), rest));
     }
-    show_hint(rt, Some(bytes_in(form, front, rest)));
+    let html = html_instead(&line[front.len().saturating_sub(1)..]);
+    show_hint(rt, Some(html.unwrap_or(bytes_in(form, front, rest))));
 }
 
 /// What is said of a listing in a form with a byte that its strings never have, in front of `rest`.

@@ -148,7 +148,7 @@ fn wants_more(context: Context, before: &[u8]) -> bool {
 }
 
 /// The last byte that is no space or tab.
-fn last_of(bytes: &[u8]) -> Option<u8> {
+pub fn last_of(bytes: &[u8]) -> Option<u8> {
     bytes
         .iter()
         .copied()
@@ -211,7 +211,7 @@ pub fn cut_before(before: &[u8]) -> Before<'_> {
 }
 
 /// What follows spaces, tabs and digits.
-fn without_label(part: &[u8]) -> &[u8] {
+pub fn without_label(part: &[u8]) -> &[u8] {
     for (i, byte) in part.iter().enumerate() {
         if *byte != b' ' && *byte != b'\t' && !byte.is_ascii_digit() {
             return &part[i..];

@@ -5,8 +5,8 @@ ghost use Rattle.pr_jobs.specs.Report.{IsOwnFault};
 ghost use Rattle.pr_explain.specs.TracePlaces.{capture_line, fault_line};
 
 use crate::names::{
-    first_field, has_column, has_units, has_volts, is_number, is_signal, is_volts, push_dump_names,
-    push_same_names, push_table_names, separator_of,
+    first_field, has_column, has_signal, has_units, has_volts, is_number, is_signal, is_volts,
+    push_dump_names, push_same_names, push_table_names, separator_of,
 };
 use crate::tables::{
     begins_number, names_before, other_said, push_other_said, push_row_rule, push_times_rule,
@@ -136,17 +136,12 @@ pub fn push_fault(
     let signals = input.signals;
     match (fault, input.source) {
         (CliFault::Capture(CaptureFault::NoSignal(_, wire)), Source::Vcd) => {
-            push_missing(text, wire, signals)?;
+            push_no_signal(alloc, text, bytes, wire, signals)?;
             push_dump_names(alloc, text, bytes)
         }
         (CliFault::Capture(CaptureFault::TwoSignals(_, wire)), Source::Vcd) => {
             let (_, name) = line_and_name(wire, signals);
-            let second = if wire == Wire::Clock {
-                b"CLK".as_slice()
-            } else {
-                name
-            };
-            push_same_names(alloc, text, bytes, name, second)
+            push_same_names(alloc, text, bytes, name, second_name(wire, name))
         }
         (CliFault::Capture(fault), Source::Vcd) => {
             let rule = no_dump_hint(bytes, fault).unwrap_or(rule_of_dumps(fault));
@@ -220,6 +215,41 @@ fn line_and_name<'a>(wire: Wire, signals: Signals<'a>) -> (&'static str, &'a [u8
     }
 }
 
+/// The other name that the signal of a line of the bus may have; the same where there is none.
+fn second_name<'a>(wire: Wire, name: &'a [u8]) -> &'a [u8] {
+    if wire == Wire::Clock {
+        b"CLK".as_slice()
+    } else {
+        name
+    }
+}
+
+/// Adds which name no signal of a dump has, or that another line of the bus has its signal.
+fn push_no_signal(
+    alloc: Global,
+    text: &mut String,
+    dump: &[u8],
+    wire: Wire,
+    signals: Signals<'_>,
+) -> Result<(), NoMemory> {
+    let (own, name) = line_and_name(wire, signals);
+    for known in [name, second_name(wire, name)] {
+        if has_signal(alloc, dump, known)? {
+            return push_shared(text, "signal", known, own);
+        }
+    }
+    push_missing(text, wire, signals)
+}
+
+/// Adds that another line of the bus has this signal or column.
+fn push_shared(text: &mut String, kind: &str, name: &[u8], own: &str) -> Result<(), NoMemory> {
+    let name = Cut(name);
+    write!(
+        text,
+        "  the {kind} {name} is that of another line already: {own} needs one of its own\n"
+    )
+}
+
 /// Adds which name no signal of a recording has.
 fn push_missing(text: &mut String, wire: Wire, signals: Signals<'_>) -> Result<(), NoMemory> {
     let (line, name) = line_and_name(wire, signals);
@@ -240,11 +270,7 @@ fn push_unmeant(
 ) -> Result<(), NoMemory> {
     let (own, name) = line_and_name(wire, signals);
     if has_column(separator, line, name) {
-        let name = Cut(name);
-        return write!(
-            text,
-            "  the column {name} is that of another line already: {own} needs one of its own\n"
-        );
+        return push_shared(text, "column", name, own);
     }
     push_missing(text, wire, signals)
 }

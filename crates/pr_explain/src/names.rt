@@ -62,6 +62,18 @@ pub fn push_dump_names(alloc: Global, text: &mut String, dump: &[u8]) -> Result<
     Ok(())
 }
 
+/// Whether a name means a signal of a dump. A bit of one with a range is none.
+pub fn has_signal(alloc: Global, dump: &[u8], name: &[u8]) -> Result<bool, NoMemory> {
+    let paths = paths_in(alloc, dump)?;
+    let called = paths_called(alloc, paths.as_slice(), name)?;
+    for path in &called {
+        if !path.contains(&b':') {
+            return Ok(true);
+        }
+    }
+    Ok(false)
+}
+
 /// Adds the paths of the signals of a dump that one name means, or else a second name, and how one of them
 /// is named.
 pub fn push_same_names(

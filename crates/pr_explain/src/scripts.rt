@@ -205,7 +205,8 @@ fn word_in(line: CutLine<'_>) -> &[u8] {
     &line.rest[..len]
 }
 
-/// Says of a string's bytes that the letter in front is none of the C64, and what to type instead; nothing of a letter of ASCII.
+/// Says of a string's bytes that the letter in front is none of the C64, and what to type instead; of ASCII's bytes
+/// only that some are to be left out.
 ///
 /// # Errors
 ///
@@ -216,7 +217,7 @@ pub fn explain_letter(alloc: Global, rest: &[u8]) -> Result<String, NoMemory> {
     Ok(text)
 }
 
-/// Adds that the letter in front is none of the C64, by its bytes, where it is none of ASCII.
+/// Adds that the letter in front is none of the C64, by its bytes, where it is none of ASCII, and what to type instead.
 fn push_letter(text: &mut String, rest: &[u8]) -> Result<(), NoMemory> {
     let letter = letter_in(rest);
     match letter {
@@ -230,7 +231,7 @@ fn push_letter(text: &mut String, rest: &[u8]) -> Result<(), NoMemory> {
             "  the letter {}, as UTF-8 has it, is no character of the C64 as typed\n",
             Escaped(letter)
         ),
-        _ => return Ok(()),
+        _ => Ok(()),
     }?;
     match typed_instead(letter, true) {
         Some(sentence) => write!(text, "  {sentence}\n"),

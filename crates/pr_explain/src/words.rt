@@ -1,7 +1,8 @@
 //! The word at a place of a script.
 
-ghost use Rattle.std.specs.Prelude.{◌≤◌, length, IfSome};
+ghost use Rattle.std.specs.Prelude.{◌≤◌, ◌+◌, length, IfSome};
 
+use crate::context::{last_of, without_label};
 use pr_base::digit_count;
 use pr_basic::lexeme_at;
 
@@ -192,6 +193,17 @@ fn letter_count(rest: &[u8]) -> usize
 /// What a message says of a variable.
 const VARIABLE: &str = "variables are not supported; write the value";
 
+/// What a message says of a key's name outside strings.
+const KEY_OUTSIDE: &str =
+    "a name of a key belongs in a string, of petcat's text (--from petcat) or a magazine's listing (--from magazine)";
+
+/// What a message says of what a magazine prints beside a line for a program that checks the typing.
+const CHECKSUM: &str =
+    "letters or numbers of a checksum program before or after the lines are no BASIC: leave them out";
+
+/// Names of keys that are as long as such letters between square brackets.
+const SHORT_KEYS: [&[u8]; 3] = [b"HOME", b"DOWN", b"LEFT"];
+
 /// What a text has that is common in BASIC or in files, and that this profile does not have.
 #[derive(Clone, Copy)]
 pub enum Foreign {
@@ -206,6 +218,7 @@ pub enum Foreign {
 /// byte 10, and byte 13 directly before it or before the text's end.
 pub fn foreign_word(before: &[u8], rest: &[u8], wants_number: bool) -> Option<Foreign> {
     let sentence = match rest {
+        _ if is_checksum(before, rest) => CHECKSUM,
         [b'?', after @ ..] if matches!(after_blanks(after), [b'#', ..]) => {
             "BASIC does not read ?# as PRINT#; write PRINT#"
         }
@@ -229,17 +242,104 @@ fn foreign_sentence(before: &[u8], rest: &[u8]) -> Option<Foreign> {
         [b'\r', ..] => {
             "a carriage return alone does not end a line; save the script with LF or CR LF line ends"
         }
-        [0xef, 0xbb, 0xbf, ..] => "this is a byte order mark; save the script without it",
         [1, 8, ..] if before.is_empty() => "this is a tokenised program",
+        [b'{', ..] | [b'[', b'<' | b'A'..=b'Z' | b'a'..=b'z', ..] => KEY_OUTSIDE,
+        [b'&', ..] => html_instead(rest)?,
         _ => typed_instead(letter_in(rest), false)?,
     };
     Some(Foreign::Sentence(sentence))
+}
+
+/// What to say of HTML's name for a character in front.
+pub fn html_instead(rest: &[u8]) -> Option<&'static str> {
+    let sentence = match rest {
+        [b'&', b'q', b'u', b'o', b't', b';', ..] => {
+            "&quot; is HTML's for \": save the listing as plain text"
+        }
+        [b'&', b'l', b't', b';', ..] => "&lt; is HTML's for <: save the listing as plain text",
+        [b'&', b'g', b't', b';', ..] => "&gt; is HTML's for >: save the listing as plain text",
+        [b'&', b'a', b'm', b'p', b';', ..] => {
+            "&amp; is HTML's for &: save the listing as plain text"
+        }
+        [b'&', b'n', b'b', b's', b'p', b';', ..] => {
+            "&nbsp; is HTML's for a space: save the listing as plain text"
+        }
+        _ => return None,
+    };
+    Some(sentence)
+}
+
+/// Whether what is in front, after the bytes `before` of its line, is for a checksum program, as it seems: it is before the
+/// line's number, or at the line's end.
+fn is_checksum(before: &[u8], rest: &[u8]) -> bool {
+    let len = checksum_len(rest);
+    if len == 0 || word_at(rest).is_foreign() {
+        return false;
+    }
+    let after = after_blanks(&rest[len..]);
+    match last_of(before) {
+        None => matches!(after, [b'0'..=b'9', ..]) && !rest.starts_with(b"*"),
+        Some(last) => after.is_empty() && may_end(before, last, rest),
+    }
+}
+
+/// Whether a checksum in front may be at the end of a line, after these bytes and the last of them that is no blank:
+/// brackets may, and after a statement and a blank, letters and `*`; but letters after `;` are a variable.
+fn may_end(before: &[u8], last: u8, rest: &[u8]) -> bool {
+    if matches!(rest, [b'<' | b'[', ..]) {
+        return true;
+    }
+    let is_apart = matches!(before, [.., b' ' | b'\t']) && !without_label(before).is_empty();
+    match last {
+        b'"' | b')' | b'0'..=b'9' => is_apart,
+        b';' => is_apart && rest.starts_with(b"*"),
+        _ => false,
+    }
+}
+
+/// How many bytes a checksum in front has: two capitals, `*` and digits, or what magazines put between brackets; 0 for
+/// others.
+fn checksum_len(rest: &[u8]) -> usize
+    ensures { result ≤ length rest.now }
+{
+    match rest {
+        [b'A'..=b'Z', b'A'..=b'Z'] | [b'A'..=b'Z', b'A'..=b'Z', b' ' | b'\t', ..] => 2,
+        [b'*', digits @ ..] => match digit_count(digits) {
+            0 => 0,
+            count => 1 + count,
+        },
+        [b'<', code @ ..] => code_len(code, b'>'),
+        [b'[', code @ ..] => code_len(code, b']'),
+        _ => 0,
+    }
+}
+
+/// How many bytes a checksum between brackets has, with both: a number, or four capitals; 0 for others. The first bracket
+/// is before these bytes.
+fn code_len(code: &[u8], end: u8) -> usize
+    ensures { result ≤ length code.now + 1 }
+{
+    let count = letter_count(code);
+    let is_code = count > 0 && (digit_count(code) == count || is_four(&code[..count]));
+    match &code[count..] {
+        [next, ..] if is_code && *next == end => count + 2,
+        _ => 0,
+    }
+}
+
+/// Whether a code is four capitals, and no key's name.
+fn is_four(code: &[u8]) -> bool {
+    matches!(code, [b'A'..=b'Z', b'A'..=b'Z', b'A'..=b'Z', b'A'..=b'Z'])
+        && !SHORT_KEYS.contains(&code)
 }
 
 /// What to type for a letter that editors and web pages put in the place of a key of the C64, as UTF-8 has it or as one
 /// byte of Windows: in a string, or outside of one.
 pub fn typed_instead(letter: &[u8], is_in_string: bool) -> Option<&'static str> {
     let sentence = match letter {
+        [12] => "the byte 12 is a form feed; leave it out",
+        [127] => "the byte 127 is a delete code; leave it out",
+        [0xef, 0xbb, 0xbf] => "this is a byte order mark; save the script without it",
         [0xc2, 0xa0] | [0xe2, 0x80, 0xaf] | [0xa0] => "this is a no-break space; type a space",
         [0xc2, 0xa3] | [0xa3] => {
             "this is a pound sign, which the C64 has in the place of \\; type \\"

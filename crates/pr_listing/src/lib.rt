@@ -41,7 +41,7 @@ mod program;
 mod token_names;
 mod typed;
 
-pub use containers::{is_p00, is_t64, tape_files};
+pub use containers::{is_p00, is_t64, program_in, tape_files};
 pub use fault::ListingFault;
 pub use form::{
     ListingForm, Refusal, each_listing_has_one_text_or_one_fault, plain_form, read_listing,
