@@ -15,8 +15,8 @@ use crate::clap_command::make_command;
 use crate::delays::{DelayFault, read_delays};
 use crate::option_values::{
     read_before, read_decode_output, read_form, read_format, read_from_time, read_given_rate,
-    read_glitch, read_inverted, read_pages_output, read_present, read_reading_source, read_report, read_set,
-    read_source, read_status, read_threshold, read_trace_format,
+    read_glitch, read_inverted, read_pages_output, read_present, read_reading_source, read_report,
+    read_set, read_source, read_status, read_threshold, read_trace_format,
 };
 use crate::options::{INPUT, OUTPUT, Opt};
 use crate::outputs::{CheckOutput, DecodeOutput, PagesOutput};

@@ -41,11 +41,7 @@ fn leaves(
 const ROWS: [(u64, &str, &str); 8] = [
     (1, "", ""),
     (1, "0 111\n100 110\n101 111\n", "0 111\n"),
-    (
-        1,
-        "0 111\n100 110\n102 111\n",
-        "0 111\n100 110\n102 111\n",
-    ),
+    (1, "0 111\n100 110\n102 111\n", "0 111\n100 110\n102 111\n"),
     (2, "0 111\n100 110\n102 111\n", "0 111\n"),
     (1, "0 111\n99 110\n100 101\n", "0 111\n100 101\n"),
     (
@@ -66,7 +62,8 @@ fn pulses_are_left_out(rt: HostRuntime) -> Result<(), Fail> {
 }
 
 /// Twenty changes of DATA, a microsecond apart, and then one of ATN: more edges than a filter holds back.
-const BOUNCES: &str = "0 111\n1 110\n2 111\n3 110\n4 111\n5 110\n6 111\n7 110\n8 111\n9 110\n10 111\n11 110\n12 111\n\
+const BOUNCES: &str =
+    "0 111\n1 110\n2 111\n3 110\n4 111\n5 110\n6 111\n7 110\n8 111\n9 110\n10 111\n11 110\n12 111\n\
     13 110\n14 111\n15 110\n16 111\n17 110\n18 111\n19 110\n20 111\n50 011\n";
 
 #[test]
