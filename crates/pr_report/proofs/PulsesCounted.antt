@@ -1,5 +1,6 @@
 -- Brief pulses, as more edges come.
-use Rattle.std.proofs.Common.{◌≡◌, ℕ, ◌+◌, ◌-◌, ◌^◌, ◌<◌, min, List, [], ◌∷◌, ◌++◌, length, get_or, take, Option, Some, None, refl, sym, ap, ◌∙◌, subst, arith, append_assoc, append-nil}
+use Rattle.std.proofs.Common.{◌≡◌, ℕ, ◌+◌, ◌-◌, ◌^◌, ◌<◌, ◌≤◌, min, List, [], ◌∷◌, ◌++◌, length, get_or, take, Option, Some, None, refl, sym, ap, ◌∙◌, subst, add-one, arith, append_assoc, append-nil}
+use Rattle.std.specs.Prelude.{zero, suc}
 use Rattle.std.proofs.lemmas.List.{take_all}
 use Rattle.pr_wire.specs.declared.Edge.{Edge}
 use Rattle.pr_report.specs.declared.brief_pulses.PulseCount.{PulseCount}
@@ -46,3 +47,27 @@ pulses-more old new f count last = λ es h. record {
   count = count-more old.count new.count (brief_pulses es) (brief_with old.last f) (brief_pulses (es ++ f ∷ [])) h.count count
       (brief-more es f ∙ ap (λ o. brief_pulses es + brief_with o f) (sym h.last));
 }
+
+-- edges that come one after another
+pub pulses-none : (old : PulseCount) → (es : List Edge) → HasPulses es old → HasPulses (es ++ []) old
+pulses-none old = λ es h. let P : List Edge → Type 0 = λ l. HasPulses l old in subst P (sym (append-nil es)) h
+
+front-more : {X : Type 0} (xs : List X) (i : ℕ) (d : X) → i < length xs → take (suc i) xs ≡ take i xs ++ get_or xs i d ∷ []
+front-more [] i d h = absurd (omega (arith, h))
+front-more (x ∷ xs) zero d h = refl
+front-more (x ∷ xs) (suc i) d h = let k : i < length xs = omega (arith, h) in ap (λ l. x ∷ l) (front-more xs i d k)
+
+pub pulses-next : (fs : List Edge) (i : ℕ) (d : Edge) (old mid new : PulseCount) → i < length fs
+    → ((es : List Edge) → HasPulses es old → HasPulses (es ++ take i fs) mid) → ((es : List Edge) → HasPulses es mid → HasPulses (es ++ get_or fs i d ∷ []) new)
+    → (es : List Edge) → HasPulses es old → HasPulses (es ++ take (i + 1) fs) new
+pulses-next fs i d old mid new within before next = λ es h.
+    let P : List Edge → Type 0 = λ l. HasPulses l new in
+    let same : (es ++ take i fs) ++ get_or fs i d ∷ [] ≡ es ++ take (i + 1) fs =
+        append_assoc es (take i fs) (get_or fs i d ∷ []) ∙ ap (λ l. es ++ l) (sym (rw add-one (front-more fs i d within))) in
+    subst P same (next (es ++ take i fs) (before es h))
+
+pub pulses-all : (fs : List Edge) (i : ℕ) (old new : PulseCount) → length fs ≤ i → ((es : List Edge) → HasPulses es old → HasPulses (es ++ take i fs) new)
+    → (es : List Edge) → HasPulses es old → HasPulses (es ++ fs) new
+pulses-all fs i old new whole all = λ es h.
+    let P : List Edge → Type 0 = λ l. HasPulses (es ++ l) new in
+    subst P (take_all i fs whole) (all es h)
