@@ -46,10 +46,10 @@ use Rattle.pr_recording.specs.declared.byte_log.Heard.{Heard}
 use Rattle.pr_recording.specs.declared.bytes.Overheard.{Overheard}
 use Rattle.pr_recording.specs.declared.listening.Listening.{Listening}
 use Rattle.pr_recording.specs.declared.pages.Reprinted.{Reprinted}
-use Rattle.pr_recording.specs.declared.wording.Wording.TheVariants.{Lines}
+use Rattle.pr_recording.specs.declared.wording.Wording.TheVariants.{Json, Lines}
 use Rattle.pr_recording.specs.Bytes.{AnswersBytes, HasReadBytes}
 use Rattle.pr_recording.specs.Checked.{AnswersJson}
-use Rattle.pr_recording.specs.Decoded.{AnswersDecode, AnswersDecodeJson, IsDecodeFault, without_odd}
+use Rattle.pr_recording.specs.Decoded.{AnswersDecode, IsDecodeFault}
 use Rattle.pr_recording.specs.Decoded as decode
 use Rattle.pr_recording.specs.Pages as reprint
 use Rattle.pr_recording.specs.RunBytes.{AnswersRunBytes}
@@ -135,7 +135,13 @@ IsReprinted answers (Ok (answer.Reprinted said)) = answers (Ok said)
 IsReprinted answers (Ok _) = ⊥
 IsReprinted answers (Err fault) = answers (Err fault)
 
--- the same with what is odd about a recording whose JSON does not say it
+-- the same with what is odd about a recording that is listed
+abbrev pub IsListed : (Result Oddities CliFault → Type 0) → Result Answer CliFault → Type 0
+IsListed answers (Ok (answer.Listed odd)) = answers (Ok odd)
+IsListed answers (Ok _) = ⊥
+IsListed answers (Err fault) = answers (Err fault)
+
+-- the same with what is odd about one whose JSON does not say it
 abbrev pub IsRemarked : (Result Oddities CliFault → Type 0) → Result Answer CliFault → Type 0
 IsRemarked answers (Ok (answer.Remarked odd)) = answers (Ok odd)
 IsRemarked answers (Ok _) = ⊥
@@ -168,9 +174,9 @@ listening_of h = record { printers = h.listening; lower = h.lower }
 abbrev pub AnswersRecording :
     Shapes → TraceInput → DecodeOutput → List ℕ → Option (List ℕ) → Option (List ℕ) → Result Answer CliFault → Type 0
 AnswersRecording shapes input (reading.Readings detail) text old new result =
-    IsDone (AnswersDecode trace_limit (Lines detail) input text old new) result
+    IsListed (AnswersDecode trace_limit (Lines detail) input text old new) result
 AnswersRecording shapes input reading.Json text old new result =
-    IsRemarked (AnswersDecodeJson input text old new) result
+    IsRemarked (AnswersDecode trace_limit Json input text old new) result
 AnswersRecording shapes input (reading.Bytes device hearing) text old new result =
     IsOverheard (AnswersBytes input (listening_of hearing) device text old new) result
 AnswersRecording shapes input (reading.Pages f hearing) text old new result =
@@ -300,8 +306,8 @@ IsJobFault (Raw lower f) fault = IsRawFault fault
 abbrev pub ReadsRecording : DecodeOutput → Option (List ℕ) → Result Answer CliFault → Type 0
 ReadsRecording (reading.Bytes device hearing) left result = IsOverheard (HasReadBytes left) result
 ReadsRecording (reading.Pages f hearing) left result = IsReprinted (reprint.ReadsPages left) result
-ReadsRecording reading.Json left result = IsRemarked (λ answer. decode.ReadsAll left (without_odd answer)) result
-ReadsRecording _ left result = IsDone (decode.ReadsAll left) result
+ReadsRecording reading.Json left result = IsRemarked (decode.ReadsAll left) result
+ReadsRecording (reading.Readings detail) left result = IsListed (decode.ReadsAll left) result
 
 -- a trace has been read to its end where it is accepted, and where its edges are refused
 abbrev pub ReadsTrace : CheckOutput → Option (List ℕ) → Result (Unit {0}) CliFault → Type 0

@@ -20,7 +20,7 @@ use Rattle.pr_jobs.specs.declared.run.RunEnd.TheVariants as run
 use Rattle.pr_recording.specs.declared.left_out.LeftOut.{LeftOut}
 use Rattle.pr_serial.specs.declared.Present.{Present}
 use Rattle.pr_cli.specs.declared.jobs.Answer.{Answer}
-use Rattle.pr_cli.specs.declared.jobs.Answer.TheVariants.{Ended, Ran, Printed, Heard, Overheard, Reprinted, Remarked}
+use Rattle.pr_cli.specs.declared.jobs.Answer.TheVariants.{Ended, Ran, Printed, Heard, Overheard, Reprinted, Listed, Remarked}
 use Rattle.pr_cli.specs.declared.statuses.End.{End}
 use Rattle.pr_cli.specs.declared.statuses.End.TheVariants as end
 
@@ -42,6 +42,7 @@ answer_end (Printed pages) = run_ended pages.run
 answer_end (Heard ran heard) = run_ended ran
 answer_end (Overheard said) = end.Done
 answer_end (Reprinted said) = end.Done
+answer_end (Listed odd) = end.Done
 answer_end (Remarked odd) = end.Done
 
 -- an answer lacks something that a recording has, where the pages or the bytes of these printers are shown: bytes that are left

@@ -22,8 +22,8 @@ use crate::shown::Shown;
 use crate::starts::started_job;
 use crate::statuses::{End, FAILED, is_answered};
 use crate::told::{
-    Listing, Subject, has_more, has_notes, is_notable, listing_of, show_oddities, subject_of,
-    tell_heard, tell_listing, tell_more, tell_notes,
+    Listing, Subject, has_more, has_notes, is_notable, listing_of, show_brief, show_oddities,
+    subject_of, tell_heard, tell_listing, tell_more, tell_notes,
 };
 use pr_dots::Shapes;
 use pr_files::{Noting, Unsaved, save};
@@ -690,8 +690,13 @@ fn run_end_of(answer: Result<Answer, CliFault>) -> Result<RunEnd, CliFault> {
     match answer {
         Ok(Answer::Ran(end) | Answer::Heard(end, _)) => Ok(end),
         Ok(Answer::Printed(pages)) => Ok(pages.run),
-        Ok(Answer::Ended(_) | Answer::Overheard(_) | Answer::Reprinted(_) | Answer::Remarked(_)) =>
-            Ok(RunEnd::Done),
+        Ok(
+            Answer::Ended(_)
+            | Answer::Overheard(_)
+            | Answer::Reprinted(_)
+            | Answer::Listed(_)
+            | Answer::Remarked(_),
+        ) => Ok(RunEnd::Done),
         Err(fault) => Err(fault),
     }
 }
@@ -736,7 +741,8 @@ fn strict_end(strict: Option<Present>, answer: Answer, end: End) -> End
 }
 
 /// Gives how a job with this answer ends, strict or not. Unless it is quiet, it notes first where the bytes of a printer do not say in
-/// which character set they are printed, and then what is odd about a recording that was not listed.
+/// which character set they are printed, then what is odd about a recording that was not listed, and then how many pulses
+/// of any recording are brief.
 fn tell_answer(
     rt: &(impl Eprint + AllocGlobal),
     subject: Subject<'_>,
@@ -753,6 +759,7 @@ fn tell_answer(
                 show_oddities(rt, subject, said.odd);
             }
             Answer::Reprinted(said) => show_oddities(rt, subject, said.odd),
+            Answer::Listed(odd) => show_brief(rt, subject, odd),
             Answer::Remarked(odd) => show_oddities(rt, subject, odd),
             Answer::Ended(_) | Answer::Ran(_) | Answer::Printed(_) => {}
         }
@@ -761,7 +768,8 @@ fn tell_answer(
         Answer::Ended(ending) => End::of_ending(ending),
         Answer::Ran(end) | Answer::Heard(end, _) => End::of_run(end),
         Answer::Printed(pages) => End::of_run(pages.run),
-        Answer::Overheard(_) | Answer::Reprinted(_) | Answer::Remarked(_) => End::Done,
+        Answer::Overheard(_) | Answer::Reprinted(_) | Answer::Listed(_) | Answer::Remarked(_) =>
+            End::Done,
     }
 }
 

@@ -16,8 +16,8 @@ use pr_jobs::{
 };
 use pr_options::{CheckOutput, DecodeOutput, Hearing, Job, PagesOutput};
 use pr_recording::{
-    Heard, Listening, Overheard, Reprinted, Wording, bytes_over, check_json_over, decode_json_over,
-    decode_over, reprint_over, run_bytes_over,
+    Heard, Listening, Overheard, Reprinted, Wording, bytes_over, check_json_over, decode_over,
+    reprint_over, run_bytes_over,
 };
 use pr_render::Format;
 use pr_report::{Oddities, Report};
@@ -39,6 +39,8 @@ pub enum Answer {
     Overheard(Overheard),
     /// It wrote the pages of a recording, of which this is said.
     Reprinted(Reprinted),
+    /// It wrote the readings of a recording as a list, which says what of this is odd, and not how many pulses are brief.
+    Listed(Oddities),
     /// It wrote the readings of a recording as JSON, which do not say that this is odd about it.
     Remarked(Oddities),
 }
@@ -102,9 +104,9 @@ pub fn restarted_job<'a>(job: Job<'a>, start: u64) -> Job<'a>
 /// nobody asks for a stop's place, and [`pr_recording::run_bytes_over`] for bytes; [`pr_jobs::bus_as_over`], or
 /// [`pr_jobs::bus_over`] for a trace text where nobody asks for a stop's place; [`pr_jobs::check_over`] for the frames
 /// of a trace text, [`pr_recording::check_json_over`] for the JSON of any trace, and else
-/// [`pr_jobs::check_as_over`]; [`pr_recording::decode_over`] for a list,
-/// [`pr_recording::decode_json_over`] for JSON, [`pr_recording::bytes_over`], and [`pr_recording::reprint_over`] for
-/// pages; [`pr_jobs::raw_over`]. They leave what they leave there. A read failed exactly if the input has failed, and a write exactly if the output has.
+/// [`pr_jobs::check_as_over`]; [`pr_recording::decode_over`] for a list and for JSON, [`pr_recording::bytes_over`], and
+/// [`pr_recording::reprint_over`] for pages; [`pr_jobs::raw_over`]. They leave what they leave there. A read failed exactly
+/// if the input has failed, and a write exactly if the output has.
 pub fn do_job<R: Read, W: Write>(
     alloc: Global,
     input: &mut Watched<R>,
@@ -332,11 +334,11 @@ fn decode_recording<R: Read, W: Write>(
 {
     match wanted {
         DecodeOutput::Readings(detail) => {
-            decode_over(alloc, input, output, trace, Wording::Lines(detail))?;
-            Ok(Answer::Ended(Ending::Done))
+            let odd = decode_over(alloc, input, output, trace, Wording::Lines(detail))?;
+            Ok(Answer::Listed(odd))
         }
         DecodeOutput::Json => {
-            let odd = decode_json_over(alloc, input, output, trace)?;
+            let odd = decode_over(alloc, input, output, trace, Wording::Json)?;
             Ok(Answer::Remarked(odd))
         }
         DecodeOutput::Bytes(device, hearing) => {

@@ -72,6 +72,7 @@ impl Answer {
             | Answer::Ran(_)
             | Answer::Printed(_)
             | Answer::Heard(_, _)
+            | Answer::Listed(_)
             | Answer::Remarked(_) => false,
         }
     }

@@ -2,7 +2,7 @@
 
 use crate::lacking::{BOTH, hears, holds};
 use pr_basic::cut_line;
-use pr_capture::TraceInput;
+use pr_capture::{Source, TraceInput};
 use pr_explain::{html_instead, unit_meant};
 use pr_jobs::{HeldMarks, PagesEnd, shown_of};
 use pr_listing::{
@@ -283,6 +283,24 @@ fn note_marks(rt: &impl Eprint, printer: u8, held: HeldMarks) {
         "print1525: note: printer {printer} holds {marks}; \
          a carriage return, CHR$(13), ends the line"
     ));
+}
+
+/// Writes a note of a recording's pulses that are at most one microsecond long, if there are any, and what to do about
+/// them. A trace text is no recording of an analyser, whose cross-talk could be left out.
+pub fn note_brief(rt: &impl Eprint, count: u64, source: Source) {
+    let (are, them) = match count {
+        0 => return,
+        1 => ("pulse of a line is", "it"),
+        _ => ("pulses of a line are", "them"),
+    };
+    let _ = match source {
+        Source::Text => rt.eprintln(format_args!(
+            "print1525: note: {count} {are} at most 1 microsecond long; no bus has such pulses"
+        )),
+        Source::Vcd | Source::Csv => rt.eprintln(format_args!(
+            "print1525: note: {count} {are} at most 1 microsecond long; --glitch 1us leaves {them} out"
+        )),
+    };
 }
 
 /// Writes what the pages of these printers lack that a recording has.

@@ -1,7 +1,7 @@
 //! What more there is to say of a job's input, on standard error.
 
 use crate::notes::{
-    address_note, is_script, is_typed, listing_text, note_bytes, note_script, note_unit,
+    address_note, is_script, is_typed, listing_text, note_brief, note_bytes, note_script, note_unit,
 };
 use pr_basic::{ScriptFault, StatusMode, cut_line};
 use pr_capture::{Source, TraceFormat, TraceInput};
@@ -660,10 +660,18 @@ fn trace_told(
 }
 
 /// Writes what is odd about a recording, and what to try, on standard error: the last lines of its list, each after two
-/// blanks.
+/// blanks. Then it notes how many pulses are brief.
 pub fn show_oddities(rt: &(impl Eprint + AllocGlobal), subject: Subject<'_>, odd: Oddities) {
     if let Subject::Recording(trace) = subject {
         show(rt, odd_lines(rt.alloc(), trace, odd));
+    }
+    show_brief(rt, subject, odd);
+}
+
+/// Notes how many pulses of a recording are brief, if there are any.
+pub fn show_brief(rt: &impl Eprint, subject: Subject<'_>, odd: Oddities) {
+    if let Subject::Recording(trace) = subject {
+        note_brief(rt, odd.brief, trace.source);
     }
 }
 

@@ -21,9 +21,10 @@ use Rattle.pr_recording.specs.Pages.{AnswersPages}
 use Rattle.pr_recording.specs.declared.pages.Reprinted.{Reprinted}
 use Rattle.pr_recording.specs.declared.wording.Wording.{Wording}
 use Rattle.pr_report.specs.declared.detail.Detail.{Detail}
+use Rattle.pr_report.specs.declared.oddities.Oddities.{Oddities}
 use Rattle.pr_report.specs.Contexts.{at_start}
 use Rattle.pr_exports.specs.EdgeDelays.{edge_delays}
-use Rattle.pr_exports.specs.Giving.{Gives, GivesDelays, GivesEdges, GivesFault, GivesIntervals, GivesLines, GivesPages, GivesReadings, GivesRows, Made, made_of, without_value}
+use Rattle.pr_exports.specs.Giving.{Gives, GivesDelays, GivesEdges, GivesFault, GivesIntervals, GivesLines, GivesPages, GivesReadings, GivesRows, made_of, without_value}
 use Rattle.pr_exports.specs.Lengths.{interval_numbers}
 use Rattle.pr_exports.specs.Numbers.{AreLineNumbers, IsFaultRow, edge_numbers, reading_rows}
 use Rattle.pr_exports.specs.Rows.{EndsReadings}
@@ -32,8 +33,8 @@ use Rattle.pr_exports.specs.declared.answer.Told.TheVariants.{Refused}
 use Rattle.pr_exports.specs.declared.rows.Ended.{Ended}
 
 -- what a recording says is handed over
-pub gives-readings : (input : TraceInput) (wording : Wording) (bytes text old new : List ℕ) (made : Made) (told : Told)
-    → AnswersDecode trace_limit wording input bytes (Some []) (Some text) made → Gives made text old new told → GivesReadings input wording bytes old new told
+pub gives-readings : (input : TraceInput) (wording : Wording) (bytes text old new : List ℕ) (made : Result Oddities CliFault) (told : Told)
+    → AnswersDecode trace_limit wording input bytes (Some []) (Some text) made → Gives (without_value made) text old new told → GivesReadings input wording bytes old new told
 gives-readings input wording bytes text old new made told a g = (made, text, a, g)
 
 -- so are its pages

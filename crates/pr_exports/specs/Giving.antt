@@ -19,6 +19,7 @@ use Rattle.pr_recording.specs.Listening.{nobody}
 use Rattle.pr_recording.specs.Pages.{AnswersPages}
 use Rattle.pr_recording.specs.declared.wording.Wording.{Wording}
 use Rattle.pr_report.specs.declared.detail.Detail.{Detail}
+use Rattle.pr_report.specs.declared.oddities.Oddities.{Oddities}
 use Rattle.pr_report.specs.Contexts.{at_start}
 use Rattle.pr_options.specs.declared.outputs.CheckOutput.{CheckOutput}
 use Rattle.pr_options.specs.declared.outputs.CheckOutput.TheVariants.{Report as Reported, Json}
@@ -74,8 +75,8 @@ without_value (Err fault) = Err fault
 -- the buffer gets the lines of a recording
 abbrev pub GivesReadings : TraceInput → Wording → List ℕ → (old new : List ℕ) → Told → Type 0
 GivesReadings input wording bytes old new told =
-    (made : Made) × (text : List ℕ) × AnswersDecode trace_limit wording input bytes (Some []) (Some text) made
-    × Gives made text old new told
+    (made : Result Oddities CliFault) × (text : List ℕ) × AnswersDecode trace_limit wording input bytes (Some []) (Some text) made
+    × Gives (without_value made) text old new told
 
 -- the buffer gets what is said of a trace: a report on it, or its readings as JSON and whether it is lawful
 abbrev pub AnswersCheck : TraceInput → CheckOutput → List ℕ → List ℕ → Made → Type 0

@@ -30,7 +30,7 @@ fn readings(
     let mut reader = Watched::new(bytes);
     let mut output = Watched::new(Vec::new(alloc));
     let made = decode_over(alloc, &mut reader, &mut output, input, wording);
-    give(made, &output.into_inner(), out)
+    give(without_value(made), &output.into_inner(), out)
 }
 
 /// Reads a recording, and puts the pages that printers print of it at the front of a buffer.

@@ -35,7 +35,7 @@ use Rattle.pr_recording.specs.declared.decode_report.DecodeReport.{DecodeReport}
 use Rattle.pr_recording.specs.declared.decode_report.Ended.{Ended}
 use Rattle.pr_recording.specs.declared.wording.Wording.TheVariants.{Json}
 use Rattle.pr_recording.specs.Checked.{AnswersJson}
-use Rattle.pr_recording.specs.Decoded.{AnswersDecode, AnswersDecodeJson, IsDecodeFault, Leaves, back_in, stop_at, told_of, without_odd}
+use Rattle.pr_recording.specs.Decoded.{AnswersDecode, Leaves, back_in, stop_at, told_of, without_odd}
 use Rattle.pr_recording.specs.Narrated.{EndsEdges, EndsNarrated, GivesUp, HasNarrated, IsStop, NarratesMore, Refuses, WritesEnd, lines_in}
 use Rattle.pr_recording.specs.Told.{AnswersTold, HasReadTo, IsRefusal, refused_for}
 use Rattle.pr_recording.proofs.Coming.{Laws, coming}
@@ -382,22 +382,17 @@ failed_read (Err x) r f b e is k = (
   λ h. let q : f ≡ ReadFailed = cc (k.1 h, is) in ap (λ (y : CliFault). Err y) (e ∙ q),
 )
 
--- what is answered for a recording that is not checked, in JSON too, and for one that is
+-- what is answered for a recording that is not checked, and for one that is
+odd_known : (w : Wording) (limit : ℕ) (input : TraceInput) (text : List ℕ) (old new : Option (List ℕ)) (v : Result Oddities CliFault) (k : AnswersTold limit w false input text old new v)
+    → IfOk v (λ odd. odd ≡ oddities_of k.edges (readings_of k.edges))
+odd_known w limit input text old new (Ok odd) k = k.odd k.leaves.1
+odd_known w limit input text old new (Err f) k = tt
+
 pub decoded : (w : Wording) (limit : ℕ) (start old new : Option (List ℕ)) (input : TraceInput) (v : Result Oddities CliFault)
-    → IfSome start (λ text. AnswersTold limit w false input text old new v) → IfSome start (λ text. AnswersDecode limit w input text old new (without_odd v))
+    → IfSome start (λ text. AnswersTold limit w false input text old new v) → IfSome start (λ text. AnswersDecode limit w input text old new v)
 decoded w limit start old new input v h =
-    if_known start (λ text. AnswersTold limit w false input text old new v) (λ text. AnswersDecode limit w input text old new (without_odd v)) h
-    (λ text k. record { edges = k.edges; own = k.own; says = k.says; leaves = k.leaves })
-
-odd_known : (input : TraceInput) (text : List ℕ) (old new : Option (List ℕ)) (v : Result Oddities CliFault) (k : AnswersTold trace_limit Json false input text old new v) → IfOk v (λ odd. odd ≡ oddities_of k.edges (readings_of k.edges))
-odd_known input text old new (Ok odd) k = k.odd k.leaves.1
-odd_known input text old new (Err f) k = tt
-
-pub decoded_json : (start old new : Option (List ℕ)) (input : TraceInput) (v : Result Oddities CliFault)
-    → IfSome start (λ text. AnswersTold trace_limit Json false input text old new v) → IfSome start (λ text. AnswersDecodeJson input text old new v)
-decoded_json start old new input v h =
-    if_known start (λ text. AnswersTold trace_limit Json false input text old new v) (λ text. AnswersDecodeJson input text old new v) h
-    (λ text k. record { edges = k.edges; own = k.own; says = k.says; leaves = k.leaves; odd = odd_known input text old new v k })
+    if_known start (λ text. AnswersTold limit w false input text old new v) (λ text. AnswersDecode limit w input text old new v) h
+    (λ text k. record { edges = k.edges; own = k.own; says = k.says; leaves = k.leaves; odd = odd_known w limit input text old new v k })
 
 pub checked : (start old new : Option (List ℕ)) (input : TraceInput) (v : Result Oddities CliFault)
     → IfSome start (λ text. AnswersTold trace_limit Json true input text old new v) → IfSome start (λ text. AnswersJson input text old new (without_odd v))
@@ -406,10 +401,6 @@ checked start old new input v h =
     (λ text k. record { edges = k.edges; own = k.own; says = k.says; leaves = k.leaves })
 
 -- what holds of an answer holds of it without what is odd
-pub own_decoded : (v : Result Oddities CliFault) → IfErr v (IsRefusal false) → IfErr (without_odd v) IsDecodeFault
-own_decoded (Ok odd) h = tt
-own_decoded (Err f) h = h
-
 pub own_checked : (v : Result Oddities CliFault) → IfErr v (IsRefusal true) → IfErr (without_odd v) IsReportFault
 own_checked (Ok odd) h = tt
 own_checked (Err f) h = h

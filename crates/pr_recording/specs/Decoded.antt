@@ -18,7 +18,6 @@ use Rattle.pr_report.specs.Oddities.{oddities_of, oddities_text}
 use Rattle.pr_report.specs.declared.oddities.Oddities.{Oddities}
 use Rattle.pr_capture.specs.declared.format.TraceInput.{TraceInput}
 use Rattle.pr_input.specs.PartlyWritten.{AppendsFront}
-use Rattle.pr_jobs.specs.Check.{trace_limit}
 use Rattle.pr_jobs.specs.Report.{Says, edges_checked}
 use Rattle.pr_recording.specs.declared.wording.Wording.{Wording}
 use Rattle.pr_recording.specs.declared.wording.Wording.TheVariants.{Json, Lines}
@@ -89,32 +88,24 @@ Leaves limit len stop told old new (Err NoMemory) = AppendsFront old new told
 Leaves limit len stop told old new (Err ReadFailed) = AppendsFront old new told
 Leaves limit len stop told old new (Err WriteFailed) = AppendsFront old new told
 
--- the answer, by the wording, by the text and by what the writer held before and after
-pub record AnswersDecode (limit : ℕ) (w : Wording) (input : TraceInput) (text : List ℕ) (old new : Option (List ℕ))
-    (result : Result (Unit {0}) CliFault) : Type 0 where
-  pub edges : List Edge
-  pub own : Option CliFault
-  pub says : Says input text edges own
-  pub leaves : Leaves limit (length text) (stop_at (back_in edges) own)
-      (told_of w input (stop_at (back_in edges) own) edges) old new result
-
 -- an answer without what is odd
 abbrev pub without_odd : Result Oddities CliFault → Result (Unit {0}) CliFault
 without_odd (Ok odd) = Ok tt
 without_odd (Err fault) = Err fault
 
--- the answer in JSON, which has no line of what is odd: the answer says it
-pub record AnswersDecodeJson (input : TraceInput) (text : List ℕ) (old new : Option (List ℕ))
+-- the answer, by the wording, by the text and by what the writer held before and after; it says what is odd, of which JSON
+-- has no line, and how many pulses are brief, of which no text has one
+pub record AnswersDecode (limit : ℕ) (w : Wording) (input : TraceInput) (text : List ℕ) (old new : Option (List ℕ))
     (result : Result Oddities CliFault) : Type 0 where
   pub edges : List Edge
   pub own : Option CliFault
   pub says : Says input text edges own
-  pub leaves : Leaves trace_limit (length text) (stop_at (back_in edges) own)
-      (told_of Json input (stop_at (back_in edges) own) edges) old new (without_odd result)
+  pub leaves : Leaves limit (length text) (stop_at (back_in edges) own)
+      (told_of w input (stop_at (back_in edges) own) edges) old new (without_odd result)
   pub odd : IfOk result (λ odd. odd ≡ oddities_of edges (readings_of edges))
 
 -- the input has been read to its end where all of it is answered
-abbrev pub ReadsAll : Option (List ℕ) → Result (Unit {0}) CliFault → Type 0
+abbrev pub ReadsAll : Option (List ℕ) → Result Oddities CliFault → Type 0
 ReadsAll left (Ok _) = IsAtEnd left
 ReadsAll left (Err fault) = Unit {0}
 

@@ -41,7 +41,7 @@ pub record AnswersTold (limit : ℕ) (w : Wording) (checked : Bool) (input : Tra
 -- how far the input has been read with this answer
 abbrev pub HasReadTo : (checked : Bool) → Option (List ℕ) → Result Oddities CliFault → Type 0
 HasReadTo true left result = report.ReadsAll Story left (without_odd result)
-HasReadTo false left result = ReadsAll left (without_odd result)
+HasReadTo false left result = ReadsAll left result
 
 -- a fault of a recording that is checked or not
 abbrev pub IsRefusal : (checked : Bool) → CliFault → Type 0

@@ -7,7 +7,7 @@ ghost use Rattle.pr_jobs.specs.Does.{AreFresh, DoesJob, TellsFailures};
 ghost use Rattle.pr_input.specs.PartlyWritten.{AppendsFront};
 ghost use Rattle.pr_jobs.specs.Inputs.{edges_read, lines_ahead};
 ghost use Rattle.pr_input.specs.Watched.{has_failed, is_flushed, wrapped};
-ghost use Rattle.pr_recording.specs.Decoded.{AnswersDecode, AnswersDecodeJson, IsDecodeFault, ReadsAll, without_odd};
+ghost use Rattle.pr_recording.specs.Decoded.{AnswersDecode, IsDecodeFault, ReadsAll, without_odd};
 ghost use Rattle.pr_recording.specs.Narrated.{EndsNarrated, GivesUp, WritesEnd, lines_in, load};
 ghost use Rattle.pr_recording.specs.Told.{AnswersTold, HasReadTo, IsRefusal};
 
@@ -26,7 +26,8 @@ use std::io::{Read, Write};
 /// Reads any recording of the bus, in any format, and writes what it says. In lines these are the readings, as
 /// [`pr_report::push_reading`] makes them, their summary, the verdict by the bounds that are asked for
 /// ([`pr_report::Survey::push_conclusion`]), and what is odd; in JSON the readings and whether the recording is
-/// lawful by this project's profile.
+/// lawful by this project's profile. The answer is what is odd about the recording, which JSON does not say, with how many
+/// pulses are brief, which no text says.
 ///
 /// The recording may begin anywhere and have any levels. It is read block by block; what a block settles
 /// is written before the next is read, and nothing of it is kept but one block's edges and 1.3 megabytes
@@ -52,7 +53,7 @@ pub fn decode_over<R: Read, W: Write>(
     output: &mut Watched<W>,
     trace: TraceInput<'_>,
     wording: Wording,
-) -> Result<(), CliFault>
+) -> Result<Oddities, CliFault>
     // the caller's part
     requires fresh { AreFresh input.old output.old }
     // what it gives
@@ -62,38 +63,7 @@ pub fn decode_over<R: Read, W: Write>(
     // when it refuses, and what that leaves
     ensures does { DoesJob IsDecodeFault input.new output.new result }
 {
-    without_odd(tell_input(alloc, input, output, trace, wording, false, CHECK_LIMIT))
-}
-
-/// Does what [`decode_over`] does in JSON, and answers what is odd about the recording, which JSON does not say.
-///
-/// # Errors
-///
-/// Those of [`decode_over`], and what they leave is the same.
-pub fn decode_json_over<R: Read, W: Write>(
-    alloc: Global,
-    input: &mut Watched<R>,
-    output: &mut Watched<W>,
-    trace: TraceInput<'_>,
-) -> Result<Oddities, CliFault>
-    // the caller's part
-    requires fresh { AreFresh input.old output.old }
-    // what it gives
-    ensures decode { IfSome (R.remaining (wrapped input.old)) (λ text.
-        AnswersDecodeJson trace.entry text (W.contents (wrapped output.old)) (W.contents (wrapped output.new)) result) }
-    ensures at_end { ReadsAll (R.remaining (wrapped input.new)) (without_odd result) }
-    // when it refuses, and what that leaves
-    ensures does { DoesJob IsDecodeFault input.new output.new result }
-{
-    tell_input(
-        alloc,
-        input,
-        output,
-        trace,
-        Wording::Json,
-        false,
-        CHECK_LIMIT,
-    )
+    tell_input(alloc, input, output, trace, wording, false, CHECK_LIMIT)
 }
 
 /// An answer without what is odd.

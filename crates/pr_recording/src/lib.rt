@@ -48,7 +48,7 @@ pub use blocks::read_into;
 pub use byte_log::Heard;
 pub use bytes::{Overheard, bytes_over};
 pub use checked::check_json_over;
-pub use decode::{decode_json_over, decode_over, tell_input};
+pub use decode::{decode_over, tell_input};
 pub use laws::{readings_are_heard_in_turn, traces_are_heard_as_spelled};
 pub use left_out::LeftOut;
 pub use listening::{Listening, call_first};

@@ -11,4 +11,5 @@ pub mod FoundOutside
 pub mod Lines
 pub mod Lawful
 pub mod Stories
+pub mod PulsesCounted
 pub mod LinesLooked

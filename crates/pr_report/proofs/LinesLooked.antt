@@ -8,7 +8,7 @@ use Rattle.pr_wire.specs.declared.Levels.{Levels}
 use Rattle.pr_report.specs.declared.oddities.LinesSeen.{LinesSeen}
 use Rattle.pr_report.specs.Oddities.{first_levels, is_attention, last_levels, levels_after}
 use Rattle.pr_report.specs.Steps.{first_or}
-use Rattle.pr_report.specs.Taking.{HasSeen}
+use Rattle.pr_report.specs.Taking.{HasPulses, HasSeen}
 
 or-false : (b : Bool) → (b || false) ≡ b
 or-false true = refl
@@ -34,11 +34,13 @@ last-more (x ∷ es) e = ap (λ (l : Levels). Some l) (after-more x.levels es e)
 
 pub seen-more : (old new : LinesSeen) (e : Edge) → new.has_attention ≡ (old.has_attention || not e.levels.atn)
     → new.first ≡ Some (first_or old.first e.levels) → new.last ≡ Some e.levels
+    → ((es : List Edge) → HasPulses es old.pulses → HasPulses (es ++ e ∷ []) new.pulses)
     → (es : List Edge) → HasSeen es old → HasSeen (es ++ e ∷ []) new
-seen-more old new e attention first last = λ es h. record {
+seen-more old new e attention first last pulses = λ es h. record {
   attention = attention ∙ (ap (λ b. b || not e.levels.atn) h.attention ∙ sym (attention-more es e));
   first = first ∙ (ap (λ o. Some (first_or o e.levels)) h.first ∙ sym (first-more es e));
   last = last ∙ sym (last-more es e);
+  pulses = pulses es h.pulses;
 }
 
 -- edges more
@@ -61,9 +63,10 @@ last-at e d (f ∷ fs) = last-at f d fs
 
 pub many-seen : (old new : LinesSeen) (fs : List Edge) (a d : Edge) → 0 < length fs → new.has_attention ≡ (old.has_attention || list_any is_attention fs)
     → new.first ≡ Some (first_or old.first (get_or fs 0 a).levels) → new.last ≡ Some (get_or fs (length fs - 1) d).levels
+    → ((es : List Edge) → HasPulses es old.pulses → HasPulses (es ++ fs) new.pulses)
     → (es : List Edge) → HasSeen es old → HasSeen (es ++ fs) new
-many-seen old new [] a d some attention first last = absurd (omega (arith, some))
-many-seen old new (e ∷ fs) a d some attention first last = λ es h.
+many-seen old new [] a d some attention first last pulses = absurd (omega (arith, some))
+many-seen old new (e ∷ fs) a d some attention first last pulses = λ es h.
     let at : length (e ∷ fs) - 1 ≡ length fs = omega arith in
     record {
       attention = attention ∙ (ap (λ b. b || list_any is_attention (e ∷ fs)) h.attention ∙ sym (list_any-append is_attention es (e ∷ fs)));
@@ -71,4 +74,5 @@ many-seen old new (e ∷ fs) a d some attention first last = λ es h.
       last = last
           ∙ (ap (λ i. Some (get_or (e ∷ fs) i d).levels) at
           ∙ (ap (λ (l : Levels). Some l) (last-at e d fs) ∙ sym (last-many es fs e)));
+      pulses = pulses es h.pulses;
     }

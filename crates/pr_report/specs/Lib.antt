@@ -9,6 +9,7 @@ pub mod Contexts
 pub mod ReadingText
 pub mod JsonText
 pub mod Summary
+pub mod BriefPulses
 pub mod Oddities
 pub mod Outside
 pub mod Steps

@@ -11,6 +11,7 @@ use Rattle.pr_wire.specs.declared.Levels.{Levels}
 use Rattle.pr_decode.specs.declared.reading.FrameEnd.TheVariants.{Acknowledged, Cut, Unacknowledged}
 use Rattle.pr_decode.specs.declared.reading.Reading.{Reading}
 use Rattle.pr_decode.specs.declared.reading.Reading.TheVariants.{Frame, IncompleteByte}
+use Rattle.pr_report.specs.BriefPulses.{brief_count}
 use Rattle.pr_report.specs.declared.oddities.Oddities.{Oddities}
 
 -- a reading is an acknowledged byte
@@ -38,23 +39,33 @@ last_levels [] = None
 last_levels (e ∷ es) = Some (levels_after e.levels es)
 
 -- what is odd: a line rests at 0 where the recording begins and ends with it at 0
-abbrev pub odd_levels : (no_byte no_attention : Bool) → (first last : Option Levels) → Oddities
-odd_levels no_byte no_attention None last =
-    record { no_byte = no_byte; no_attention = no_attention; atn_rests = false; clock_rests = false; data_rests = false }
-odd_levels no_byte no_attention (Some a) None =
-    record { no_byte = no_byte; no_attention = no_attention; atn_rests = false; clock_rests = false; data_rests = false }
-odd_levels no_byte no_attention (Some a) (Some b) = record {
+abbrev pub nothing_rests : (no_byte no_attention : Bool) → (brief : ℕ) → Oddities
+nothing_rests no_byte no_attention brief = record {
   no_byte = no_byte;
   no_attention = no_attention;
+  atn_rests = false;
+  clock_rests = false;
+  data_rests = false;
+  brief = brief;
+}
+
+abbrev pub odd_levels : (no_byte no_attention : Bool) → (brief : ℕ) → (first last : Option Levels) → Oddities
+odd_levels no_byte no_attention brief None last = nothing_rests no_byte no_attention brief
+odd_levels no_byte no_attention brief (Some a) None = nothing_rests no_byte no_attention brief
+odd_levels no_byte no_attention brief (Some a) (Some b) = record {
+  no_byte = no_byte;
+  no_attention = no_attention;
+  brief = brief;
   atn_rests = not (a.atn || b.atn);
   clock_rests = not (a.clock || b.clock);
   data_rests = not (a.line || b.line);
 }
 
--- what is odd about edges that say these readings
+-- what is odd about edges that say these readings, and how many brief pulses they have, of which no line of the report speaks
 abbrev pub oddities_of : List Edge → List Reading → Oddities
 oddities_of es rs =
-    odd_levels (not (list_any is_acknowledged rs)) (not (list_any is_attention es)) (first_levels es) (last_levels es)
+    odd_levels (not (list_any is_acknowledged rs)) (not (list_any is_attention es)) (brief_count es)
+    (first_levels es) (last_levels es)
 
 -- a line of text, if something is so
 abbrev pub told_if : Bool → (line : List ℕ) → List ℕ

@@ -1,6 +1,9 @@
 -- Machine steps: what a tally keeps of lengths, and what one length more comes to. No reader needs to believe them.
 use Rattle.std.specs.Prelude.{◌≡◌, ℕ, ◌+◌, ◌-◌, ◌^◌, ◌<◌, ◌==◌, cond, min, max, nat_le, Bool, List, [], ◌∷◌, length, get_or, Option, Some, None, codes, if◌then◌else◌}
+use Rattle.pr_wire.specs.declared.Edge.{Edge}
 use Rattle.pr_wire.specs.declared.Levels.{Levels}
+use Rattle.pr_report.specs.declared.brief_pulses.Turn.{Turn}
+use Rattle.pr_report.specs.BriefPulses.{brief_at}
 use Rattle.pr_report.specs.declared.outside.Outside.{Outside}
 use Rattle.pr_report.specs.declared.tally.Tally.{Tally}
 use Rattle.pr_report.specs.Intervals.{is_beyond}
@@ -54,3 +57,13 @@ known_text t =
 abbrev pub first_or : Option Levels → (next : Levels) → Levels
 first_or None next = next
 first_or (Some first) next = first
+
+-- how many brief pulses the next edge ends, after the last one, if there is one
+abbrev pub brief_with : Option Turn → (next : Edge) → ℕ
+brief_with None f = 0
+brief_with (Some t) f = brief_at t.before t.edge f
+
+-- the next edge, with the levels before it
+abbrev pub turn_with : Option Turn → (next : Edge) → Turn
+turn_with None f = record { before = f.levels; edge = f }
+turn_with (Some t) f = record { before = t.edge.levels; edge = f }

@@ -1,6 +1,6 @@
 -- Linking words: which readings a survey has taken. The clauses of `Survey` say all that a caller needs of them. No reader needs to
 -- believe them.
-use Rattle.std.specs.Prelude.{◌≡◌, ℕ, ◌==◌, ◌<◌, ◌^◌, List, [], ◌∷◌, find, length, get_or}
+use Rattle.std.specs.Prelude.{◌≡◌, ℕ, ◌==◌, ◌<◌, ◌^◌, List, [], ◌∷◌, find, length, get_or, Option, None, Some}
 use Rattle.std.specs.List.{count_by, list_any}
 use Rattle.pr_decode.specs.declared.reading.Reading.{Reading}
 use Rattle.pr_decode.specs.Readings.{greatest}
@@ -9,10 +9,13 @@ use Rattle.pr_report.specs.declared.detail.Bounds.TheVariants.{Guide}
 use Rattle.pr_report.specs.declared.interval.Interval.{Interval}
 use Rattle.pr_report.specs.declared.interval.Interval.TheVariants.{Ready, FirstPull, Answer, AnswerLength, PullAfterAnswer, ShortestLow, LongestLow, ShortestHigh, LongestHigh, Acknowledgement}
 use Rattle.pr_wire.specs.declared.Edge.{Edge}
+use Rattle.pr_report.specs.declared.brief_pulses.PulseCount.{PulseCount}
+use Rattle.pr_report.specs.declared.brief_pulses.Turn.{Turn}
 use Rattle.pr_report.specs.declared.counts.Counts.{Counts}
 use Rattle.pr_report.specs.declared.oddities.LinesSeen.{LinesSeen}
 use Rattle.pr_report.specs.declared.survey.Survey.{Survey}
 use Rattle.pr_report.specs.declared.tally.Tally.{Tally}
+use Rattle.pr_report.specs.BriefPulses.{brief_count}
 use Rattle.pr_report.specs.Intervals.{highest_of, is_outside, lowest_of}
 use Rattle.pr_report.specs.Outside.{all_outside, first_of}
 use Rattle.pr_report.specs.Oddities.{first_levels, is_attention, last_levels}
@@ -75,8 +78,23 @@ pub record HasSurveyed (b : Bounds) (rs : List Reading) (s : Survey) : Type 0 wh
   pub longest_high : Tallies b LongestHigh rs s.longest_high
   pub acknowledgement : Tallies b Acknowledgement rs s.acknowledgement
 
+-- the last of edges after an edge, and of edges, with the levels before it
+abbrev pub turn_after : Turn → List Edge → Turn
+turn_after t [] = t
+turn_after t (e ∷ es) = turn_after (record { before = t.edge.levels; edge = e }) es
+
+abbrev pub last_turn : List Edge → Option Turn
+last_turn [] = None
+last_turn (e ∷ es) = Some (turn_after (record { before = e.levels; edge = e }) es)
+
+-- the brief pulses of these edges were counted
+pub record HasPulses (edges : List Edge) (p : PulseCount) : Type 0 where
+  pub last : p.last ≡ last_turn edges
+  pub count : p.count ≡ brief_count edges
+
 -- these edges were looked at
 pub record HasSeen (edges : List Edge) (s : LinesSeen) : Type 0 where
   pub attention : s.has_attention ≡ list_any is_attention edges
   pub first : s.first ≡ first_levels edges
   pub last : s.last ≡ last_levels edges
+  pub pulses : HasPulses edges s.pulses

@@ -21,12 +21,14 @@
 //!   memory nor the time for a reading grows with the recording; `counts` how many readings of each kind
 //!   there are; `survey` has both, with the relation `HasTaken` in its contracts.
 //! - `oddities` looks at the levels of the lines, edge by edge, and says at the end what is odd about a
-//!   recording: no byte acknowledged, no attention, lines that rest at 0.
+//!   recording: no byte acknowledged, no attention, lines that rest at 0. It says too how many pulses are brief, which
+//!   `brief_pulses` counts.
 //! - `proofs/Tallied.antt` takes a tally from a list of lengths to the longer one, and `Middle.antt` ties the
 //!   first counter at which half of the lengths are reached to the middle. `Lawful.antt` and `Stories.antt` go
 //!   over the pieces of lawful traces, for the laws in `laws`.
 #![tactic(auto)]
 
+mod brief_pulses;
 mod context;
 mod counts;
 mod detail;

@@ -8,6 +8,7 @@ ghost use Rattle.pr_report.specs.Oddities.{advice, is_acknowledged, is_attention
 ghost use Rattle.pr_report.specs.Steps.{first_or};
 ghost use Rattle.pr_report.specs.Taking.{HasSeen};
 
+use crate::brief_pulses::PulseCount;
 use pr_capture::{Source, TraceInput};
 use pr_decode::{FrameEnd, Reading};
 use pr_wire::{Edge, Levels, NoMemory};
@@ -25,6 +26,11 @@ pub struct Oddities {
     pub clock_rests: bool,
     /// The recording begins and ends with DATA at 0.
     pub data_rests: bool,
+    /// How many pulses of a line are brief, at most one microsecond long, as cross-talk makes them: an edge gives the line
+    /// the other level, and the next edge takes it back. DATA counts where it is pulled, but not at a look of an attention:
+    /// on a lawful bus it may be released for a microsecond, and a printer may answer for one then. The count stops at its
+    /// greatest value. No line of a report speaks of it.
+    pub brief: u64,
 }
 
 /// What the edges of a recording so far say of its lines.
@@ -36,6 +42,8 @@ pub struct LinesSeen {
     first: Option<Levels>,
     /// The levels of the last edge so far.
     last: Option<Levels>,
+    /// The brief pulses.
+    pulses: PulseCount,
 }
 
 /// Whether a reading is an acknowledged byte.
@@ -95,6 +103,7 @@ impl LinesSeen {
             has_attention: false,
             first: None,
             last: None,
+            pulses: PulseCount::new(),
         }
     }
 
@@ -105,6 +114,7 @@ impl LinesSeen {
         self.has_attention = with_attention(self.has_attention, edge);
         self.first = Some(first_or(self.first, edge.levels));
         self.last = Some(edge.levels);
+        self.pulses.take(edge);
     }
 
     /// Looks at the next edges, in order.
@@ -117,6 +127,7 @@ impl LinesSeen {
         self.has_attention = with_calls(self.has_attention, edges);
         self.first = Some(first_or(self.first, edges[0].levels));
         self.last = Some(edges[edges.len() - 1].levels);
+        self.pulses.take_all(edges);
     }
 
     /// What is odd about the edges, of whose readings some are acknowledged bytes or none is.
@@ -124,18 +135,20 @@ impl LinesSeen {
         ensures { (edges : List Edge) (readings : List Reading) → HasSeen edges self →
             has_byte ≡ list_any is_acknowledged readings → result ≡ oddities_of edges readings }
     {
-        odd_levels(!has_byte, !self.has_attention, self.first, self.last)
+        let brief = self.pulses.count();
+        odd_levels(!has_byte, !self.has_attention, brief, self.first, self.last)
     }
 }
 
-/// What is odd, by the levels at the recording's beginning and at its end.
+/// What is odd, by the levels at the recording's beginning and at its end, with how many pulses are brief.
 fn odd_levels(
     no_byte: bool,
     no_attention: bool,
+    brief: u64,
     first: Option<Levels>,
     last: Option<Levels>,
 ) -> Oddities
-    ensures { result ≡ odd_levels no_byte no_attention first last }
+    ensures { result ≡ odd_levels no_byte no_attention brief first last }
 {
     let (Some(first), Some(last)) = (first, last) else {
         return Oddities {
@@ -144,6 +157,7 @@ fn odd_levels(
             atn_rests: false,
             clock_rests: false,
             data_rests: false,
+            brief,
         };
     };
     Oddities {
@@ -152,6 +166,7 @@ fn odd_levels(
         atn_rests: !(first.atn || last.atn),
         clock_rests: !(first.clock || last.clock),
         data_rests: !(first.line || last.line),
+        brief,
     }
 }
 
