@@ -22,8 +22,8 @@ use crate::shown::Shown;
 use crate::starts::started_job;
 use crate::statuses::{End, FAILED, is_answered};
 use crate::told::{
-    Listing, Subject, has_more, has_notes, is_notable, listing_of, show_brief, show_oddities, subject_of,
-    tell_heard, tell_listing, tell_more, tell_notes,
+    Listing, Subject, has_more, has_notes, is_notable, listing_of, show_brief, show_oddities,
+    subject_of, tell_heard, tell_listing, tell_more, tell_notes,
 };
 use pr_dots::Shapes;
 use pr_files::{Noting, Unsaved, save};
@@ -768,10 +768,8 @@ fn tell_answer(
         Answer::Ended(ending) => End::of_ending(ending),
         Answer::Ran(end) | Answer::Heard(end, _) => End::of_run(end),
         Answer::Printed(pages) => End::of_run(pages.run),
-        Answer::Overheard(_)
-        | Answer::Reprinted(_)
-        | Answer::Listed(_)
-        | Answer::Remarked(_) => End::Done,
+        Answer::Overheard(_) | Answer::Reprinted(_) | Answer::Listed(_) | Answer::Remarked(_) =>
+            End::Done,
     }
 }
 

@@ -5,7 +5,7 @@ use Rattle.std.proofs.lemmas.List.{take_all}
 use Rattle.pr_wire.specs.declared.Edge.{Edge}
 use Rattle.pr_report.specs.declared.brief_pulses.PulseCount.{PulseCount}
 use Rattle.pr_report.specs.declared.brief_pulses.Turn.{Turn}
-use Rattle.pr_report.specs.BriefPulses.{brief_after, brief_at, brief_count, brief_pulses}
+use Rattle.pr_report.specs.BriefPulses.{brief_after, brief_at, brief_pulses}
 use Rattle.pr_report.specs.Steps.{brief_with, turn_with}
 use Rattle.pr_report.specs.Taking.{HasPulses, last_turn, turn_after}
 
@@ -63,7 +63,7 @@ pub pulses-next : (fs : List Edge) (i : ℕ) (d : Edge) (old mid new : PulseCoun
 pulses-next fs i d old mid new within before next = λ es h.
     let P : List Edge → Type 0 = λ l. HasPulses l new in
     let same : (es ++ take i fs) ++ get_or fs i d ∷ [] ≡ es ++ take (i + 1) fs =
-        append_assoc es (take i fs) (get_or fs i d ∷ []) ∙ ap (λ l. es ++ l) (sym (rw add-one (front-more fs i d within))) in
+    append_assoc es (take i fs) (get_or fs i d ∷ []) ∙ ap (λ l. es ++ l) (sym (rw add-one (front-more fs i d within))) in
     subst P same (next (es ++ take i fs) (before es h))
 
 pub pulses-all : (fs : List Edge) (i : ℕ) (old new : PulseCount) → length fs ≤ i → ((es : List Edge) → HasPulses es old → HasPulses (es ++ take i fs) new)

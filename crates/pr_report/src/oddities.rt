@@ -136,13 +136,7 @@ impl LinesSeen {
             has_byte ≡ list_any is_acknowledged readings → result ≡ oddities_of edges readings }
     {
         let brief = self.pulses.count();
-        odd_levels(
-            !has_byte,
-            !self.has_attention,
-            brief,
-            self.first,
-            self.last,
-        )
+        odd_levels(!has_byte, !self.has_attention, brief, self.first, self.last)
     }
 }
 
