@@ -5,7 +5,7 @@ use Rattle.std.proofs.lemmas.List.{take_all}
 use Rattle.pr_wire.specs.declared.Edge.{Edge}
 use Rattle.pr_report.specs.declared.brief_pulses.PulseCount.{PulseCount}
 use Rattle.pr_report.specs.declared.brief_pulses.Turn.{Turn}
-use Rattle.pr_report.specs.BriefPulses.{brief_after, brief_at, brief_count, brief_pulses}
+use Rattle.pr_report.specs.BriefPulses.{brief_after, brief_at, brief_pulses}
 use Rattle.pr_report.specs.Steps.{brief_with, turn_with}
 use Rattle.pr_report.specs.Taking.{HasPulses, last_turn, turn_after}
 

@@ -1,10 +1,9 @@
 //! Brief pulses of a recording's lines, as cross-talk makes them.
 
-ghost use Rattle.std.specs.Prelude.{◌≡◌, ◌++◌, ◌∷◌, ◌&&◌, [], List, not};
+ghost use Rattle.std.specs.Prelude.{◌≡◌, ◌++◌, ◌∷◌, [], List};
 ghost use Rattle.pr_wire.specs.declared.Edge.{Edge};
-ghost use Rattle.pr_wire.specs.Table.{same};
 ghost use Rattle.pr_report.specs.BriefPulses.{brief_at, brief_count, is_data_pulse, is_look, pulses_at, turns_back};
-ghost use Rattle.pr_report.specs.Steps.{brief_with, counted, turn_with};
+ghost use Rattle.pr_report.specs.Steps.{brief_with, turn_with};
 ghost use Rattle.pr_report.specs.Taking.{HasPulses};
 
 use pr_wire::{Edge, Levels};
