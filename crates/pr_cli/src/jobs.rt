@@ -356,7 +356,11 @@ fn decode_recording<R: Read, W: Write>(
 fn listening_of(hearing: Hearing) -> Listening
     ensures { result ≡ listening_of hearing }
 {
-    let Hearing { listening, lower, .. } = hearing;
+    let Hearing {
+        listening,
+        lower,
+        ..
+    } = hearing;
     Listening {
         printers: listening,
         lower,
