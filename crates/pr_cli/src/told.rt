@@ -437,13 +437,14 @@ fn names_in(form: ListingForm, bracket: Option<&u8>) -> &'static str {
 /// Writes what more there is to say of a line of a listing in a form that has, behind so many bytes, a byte that its
 /// strings never have.
 fn tell_byte(rt: &(impl Eprint + AllocGlobal), form: ListingForm, line: &[u8], before: usize) {
-    let (front, rest) = line.split_at(before.min(line.len()));
+    let at = before.min(line.len());
+    let (front, rest) = line.split_at(at);
     if rest.starts_with(PI) {
         show_hint(rt, Some(PI_NAME));
     } else {
         show(rt, explain_letter(rt.alloc(), rest));
     }
-    let html = html_instead(&line[front.len().saturating_sub(1)..]);
+    let html = html_instead(&line[at.saturating_sub(1)..]);
     show_hint(rt, Some(html.unwrap_or(bytes_in(form, front, rest))));
 }
 

@@ -217,7 +217,7 @@ fn line_and_name<'a>(wire: Wire, signals: Signals<'a>) -> (&'static str, &'a [u8
 
 /// The other name that the signal of a line of the bus may have; the same where there is none.
 fn second_name<'a>(wire: Wire, name: &'a [u8]) -> &'a [u8] {
-    if wire == Wire::Clock {
+    if wire == Wire::Clock && name.eq_ignore_ascii_case(b"CLOCK") {
         b"CLK".as_slice()
     } else {
         name

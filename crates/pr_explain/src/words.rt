@@ -303,7 +303,8 @@ fn checksum_len(rest: &[u8]) -> usize
     ensures { result ≤ length rest.now }
 {
     match rest {
-        [b'A'..=b'Z', b'A'..=b'Z'] | [b'A'..=b'Z', b'A'..=b'Z', b' ' | b'\t', ..] => 2,
+        [b'A'..=b'Z', b'A'..=b'Z'] => 2,
+        [b'A'..=b'Z', b'A'..=b'Z', b' ' | b'\t', ..] => 2,
         [b'*', digits @ ..] => match digit_count(digits) {
             0 => 0,
             count => 1 + count,
