@@ -6,8 +6,6 @@
 //! - `vcd` writes a Value Change Dump. [`VcdWriter`] keeps the last edge alone.
 //! - `csv` reads a table that comes in blocks, line by line. [`CsvReader`] keeps the line that has begun, and
 //!   the last row: `last_row` reads a row that goes on as that one does without looking at its fields.
-//!   `fields` says which lines come before the names and what a line's fields are, `columns` which columns are the
-//!   three lines' and how the rows are read, `cells` which levels a row has.
 //!   `remarks` says what the name of the first column and remarks say of time, `times` what a field spells,
 //!   `volts` what a cell has where levels are volts, `numbers` what digits and words are.
 //! - `vcd_reader` reads a dump that comes in blocks, word by word. [`VcdReader`] keeps the letters of the
