@@ -8,7 +8,7 @@ use Rattle.pr_wire.specs.declared.Levels.{Levels}
 use Rattle.pr_wire.specs.Levels.{edge_at}
 use Rattle.pr_base.specs.Digits.{is_digit}
 use Rattle.pr_base.specs.Lines.{lines_of, onto_first}
-use Rattle.pr_capture.specs.declared.columns.Columns.{Columns}
+use Rattle.pr_capture.specs.declared.csv.Columns.{Columns}
 use Rattle.pr_capture.specs.declared.csv.Scale.{Scale}
 use Rattle.pr_capture.specs.declared.csv.Scale.TheVariants.{Counted, Numbered, Timed}
 use Rattle.pr_capture.specs.declared.csv.Layout.{Layout}

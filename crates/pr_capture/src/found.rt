@@ -4,7 +4,7 @@ ghost use Rattle.std.specs.Prelude.{◌≡◌, ◌==◌, ◌||◌, find};
 ghost use Rattle.pr_capture.specs.Csv.{is_separator};
 ghost use Rattle.pr_capture.specs.Found.{begins_as_dump, begins_as_table, behind_meta, found_source, front, has_meta, has_separator};
 
-use crate::fields::{is_archive, is_separator, is_wide, line_len};
+use crate::csv::{is_archive, is_separator, is_wide, line_len};
 use crate::format::Source;
 
 /// Returns the format that the first bytes of a recording show, or else `source`: a dump begins with

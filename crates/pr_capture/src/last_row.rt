@@ -8,11 +8,9 @@ ghost use Rattle.pr_capture.specs.Csv.{is_inner};
 ghost use Rattle.pr_capture.specs.declared.signals.Probes.{Probes};
 ghost use Rattle.pr_capture.specs.CsvSteps.{IsRepeat, IsRowOf, IsRun, KnowsLast, KnowsLevels, are_behind, copies, row_if, tail_at};
 
-use crate::columns::Columns;
-use crate::csv::{Layout, Moment, Row, RowPlace, Scale};
+use crate::csv::{Columns, Layout, Moment, Row, RowPlace, Scale, field_len};
 use crate::entries::is_word;
 use crate::fault::CaptureFault;
-use crate::fields::field_len;
 use crate::numbers::{behind_first, digits_ahead};
 use crate::times::{Instant, is_plain, plain_in, sample_at};
 use pr_wire::{Edge, Levels};

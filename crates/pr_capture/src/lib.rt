@@ -21,14 +21,11 @@
 #![tactic(auto)]
 
 mod bits;
-mod cells;
 mod changes;
-mod columns;
 mod csv;
 mod edge_detector;
 mod entries;
 mod fault;
-mod fields;
 mod format;
 mod found;
 mod header;

@@ -4,8 +4,7 @@ ghost use Rattle.std.specs.Prelude.{◌≡◌, ◌∷◌, [], option_copied};
 ghost use Rattle.pr_capture.specs.Numbers.{behind_digits};
 ghost use Rattle.pr_capture.specs.TableTimes.{bare_unit, begins, begins_power, behind_fraction, behind_letter_e, behind_marks, behind_plus_minus, ends_there, has_numbers, has_slash, is_another, is_count_word, is_counting, is_cut, is_mark, is_micro, is_milli, is_plain_rate, is_plain_unit, is_power, is_sample_word, is_sigrok_name, is_sigrok_word, is_this, is_timing, is_unit, is_whole, no_remarks, own_rate, places_right, power_in, scale_by, scale_of, rate_by, rate_given, rate_in, rate_known, rate_power, rate_told, rate_unit, remarked, time_unit, unit_apart, unit_behind, unit_by, unit_of, with_rate};
 
-use crate::columns::Columns;
-use crate::csv::Scale;
+use crate::csv::{Columns, Scale};
 use crate::entries::is_word;
 use crate::numbers::{
     are_in_units, are_signs, are_some, behind_decimals, behind_digits, behind_first, behind_word,

@@ -1,0 +1,7 @@
+use Rattle.std.proofs.Common.{◌≡◌, drop}
+use Rattle.pr_capture.specs.Csv.{without_space}
+use Rattle.pr_capture.proofs.csv.without_space.Given as goal
+
+-- what was passed says nothing
+abbrev pub invariant-loop-i : goal.invariant-loop-i
+invariant-loop-i l = without_space (drop l.i l.bytes) ≡ without_space l.bytes
