@@ -2,6 +2,7 @@ use Rattle.std.proofs.Common.{◌≡◌, ap, arith, false, length, refl, rules, 
 use Rattle.pr_jobs.specs.Inputs.{edges_read}
 use Rattle.pr_jobs.specs.InputReads.{StopsWell}
 use Rattle.pr_jobs.specs.Reported.{HasCounted, CountsMore}
+use Rattle.pr_jobs.specs.declared.fault.CliFault.TheVariants.{NoMemory}
 use Rattle.pr_jobs.proofs.InputLemmas.{all_taken, before_taken}
 use Rattle.pr_jobs.proofs.ReportLemmas.{ends_well, gives_none}
 use Rattle.pr_jobs.proofs.report.report_input.Goals as goal
@@ -10,6 +11,11 @@ pub returns-in_err-read_block-clause-report : goal.returns-in_err-read_block-cla
 returns-in_err-read_block-clause-report g c =
     gives_none _ _ (g.R.Read.remaining c.pieces.input.inner) _ _ c.pieces.reader (λ edges. HasCounted c.args.trace.source c.args.report edges c.pieces.frames) c.from_residual.result c.in_err-read_block.field-0.0 c.pieces.invariant.read
     c.from_residual.ensures.1 c.in_err-read_block.ensures.own (λ is. c.in_err-read_block.ensures.large (rw is refl))
+
+pub returns-in_err-take_all-clause-report : goal.returns-in_err-take_all-clause-report
+returns-in_err-take_all-clause-report g c =
+    gives_none _ _ (g.R.Read.remaining c.pieces.input.inner) _ _ c.pieces.reader (λ edges. HasCounted c.args.trace.source c.args.report edges c.pieces.frames) c.from_residual-in_err-take_all.result NoMemory c.pieces.invariant.read
+    c.from_residual-in_err-take_all.ensures.1 tt (λ is. absurd (cc))
 
 pub returns-then-not-branch-clause-report : goal.returns-then-not-branch-clause-report
 returns-then-not-branch-clause-report g c =
