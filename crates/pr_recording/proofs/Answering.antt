@@ -13,6 +13,7 @@ use Rattle.pr_capture.specs.declared.fault.CaptureFault.TheVariants as capture
 use Rattle.pr_capture.specs.declared.format.Source.{Source}
 use Rattle.pr_capture.specs.declared.format.TraceInput.{TraceInput}
 use Rattle.pr_input.specs.PartlyWritten.{AppendsFront}
+use Rattle.pr_input.specs.Watched.{has_failed}
 use Rattle.pr_input.specs.declared.watched.Watched.{Watched}
 use Rattle.pr_jobs.specs.Inputs.{EachTextSaysEdges, ReadEdgesComeFirst, SaysFirst, edges_read, fault_read}
 use Rattle.pr_jobs.specs.EdgesTaken.{HasTakenAll, HasTakenBefore}
@@ -35,7 +36,7 @@ use Rattle.pr_recording.specs.declared.decode_report.DecodeReport.{DecodeReport}
 use Rattle.pr_recording.specs.declared.decode_report.Ended.{Ended}
 use Rattle.pr_recording.specs.declared.wording.Wording.TheVariants.{Json}
 use Rattle.pr_recording.specs.Checked.{AnswersJson}
-use Rattle.pr_recording.specs.Decoded.{AnswersDecode, Leaves, back_in, stop_at, told_of, without_odd}
+use Rattle.pr_recording.specs.Decoded.{AnswersDecode, IsDecodeFault, Leaves, back_in, stop_at, told_of, without_odd}
 use Rattle.pr_recording.specs.Narrated.{EndsEdges, EndsNarrated, GivesUp, HasNarrated, IsStop, NarratesMore, Refuses, WritesEnd, lines_in}
 use Rattle.pr_recording.specs.Told.{AnswersTold, HasReadTo, IsRefusal, refused_for}
 use Rattle.pr_recording.proofs.Coming.{Laws, coming}
@@ -380,6 +381,15 @@ failed_read (Ok u) r f b e is k = absurd e
 failed_read (Err x) r f b e is k = (
   λ h. k.0 (let q : f ≡ ReadFailed = cc (h, e) in is ∙ ap (λ (y : CliFault). Err y) q),
   λ h. let q : f ≡ ReadFailed = cc (k.1 h, is) in ap (λ (y : CliFault). Err y) (e ∙ q),
+)
+
+-- where memory was refused, no reader and no writer has failed that had not before
+pub tells_no_memory : {R W : Type 0} (input : Watched R) (output : Watched W) (v : Result Oddities CliFault) → IsErrAnd v (λ x. x ≡ NoMemory) → (has_failed input ≡ true → ⊥) → has_failed output ≡ false → TellsFailures input output v
+tells_no_memory input output (Ok odd) is unread unwritten = absurd is
+tells_no_memory input output (Err x) is unread unwritten = (
+  tt,
+  (λ h. absurd (cc (h, is)), λ h. absurd (unread h)),
+  (λ h. absurd (cc (h, is)), λ h. absurd (cc (h, unwritten))),
 )
 
 -- what is answered for a recording that is not checked, and for one that is

@@ -3,7 +3,7 @@ use Rattle.pr_jobs.specs.Inputs.{edges_read}
 use Rattle.pr_jobs.specs.InputReads.{StopsWell}
 use Rattle.pr_recording.specs.Narrated.{NarratesMore}
 use Rattle.pr_jobs.specs.declared.fault.CliFault.TheVariants.{NoMemory}
-use Rattle.pr_recording.proofs.Answering.{HasWritten, at_first, at_last_block, failed_read, last_refusal, left_unread, left_unwritten, no_write, partly, reading_fault, refused, told_written, unwritten, writes_more, writes_none, writing_fault}
+use Rattle.pr_recording.proofs.Answering.{HasWritten, at_first, at_last_block, failed_read, last_refusal, left_unread, left_unwritten, no_write, partly, reading_fault, refused, tells_no_memory, told_written, unwritten, writes_more, writes_none, writing_fault}
 use Rattle.pr_recording.proofs.Coming.{Laws}
 use Rattle.pr_recording.proofs.ReadInto.{taken_all, taken_before, taken_none}
 use Rattle.pr_recording.proofs.decode.tell_input.Goals as goal
@@ -167,4 +167,6 @@ returns-in_err-write_lines-clause-at_end g c =
     c.in_err-write_lines.ensures.own
 
 pub returns-in_err-take_all-clause-does : goal.returns-in_err-take_all-clause-does
-returns-in_err-take_all-clause-does g c = (search rules, search rules, search rules)
+returns-in_err-take_all-clause-does g c =
+    tells_no_memory c.read_block.new.input c.pieces.output c.from_residual-in_err-take_all.result c.from_residual-in_err-take_all.ensures.1 (λ h. absurd (cc (c.in_ok-read_block.ensures.failed.1 h)))
+    c.pieces.invariant.clean
