@@ -6,7 +6,8 @@ use pr_capture::{Source, TraceInput};
 use pr_explain::{html_instead, unit_meant};
 use pr_jobs::{HeldMarks, PagesEnd, shown_of};
 use pr_listing::{
-    ListingForm, has_typed_strings, is_t64, looks_like_disk, looks_saved, program_in, tape_files,
+    ListingForm, has_typed_strings, is_p00, is_t64, looks_like_disk, looks_saved, program_in,
+    tape_files,
 };
 use pr_options::{DecodeOutput, Job, PagesOutput};
 use pr_recording::{LeftOut, Overheard, Reprinted};
@@ -30,19 +31,75 @@ const HEADING_RETURNS: &str =
     "a heading of petcat's text has carriage returns in it, which do not end a line here, so what follows them is no line \
      of the program: if it was meant to be, save the text with LF or CR LF line ends";
 
-/// What is said of a script or a magazine's listing with names of keys in square or angle brackets.
+/// What is said of a script or a magazine's listing with names of keys in other brackets than braces.
 const BRACKET_NAMES: &str =
-    "names of keys in square or angle brackets are printed as they are: a magazine's listing (--from magazine) has them in braces, \
+    "names of keys in brackets are printed as they are: a magazine's listing (--from magazine) has them in braces, \
      as {CLR}, and in [< and >] a key that is typed with the Commodore key, as [<A>]";
 
-/// The names of keys that some magazines print in square or angle brackets.
-const KEY_NAMES: [&str; 13] = [
-    "CLR", "CLEAR", "HOME", "UP", "DOWN", "LEFT", "RIGHT", "RVS", "RVS ON", "RVS OFF", "SPACE",
-    "SPACES", "SPC",
+/// The names of keys that some magazines print in brackets.
+const KEY_NAMES: [&str; 42] = [
+    "CLR",
+    "CLEAR",
+    "HOME",
+    "UP",
+    "DOWN",
+    "LEFT",
+    "RIGHT",
+    "RVS",
+    "RVSON",
+    "RVSOFF",
+    "SPACE",
+    "SPACES",
+    "SPC",
+    "DEL",
+    "INST",
+    "RETURN",
+    "SS",
+    "PI",
+    "EP",
+    "UPARROW",
+    "BACKARROW",
+    "WHT",
+    "WHITE",
+    "BLK",
+    "BLACK",
+    "RED",
+    "CYN",
+    "CYAN",
+    "PUR",
+    "PURPLE",
+    "GRN",
+    "GREEN",
+    "BLU",
+    "BLUE",
+    "YEL",
+    "YELLOW",
+    "F1",
+    "F3",
+    "F5",
+    "F7",
+    "SHIFT",
+    "CTRL",
 ];
 
+/// Words in front of a name of a key that is typed with another one, or has two words.
+const KEY_WORDS: [&str; 9] = [
+    "RVS ", "REVERSE ", "CRSR ", "CTRL ", "SHIFT ", "SHFT ", "SH ", "COMD ", "CBM ",
+];
+
+/// Names of keys in round brackets, which other words are more often, begin so.
+const ROUND_NAMES: [&str; 3] = ["CLR", "RVS", "CRSR"];
+
 /// The most bytes that stand between brackets around the name of a key: a count, a space and a name.
-const LONGEST_NAME: usize = 11;
+const LONGEST_NAME: usize = 15;
+
+/// What is said of a script or a magazine's listing whose strings have signs that a C64 has not.
+const OTHER_SIGNS: &str =
+    "some signs in strings print another character: \\ a pound sign, _ a left arrow, and ` | } ~ graphics";
+
+/// What is said of one with a character by its number, as HTML has it.
+const HTML_NUMBERS: &str =
+    "&# begins HTML's number for a character: save the listing as plain text";
 
 /// What is said of a T64 file with more than one program.
 const TAPE_FILES: &str =
@@ -73,6 +130,20 @@ const SAVED_BYTES: &str =
 /// What is said of a printer's bytes that look like a disk.
 const DISK_BYTES: &str = "this looks like an image of a disk, and not like a printer's bytes: \
      take a program out of it, and pages --from prg runs it";
+
+/// What is said of a printer's bytes that begin as another file does.
+const OTHER_BYTES: &str = "this looks like a file of another kind, and not like a printer's bytes";
+
+/// How documents, pictures, archives, tapes and cartridges begin.
+const OTHER_FRONTS: [&[u8]; 7] = [
+    b"%PDF",
+    b"\x89PNG",
+    b"\xff\xd8\xff",
+    b"\x1f\x8b",
+    b"PK\x03\x04",
+    b"C64-TAPE-RAW",
+    b"C64 CARTRIDGE",
+];
 
 /// None of the printers.
 const NO_PRINTER: Present = Present {
@@ -105,17 +176,18 @@ fn note(rt: &impl Eprint, text: &str) {
 
 /// Writes what is to be noted of the text of a script that has run. The text of a listing in another form was made of it.
 pub fn note_script(rt: &impl Eprint, script: &[u8], form: ListingForm) {
-    if is_script(form) && is_typed(script) {
+    let is_braced = is_script(form) && is_typed(script);
+    if is_braced {
         note(rt, TYPED_STRINGS);
     }
     if is_script(form) || form == ListingForm::Magazine {
-        if let Some(text) = noted_in_strings(script) {
+        if let Some(text) = noted_in_strings(script, is_braced) {
             note(rt, text);
         }
     }
     if let Some(line) = line_with_return(script) {
         let _ = rt.eprintln(format_args!(
-            "print1525: note: line {line} has a remark with carriage returns in it, which do not end a line here: \
+            "print1525: note: line {line} has a remark with other line ends than LF in it, which end no line here: \
              if lines were meant to end there, save the script with LF or CR LF line ends"
         ));
     }
@@ -371,11 +443,23 @@ fn note_nothing(rt: &impl Eprint, drawn: Present, heard: Present) {
 
 /// Writes what is to be noted of bytes that a printer hardly gets.
 pub fn note_bytes(rt: &impl Eprint, bytes: &[u8]) {
-    if looks_saved(bytes) {
+    if looks_saved(bytes) || is_p00(bytes) || is_t64(bytes) {
         note(rt, SAVED_BYTES);
     } else if looks_like_disk(bytes) {
         note(rt, DISK_BYTES);
+    } else if is_other_file(bytes) {
+        note(rt, OTHER_BYTES);
     }
+}
+
+/// Whether bytes begin as a document, a picture, an archive, a tape or a cartridge does.
+fn is_other_file(bytes: &[u8]) -> bool {
+    for front in OTHER_FRONTS {
+        if bytes.starts_with(front) {
+            return true;
+        }
+    }
+    false
 }
 
 /// Notes in which unit the times of a table may be, where they are read in another and no byte comes.
@@ -408,7 +492,7 @@ fn has_typed_byte(bytes: &[u8]) -> bool {
     false
 }
 
-/// The number, from 1, of the first line of a script whose remark has a byte 13 with another line behind it, as it seems.
+/// The number, from 1, of the first line of a script whose remark has another line end with a line behind it, as it seems.
 fn line_with_return(script: &[u8]) -> Option<usize> {
     let mut rest = script;
     let mut number: usize = 0;
@@ -441,21 +525,23 @@ fn begins_remark(bytes: &[u8]) -> bool {
     bytes.len() >= 3 && bytes[..3].eq_ignore_ascii_case(b"rem")
 }
 
-/// Whether a byte 13 has what a line begins with behind it, maybe after blanks: a digit, a letter or `?`.
+/// Whether a line end that is none here has what a line begins with behind it, maybe after blanks: a digit, a letter or
+/// `?`. Such ends are the bytes 11 to 13, and UTF-8's next line and line separator.
 fn has_line_behind_return(remark: &[u8]) -> bool {
     let mut is_behind = false;
-    for byte in remark {
-        match *byte {
-            b'\r' => is_behind = true,
-            b' ' | b'\t' => {}
-            _ if is_behind && (byte.is_ascii_alphanumeric() || *byte == b'?') => return true,
+    for i in 0..remark.len() {
+        match &remark[i..] {
+            [11..=13, ..] | [0xc2, 0x85, ..] | [0xe2, 0x80, 0xa8, ..] => is_behind = true,
+            [b' ' | b'\t' | 0x80..=0xbf, ..] => {}
+            [byte, ..] if is_behind && (byte.is_ascii_alphanumeric() || *byte == b'?') =>
+                return true,
             _ => is_behind = false,
         }
     }
     false
 }
 
-/// Whether a heading of petcat's text has a byte 13 with another line behind it, as it seems.
+/// Whether a heading of petcat's text has another line end with a line behind it, as it seems.
 fn has_line_in_heading(text: &[u8]) -> bool {
     let mut rest = text;
     while !rest.is_empty() {
@@ -468,20 +554,17 @@ fn has_line_in_heading(text: &[u8]) -> bool {
     false
 }
 
-/// What is to be noted of the strings of a script: names of keys in brackets, or HTML's names. What is in a remark is no
-/// string.
-fn noted_in_strings(script: &[u8]) -> Option<&'static str> {
-    if !script
-        .iter()
-        .any(|byte| matches!(*byte, b'[' | b'<' | b'&'))
-    {
+/// What is to be noted of the strings of a script: names of keys in brackets, HTML's names, or signs that a C64 has not;
+/// of braces nothing more, if something was said of them. What is in a remark is no string.
+fn noted_in_strings(script: &[u8], is_braced: bool) -> Option<&'static str> {
+    if !script.iter().any(|byte| is_noted(*byte)) {
         return None;
     }
     let mut rest = script;
     while !rest.is_empty() {
         let (line, more) = cut_line(rest);
         let before = line.len().saturating_sub(remark_of(line).len());
-        let noted = noted_in_line(&line[..before]);
+        let noted = noted_in_line(&line[..before], is_braced);
         if noted.is_some() {
             return noted;
         }
@@ -490,14 +573,22 @@ fn noted_in_strings(script: &[u8]) -> Option<&'static str> {
     None
 }
 
+/// Whether something may be noted of a byte in a string.
+fn is_noted(byte: u8) -> bool {
+    matches!(
+        byte,
+        b'[' | b'<' | b'(' | b'&' | b'\\' | b'_' | b'`' | b'|' | b'}' | b'~'
+    )
+}
+
 /// What is to be noted of the strings in the part of a line before its remark.
-fn noted_in_line(front: &[u8]) -> Option<&'static str> {
+fn noted_in_line(front: &[u8], is_braced: bool) -> Option<&'static str> {
     let mut is_quoted = false;
     for i in 0..front.len() {
         if front[i] == b'"' {
             is_quoted = !is_quoted;
         } else if is_quoted {
-            let noted = noted_at(&front[i..]);
+            let noted = noted_at(&front[i..], is_braced);
             if noted.is_some() {
                 return noted;
             }
@@ -507,12 +598,29 @@ fn noted_in_line(front: &[u8]) -> Option<&'static str> {
 }
 
 /// What is to be noted of what is in front in a string.
-fn noted_at(bytes: &[u8]) -> Option<&'static str> {
+fn noted_at(bytes: &[u8], is_braced: bool) -> Option<&'static str> {
     match bytes {
         [b'[', name @ ..] if begins_name(name, b']') => Some(BRACKET_NAMES),
         [b'<', name @ ..] if begins_name(name, b'>') => Some(BRACKET_NAMES),
+        [b'(', name @ ..] if begins_with_one(name, &ROUND_NAMES) && begins_name(name, b')') => {
+            Some(BRACKET_NAMES)
+        }
+        [b'}', ..] if is_braced => None,
+        [b'\\' | b'_' | b'`' | b'|' | b'}' | b'~', ..] => Some(OTHER_SIGNS),
+        [b'&', b'#', b'0'..=b'9' | b'x', ..] => Some(HTML_NUMBERS),
         _ => html_instead(bytes),
     }
+}
+
+/// Whether bytes begin with one of these words, in capitals or not.
+fn begins_with_one(bytes: &[u8], words: &[&str]) -> bool {
+    for word in words {
+        let word = word.as_bytes();
+        if bytes.len() >= word.len() && bytes[..word.len()].eq_ignore_ascii_case(word) {
+            return true;
+        }
+    }
+    false
 }
 
 /// Whether bytes begin with the name of a key and this bracket behind it.
@@ -534,6 +642,9 @@ fn is_name(name: &[u8]) -> bool {
         return true;
     }
     let word = after_count(name);
+    if begins_with_one(word, &KEY_WORDS) {
+        return true;
+    }
     for known in KEY_NAMES {
         if word.eq_ignore_ascii_case(known.as_bytes()) {
             return true;
