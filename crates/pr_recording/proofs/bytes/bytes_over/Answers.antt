@@ -11,7 +11,7 @@ returns-in_err-call_first-clause-bytes g c =
     uncalled c.read_edges_come_first.ensures.some (g.R.Read.remaining c.args.input.now.inner) old c.args.trace c.args.listening c.args.device c.from_residual.result c.from_residual.ensures.1 keeps
 
 pub read_into-requires-clause-room : goal.read_into-requires-clause-room
-read_into-requires-clause-room g c = c.in_ok-call_first.ensures.room 1099511627779 (tt, omega (arith, c.new-2.ensures.count))
+read_into-requires-clause-room g c = c.in_ok-call_first.ensures.room 1099511627795 (tt, omega (arith, c.new-2.ensures.count))
 
 pub returns-in_err-end-clause-bytes : goal.returns-in_err-end-clause-bytes
 returns-in_err-end-clause-bytes g c =

@@ -10,7 +10,7 @@ returns-in_err-call_first-clause-pages g c =
     uncalled c.read_edges_come_first.ensures.some (g.R.Read.remaining c.args.input.now.inner) old c.args.shapes.now c.args.trace c.args.listening c.args.format c.from_residual.result c.from_residual.ensures.1 keeps
 
 pub read_into-requires-clause-room : goal.read_into-requires-clause-room
-read_into-requires-clause-room g c = c.in_ok-call_first.ensures.room 4000000003 (omega (arith, c.new.ensures.count), omega (arith, c.new-2.ensures.count))
+read_into-requires-clause-room g c = c.in_ok-call_first.ensures.room 4000000019 (omega (arith, c.new.ensures.count), omega (arith, c.new-2.ensures.count))
 
 pub returns-in_err-end-clause-pages : goal.returns-in_err-end-clause-pages
 returns-in_err-end-clause-pages g c =
