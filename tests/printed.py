@@ -1,6 +1,6 @@
 #!/usr/bin/env python3
 """printed.py PAGE DOTS PDF: how many places of a document's sheets are drawn wrong, by pdftoppm at 1260 pixels an inch: 21 pixels a
-dot column and 10 pixels a 1/126 inch. PAGE is the page text, and DOTS has a line `PRINTER X Y` for each dot (pictures.awk writes it).
+dot column and 10 pixels a 1/126 inch. PAGE is the page text, and DOTS has a line `PRINTER X Y` for each dot (lib/pages.py writes it).
 A disc is 22 pixels wide, and its middle is 10 pixels below the top of its place. So the pixel in the middle of a dot column, 10 below
 the top of a place (x, y), is dark exactly where a dot is at (x, y - 1), (x, y) or (x, y + 1). Each place of each sheet is looked at,
 and what is beside the 480 dot columns is white. The number of sheets is looked at too."""
