@@ -28,7 +28,7 @@ LIBRARY_VERSION := $(shell sed -n 's/^.define PRINT1525_VERSION "\(.*\)"/\1/p' i
 SHARED := libprint1525.so.$(LIBRARY_VERSION)
 SONAME := libprint1525.so.$(firstword $(subst ., ,$(LIBRARY_VERSION)))
 
-# The tests that go on after a refused allocation (tests/growths).
+# The tests that go on after a refused allocation (tests/rows/growths).
 TEST_CRATES := pr_tests_core pr_tests_forms
 TESTS := $(foreach crate,$(TEST_CRATES),crates/$(crate)/out/$(crate)_tests)
 
