@@ -1,5 +1,5 @@
 """What stands twice in this repository, since one of the places cannot ask the other: whether both say the same.
-docs/DECISIONS.md has the reason of each, under `What stands twice`. tests/documents looks."""
+docs/DECISIONS.md has the reason of each, under `What stands twice`. tests/evidence/once looks."""
 
 import ast
 import os
