@@ -324,7 +324,7 @@ def main():
         wanted = b"print1525: not a saved program\n" if n < 2 else b"print1525: line %d: cut off\n" % line
         if (status, out, error) != (2, b"", wanted):
             fail("cut off after %d bytes: %r" % (n, (status, out, error, wanted)))
-    print("%d listings in four forms, 256 bytes, %d cuts: %d failed" % (count, len(whole), failed))
+    print("%d listings in four forms, 256 bytes, %d cuts: %d passed, %d failed" % (count, len(whole), count + 256 + len(whole) - failed, failed))
     sys.exit(failed > 0)
 
 
