@@ -150,7 +150,7 @@ def main(form, *words):
         return [timed(*map(int, words))]
     if form == "said":
         return [said(sys.stdin)]
-    options = dict(it.split("=", 1) for it in words if it.startswith(("unit=", "by=", "rate=")))
+    options = dict(it.replace("\\t", "\t").split("=", 1) for it in words if it.startswith(("unit=", "by=", "rate=")))
     files = [it for it in words if not it.startswith(("unit=", "by=", "rate="))]
     with open(files[0] if files else 0, encoding="latin-1", newline="\n") as file:
         edges = edges_of(file.read())
