@@ -1,7 +1,7 @@
 #!/usr/bin/env python3
 """drawn.py PAGE DOTS PICTURE [DEVICE SHEET]: how many places of a page are drawn wrong, in a picture at 252 pixels an inch of its only
 paper, or of one sheet of 11 inches of a printer's paper. PAGE is the page text, DOTS has a line `PRINTER X Y` for each dot
-(pictures.awk writes it), and PICTURE is a grey PNM. A disc is more than four pixels wide, and the next one begins more than one pixel
+(pictures.awk writes it), and PICTURE is a grey PNM. A disc is more than five pixels wide, and the next one begins more than one pixel
 from the middle of a place: so its middle pixel is dark exactly where a dot is. Each place of each row is looked at, but those whose
 middle is on the fold below the sheet."""
 import sys

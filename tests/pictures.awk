@@ -94,7 +94,7 @@ function line(from, to,   i, c, u, ink, shown, blank, text) {
 function count_bits(value,   k, n) { for (k = 0; k < 7; k++) n += int(value / 2 ^ k) % 2; return n }
 
 function sheet(device, x, lines,   i, picture, y) {
-    picture = "<g transform=\"translate(" x " 1050)\">\n<text font-size=\"210\" fill=\"#555\" y=\"-210\">Printer " device "</text>\n<rect width=\"12600\" height=\"" 210 * lines "\" fill=\"url(#paper)\" stroke=\"#b4afa2\" stroke-width=\"10\"/>\n<rect y=\"1260\" width=\"12600\" height=\"" 210 * (lines - 6) "\" fill=\"url(#folds)\"/>\n<g transform=\"translate(1260 630)\">\n<g stroke-width=\"22\" stroke-linecap=\"round\" fill-opacity=\"0\" font-size=\"140\">\n"
+    picture = "<g transform=\"translate(" x " 1050)\">\n<text font-size=\"210\" fill=\"#555\" y=\"-210\">Printer " device "</text>\n<rect width=\"12600\" height=\"" 210 * lines "\" fill=\"url(#paper)\" stroke=\"#b4afa2\" stroke-width=\"10\"/>\n<rect y=\"1260\" width=\"12600\" height=\"" 210 * (lines - 6) "\" fill=\"url(#folds)\"/>\n<g transform=\"translate(1260 630)\">\n<g stroke-width=\"29\" stroke-linecap=\"round\" fill-opacity=\"0\" font-size=\"140\">\n"
     y = 0
     for (i = 1; i <= rows[device]; i++) {
         picture = picture "<g transform=\"translate(0 " 10 * top[device, i] ")\">\n" uses(first[device, i], last[device, i]) letters(first[device, i], last[device, i]) "</g>\n"
@@ -166,7 +166,7 @@ function one_sheet(device, number,   i, k, begin, ink, text) {
         for (k = first[device, i]; k <= last[device, i]; k++) if (!(name_of(k) in defined)) { defined[name_of(k)] = 1; text = text definition(k) }
         ink = ink "<g transform=\"translate(0 " 10 * top[device, i] ")\">\n" uses(first[device, i], last[device, i]) letters(first[device, i], last[device, i]) "</g>\n"
     }
-    text = text "</defs>\n<rect y=\"" begin "\" width=\"12600\" height=\"13860\" fill=\"url(#paper)\"/>\n<g transform=\"translate(1260 630)\">\n<g stroke-width=\"22\" stroke-linecap=\"round\" fill-opacity=\"0\" font-size=\"140\">\n"
+    text = text "</defs>\n<rect y=\"" begin "\" width=\"12600\" height=\"13860\" fill=\"url(#paper)\"/>\n<g transform=\"translate(1260 630)\">\n<g stroke-width=\"29\" stroke-linecap=\"round\" fill-opacity=\"0\" font-size=\"140\">\n"
     return text ink "</g>\n</g>\n</svg>\n"
 }
 

@@ -1,9 +1,9 @@
 #!/usr/bin/env python3
 """printed.py PAGE DOTS PDF: how many places of a document's sheets are drawn wrong, by pdftoppm at 1260 pixels an inch: 21 pixels a
 dot column and 10 pixels a 1/126 inch. PAGE is the page text, and DOTS has a line `PRINTER X Y` for each dot (pictures.awk writes it).
-A disc is 22 pixels wide, and its middle is 10 pixels below the top of its place. So the pixel in the middle of a dot column, 10 below
+A disc is 29 pixels wide, and its middle is 10 pixels below the top of its place. So the pixel in the middle of a dot column, 10 below
 the top of a place (x, y), is dark exactly where a dot is at (x, y - 1), (x, y) or (x, y + 1). Each place of each sheet is looked at,
-and what is beside the 480 dot columns is white. The number of sheets is looked at too."""
+and what is beside the discs of the 480 dot columns is white. The number of sheets is looked at too."""
 import subprocess, sys
 
 LEFT, SHEET, WIDTH, HEIGHT = 945, 1386, 11970, 13860  # 3/4 inch from the left, 1/126 inch a sheet, pixels a sheet
@@ -38,7 +38,7 @@ def wrong_on(pixels, dots):
         line = bytes(pixels[WIDTH * (10 * y + 10 if y < SHEET - 1 else 10 * y + 9):][:WIDTH])
         wanted = {x for x in range(480) for near in (y - 1, y, y + 1) if (x, near) in dots}
         dark = {x for x in range(480) if line[LEFT + 21 * x + 10] < 128}
-        beside = line[:LEFT - 1] + line[WIDTH - LEFT + 1:]
+        beside = line[:LEFT - 5] + line[WIDTH - LEFT + 5:]
         wrong += len(wanted ^ dark) + (beside != b"\xff" * len(beside))
     return wrong
 

@@ -55,9 +55,10 @@ paper_folds = codes "\" fill=\"url(#paper)\" stroke=\"#b4afa2\" stroke-width=\"1
 unfoldable pub sheet_marks : List ℕ
 sheet_marks = codes "\" fill=\"url(#folds)\"/>\n<g transform=\"translate(1260 630)\">\n"
 
--- the marks of a sheet: strokes a little wider than a dot column, and letters that are not seen
+-- the marks of a sheet: strokes 29 units wide, as far as the place of a dot, 21 by 20, reaches from corner to corner; and letters that
+-- are not seen
 unfoldable pub ink_begin : List ℕ
-ink_begin = codes "<g stroke-width=\"22\" stroke-linecap=\"round\" fill-opacity=\"0\" font-size=\"140\">\n"
+ink_begin = codes "<g stroke-width=\"29\" stroke-linecap=\"round\" fill-opacity=\"0\" font-size=\"140\">\n"
 
 -- a group at a distance
 unfoldable pub row_begin : List ℕ

@@ -111,12 +111,13 @@ pub fn sheet_marks() -> &'static [u8]
     b"\" fill=\"url(#folds)\"/>\n<g transform=\"translate(1260 630)\">\n"
 }
 
-/// The marks of a sheet: strokes a little wider than a dot column, and letters that are not seen.
+/// The marks of a sheet: strokes 29 units wide, as far as the place of a dot, 21 by 20, reaches from corner to corner; and letters
+/// that are not seen.
 #[tactic(auto, unfolding(crate::specs::Parts::ink_begin))]
 pub fn ink_begin() -> &'static [u8]
     ensures { result.now ≡ ink_begin }
 {
-    b"<g stroke-width=\"22\" stroke-linecap=\"round\" fill-opacity=\"0\" font-size=\"140\">\n"
+    b"<g stroke-width=\"29\" stroke-linecap=\"round\" fill-opacity=\"0\" font-size=\"140\">\n"
 }
 
 /// A group at a distance.

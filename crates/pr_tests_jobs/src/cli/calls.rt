@@ -125,7 +125,7 @@ const PICTURE: &str = "\
     130h0\"/>\n</defs>\n<g transform=\"translate(630 1050)\">\n<text font-size=\"210\" fill=\"#555\" \
     y=\"-210\">Printer 4</text>\n<rect width=\"12600\" height=\"1890\" fill=\"url(#paper)\" stroke=\"#b4afa2\" \
     stroke-width=\"10\"/>\n<rect y=\"1260\" width=\"12600\" height=\"630\" fill=\"url(#folds)\"/>\n<g \
-    transform=\"translate(1260 630)\">\n<g stroke-width=\"22\" stroke-linecap=\"round\" fill-opacity=\"0\" \
+    transform=\"translate(1260 630)\">\n<g stroke-width=\"29\" stroke-linecap=\"round\" fill-opacity=\"0\" \
     font-size=\"140\">\n<g transform=\"translate(0 0)\">\n<use href=\"#u72\" x=\"0\"/>\n<use href=\"#u73\" \
     x=\"126\"/>\n<text x=\"0\" y=\"140\" textLength=\"252\" lengthAdjust=\"spacingAndGlyphs\" \
     xml:space=\"preserve\">HI</text>\n</g>\n</g>\n</g>\n</g>\n<text font-size=\"210\" fill=\"#555\" \
