@@ -35,7 +35,7 @@ def main():
     page, dots, picture, *part = sys.argv[1:]
     device, sheet = part or (None, None)
     # where the first dot column and the first row begin, in 1/1260 inch
-    left, top = (630 + 1260, 1050 + 630) if sheet is None else (1260, -13860 * (int(sheet) - 1))
+    left, top = (630 + 1260, 1050 + 630) if sheet is None else (1260, 630 - 13860 * (int(sheet) - 1))
     dark = {tuple(map(int, line.split()[1:])) for line in open(dots) if device in (None, line.split()[0])}
     pixels = grey(picture)
     places = [(x, row + 2 * bit) for row in rows_of(page, device) for bit in range(7) for x in range(480)]

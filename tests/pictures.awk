@@ -1,6 +1,7 @@
 # A page text drawn once more, apart from the proved code, with the characters of examples/characters.txt.
-# usage: awk -v as=svg|text|dots -v present=both|4|5|none -v characters=FILE [-v only=4|5 -v number=N] -f pictures.awk PAGE-TEXT
+# usage: awk -v as=svg|text|dots -v present=both|4|5|none -v characters=FILE [-v only=4|5 -v number=N] [-v above=LINES] -f pictures.awk PAGE-TEXT
 # only and number: one sheet of a printer as svg
+# above: how many lines of 1/6 inch the first row is below the upper edge of the paper, by default 3
 # dots: a line `PRINTER X Y` for each dot
 # a character in UTF-8, also where awk writes it so by itself (gawk in a UTF-8 locale)
 function utf8(u) {
@@ -94,7 +95,7 @@ function line(from, to,   i, c, u, ink, shown, blank, text) {
 function count_bits(value,   k, n) { for (k = 0; k < 7; k++) n += int(value / 2 ^ k) % 2; return n }
 
 function sheet(device, x, lines,   i, picture, y) {
-    picture = "<g transform=\"translate(" x " 1050)\">\n<text font-size=\"210\" fill=\"#555\" y=\"-210\">Printer " device "</text>\n<rect width=\"12600\" height=\"" 210 * lines "\" fill=\"url(#paper)\" stroke=\"#b4afa2\" stroke-width=\"10\"/>\n<rect y=\"1260\" width=\"12600\" height=\"" 210 * (lines - 6) "\" fill=\"url(#folds)\"/>\n<g transform=\"translate(1260 630)\">\n<g stroke-width=\"29\" stroke-linecap=\"round\" fill-opacity=\"0\" font-size=\"140\">\n"
+    picture = "<g transform=\"translate(" x " 1050)\">\n<text font-size=\"210\" fill=\"#555\" y=\"-210\">Printer " device "</text>\n<rect width=\"12600\" height=\"" 210 * lines "\" fill=\"url(#paper)\" stroke=\"#b4afa2\" stroke-width=\"10\"/>\n<rect y=\"1260\" width=\"12600\" height=\"" 210 * (lines - 6) "\" fill=\"url(#folds)\"/>\n<g transform=\"translate(1260 " 210 * above ")\">\n<g stroke-width=\"29\" stroke-linecap=\"round\" fill-opacity=\"0\" font-size=\"140\">\n"
     y = 0
     for (i = 1; i <= rows[device]; i++) {
         picture = picture "<g transform=\"translate(0 " 10 * top[device, i] ")\">\n" uses(first[device, i], last[device, i]) letters(first[device, i], last[device, i]) "</g>\n"
@@ -141,11 +142,11 @@ function picture(   four, five, lines, width, height, text, noted) {
     five = (present == "both" || present == 5) && (rows[5] || held[5])
     if (!four && !five) { four = present == "both" || present == 4; five = present == "both" || present == 5 }
     lines = end_of(4) > end_of(5) ? end_of(4) : end_of(5)
-    lines = 3 * int((lines + 188) / 63)
+    lines = 3 * int((lines + 21 * above + 125) / 63)
     width = four && five ? 129 : 66
     noted = status_line()
     height = lines + 9 + (stop != "") + (noted != "")
-    text = "<svg xmlns=\"http://www.w3.org/2000/svg\" version=\"1.1\" width=\"" width "pc\" height=\"" height "pc\" viewBox=\"0 0 " 210 * width " " 210 * height "\">\n<desc>Pages of VIC-1525 printers. Each dot is where the hammer strikes.</desc>\n<pattern id=\"paper\" width=\"12600\" height=\"630\" patternUnits=\"userSpaceOnUse\"><rect width=\"12600\" height=\"630\" fill=\"#fff\"/><g fill=\"#e9e6df\" stroke=\"#b4afa2\" stroke-width=\"10\"><circle cx=\"315\" cy=\"315\" r=\"100\"/><circle cx=\"12285\" cy=\"315\" r=\"100\"/><path stroke-dasharray=\"35\" d=\"M630 0v630M11970 0v630\"/></g></pattern>\n<pattern id=\"folds\" y=\"7560\" width=\"12600\" height=\"13860\" patternUnits=\"userSpaceOnUse\"><path stroke=\"#b4afa2\" stroke-width=\"10\" stroke-dasharray=\"70\" d=\"M0 6930h12600\"/></pattern>\n<rect width=\"100%\" height=\"100%\" fill=\"#e9e6df\"/>\n<defs>\n"
+    text = "<svg xmlns=\"http://www.w3.org/2000/svg\" version=\"1.1\" width=\"" width "pc\" height=\"" height "pc\" viewBox=\"0 0 " 210 * width " " 210 * height "\">\n<desc>Pages of VIC-1525 printers. Each dot is where the hammer strikes.</desc>\n<pattern id=\"paper\" width=\"12600\" height=\"630\" patternUnits=\"userSpaceOnUse\"><rect width=\"12600\" height=\"630\" fill=\"#fff\"/><g fill=\"#e9e6df\" stroke=\"#b4afa2\" stroke-width=\"10\"><circle cx=\"315\" cy=\"315\" r=\"100\"/><circle cx=\"12285\" cy=\"315\" r=\"100\"/><path stroke-dasharray=\"35\" d=\"M630 0v630M11970 0v630\"/></g></pattern>\n<pattern id=\"folds\" y=\"6930\" width=\"12600\" height=\"13860\" patternUnits=\"userSpaceOnUse\"><path stroke=\"#b4afa2\" stroke-width=\"10\" stroke-dasharray=\"70\" d=\"M0 6930h12600\"/></pattern>\n<rect width=\"100%\" height=\"100%\" fill=\"#e9e6df\"/>\n<defs>\n"
     if (four) text = text definitions(4)
     if (five) text = text definitions(5)
     text = text "</defs>\n"
@@ -158,13 +159,14 @@ function picture(   four, five, lines, width, height, text, noted) {
 }
 
 # a sheet of a printer, from 1: the rows that reach it
-function one_sheet(device, number,   i, k, begin, ink, text) {
+function one_sheet(device, number,   i, k, y, begin, ink, text) {
     begin = 13860 * (number - 1) + 630
-    text = "<svg xmlns=\"http://www.w3.org/2000/svg\" version=\"1.1\" width=\"60pc\" height=\"66pc\" viewBox=\"0 " begin " 12600 13860\">\n<desc>Pages of VIC-1525 printers. Each dot is where the hammer strikes.</desc>\n<pattern id=\"paper\" width=\"12600\" height=\"630\" patternUnits=\"userSpaceOnUse\"><rect width=\"12600\" height=\"630\" fill=\"#fff\"/><g fill=\"#e9e6df\" stroke=\"#b4afa2\" stroke-width=\"10\"><circle cx=\"315\" cy=\"315\" r=\"100\"/><circle cx=\"12285\" cy=\"315\" r=\"100\"/><path stroke-dasharray=\"35\" d=\"M630 0v630M11970 0v630\"/></g></pattern>\n<pattern id=\"folds\" y=\"7560\" width=\"12600\" height=\"13860\" patternUnits=\"userSpaceOnUse\"><path stroke=\"#b4afa2\" stroke-width=\"10\" stroke-dasharray=\"70\" d=\"M0 6930h12600\"/></pattern>\n<defs>\n"
+    text = "<svg xmlns=\"http://www.w3.org/2000/svg\" version=\"1.1\" width=\"60pc\" height=\"66pc\" viewBox=\"0 " begin " 12600 13860\">\n<desc>Pages of VIC-1525 printers. Each dot is where the hammer strikes.</desc>\n<pattern id=\"paper\" width=\"12600\" height=\"630\" patternUnits=\"userSpaceOnUse\"><rect width=\"12600\" height=\"630\" fill=\"#fff\"/><g fill=\"#e9e6df\" stroke=\"#b4afa2\" stroke-width=\"10\"><circle cx=\"315\" cy=\"315\" r=\"100\"/><circle cx=\"12285\" cy=\"315\" r=\"100\"/><path stroke-dasharray=\"35\" d=\"M630 0v630M11970 0v630\"/></g></pattern>\n<pattern id=\"folds\" y=\"6930\" width=\"12600\" height=\"13860\" patternUnits=\"userSpaceOnUse\"><path stroke=\"#b4afa2\" stroke-width=\"10\" stroke-dasharray=\"70\" d=\"M0 6930h12600\"/></pattern>\n<defs>\n"
     for (i = 1; i <= rows[device]; i++) {
-        if (int(top[device, i] / 1386) != number - 1 && int((top[device, i] + 13) / 1386) != number - 1) continue
+        y = top[device, i] + 21 * above
+        if (int(y / 1386) != number - 1 && int((y + 13) / 1386) != number - 1) continue
         for (k = first[device, i]; k <= last[device, i]; k++) if (!(name_of(k) in defined)) { defined[name_of(k)] = 1; text = text definition(k) }
-        ink = ink "<g transform=\"translate(0 " 10 * top[device, i] ")\">\n" uses(first[device, i], last[device, i]) letters(first[device, i], last[device, i]) "</g>\n"
+        ink = ink "<g transform=\"translate(0 " 10 * y ")\">\n" uses(first[device, i], last[device, i]) letters(first[device, i], last[device, i]) "</g>\n"
     }
     text = text "</defs>\n<rect y=\"" begin "\" width=\"12600\" height=\"13860\" fill=\"url(#paper)\"/>\n<g transform=\"translate(1260 630)\">\n<g stroke-width=\"29\" stroke-linecap=\"round\" fill-opacity=\"0\" font-size=\"140\">\n"
     return text ink "</g>\n</g>\n</svg>\n"
@@ -189,6 +191,7 @@ function text_lines(   text) {
     return text (stop != "" ? stop ".\n" : "")
 }
 BEGIN {
+    if (above == "") above = 3
     n = split("92 163 94 8593 95 8592 160 160 161 9612 162 9604 163 9620 164 9601 165 9615 166 9618 167 9621 168 129935 169 9700 170 129927 171 9500 172 9623 173 9492 174 9488 175 9602 176 9484 177 9524 178 9516 179 9508 180 9614 181 9613 182 129928 183 129922 184 129923 185 9603 186 129919 187 9622 188 9629 189 9496 190 9624 191 9626 192 9472 193 9824 194 129906 195 129912 196 129911 197 129910 198 129914 199 129905 200 129908 201 9582 202 9584 203 9583 204 129916 205 9586 206 9585 207 129917 208 129918 209 9679 210 129915 211 9829 212 129904 213 9581 214 9587 215 9675 216 9827 217 129909 218 9830 219 9532 220 129932 221 9474 222 960 223 9701", pair, " ")
     for (i = 1; i < n; i += 2) graphic[pair[i]] = pair[i + 1]
     n = split("169 129945 186 10003 222 129942 223 129944", pair, " ")

@@ -1,23 +1,23 @@
 #!/usr/bin/env python3
 """printed.py PAGE DOTS PDF: how many places of a document's sheets are drawn wrong, by pdftoppm at 1260 pixels an inch: 21 pixels a
-dot column and 10 pixels a 1/126 inch. PAGE is the page text, and DOTS has a line `PRINTER X Y` for each dot (pictures.awk writes it).
+dot column and 10 pixels a 1/126 inch. The first row is 63/126 inch below the upper edge. PAGE is the page text, and DOTS has a line `PRINTER X Y` for each dot (pictures.awk writes it).
 A disc is 29 pixels wide, and its middle is 10 pixels below the top of its place. So the pixel in the middle of a dot column, 10 below
 the top of a place (x, y), is dark exactly where a dot is at (x, y - 1), (x, y) or (x, y + 1). Each place of each sheet is looked at,
 and what is beside the discs of the 480 dot columns is white. The number of sheets is looked at too."""
 import subprocess, sys
 
-LEFT, SHEET, WIDTH, HEIGHT = 945, 1386, 11970, 13860  # 3/4 inch from the left, 1/126 inch a sheet, pixels a sheet
+LEFT, ABOVE, SHEET, WIDTH, HEIGHT = 945, 63, 1386, 11970, 13860  # 3/4 inch from the left, 1/126 inch above and a sheet, pixels a sheet
 
 
 def rows_of(page):
-    """The distances of each printer's rows, from the page text."""
+    """The distances of each printer's rows from the upper edge, from the page text."""
     found, at = {4: [], 5: []}, None
     for line in open(page):
         words = line.split()
         if line.startswith("printer"):
             at = int(words[1])
         elif line.startswith("row"):
-            found[at].append(int(words[1]))
+            found[at].append(int(words[1]) + ABOVE)
     return found
 
 
@@ -49,7 +49,7 @@ def main():
     found = {4: set(), 5: set()}
     for line in open(dots):
         printer, x, y = map(int, line.split())
-        found[printer].add((x, y))
+        found[printer].add((x, y + ABOVE))
     sheets = [(printer, n) for printer in (4, 5) for n in range(max(((y + 13) // SHEET + 1 for y in rows[printer]), default=0))]
     sheets = sheets or [(4, 0)]
     info = subprocess.run(["pdfinfo", pdf], check=True, stdout=subprocess.PIPE).stdout.decode()

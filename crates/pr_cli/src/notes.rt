@@ -210,7 +210,7 @@ fn drawn_in(format: Format, present: Present) -> Present {
         Format::List => NO_PRINTER,
         Format::Lines => present,
         Format::Svg(part) | Format::Png(part) => shown_of(part.device, present),
-        Format::Pdf(device) => shown_of(device, present),
+        Format::Pdf(device, _) => shown_of(device, present),
     }
 }
 

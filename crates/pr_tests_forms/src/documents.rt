@@ -56,7 +56,7 @@ const NEXT_COLUMN: Placed = Placed {
 
 /// How a document of one sheet with a `T` begins.
 const BEGIN: &str =
-    "%PDF-1.4\n1 0 obj\n<< /Type /Catalog /Pages 22 0 R >>\nendobj\n2 0 obj\n<< /Font << /U 10 0 R /UW 11 0 R ";
+    "%PDF-1.6\n1 0 obj\n<< /Type /Catalog /ViewerPreferences << /PrintScaling /None >> /Pages 22 0 R >>\nendobj\n2 0 obj\n<< /Font << /U 10 0 R /UW 11 0 R ";
 
 /// The fonts that have a glyph, and the first that has none.
 const FONTS: &str =
@@ -84,7 +84,7 @@ fn has_parts(
     drawn: Present,
     parts: &[&str],
 ) {
-    let document = pdf(rt.alloc(), &Shapes::own(), four, five, drawn).expect(rt, "memory");
+    let document = pdf(rt.alloc(), &Shapes::own(), four, five, 0, drawn).expect(rt, "memory");
     let text = str::from_utf8(document.as_slice()).expect(rt, "text");
     for part in parts {
         assert!(rt; text.contains(*part), "{part}");

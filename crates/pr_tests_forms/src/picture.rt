@@ -34,7 +34,7 @@ const BEGIN: &str = "<svg xmlns=\"http://www.w3.org/2000/svg\" version=\"1.1\" "
 
 /// What is between its size and the definitions of marks.
 const ABOUT: &str =
-    ">\n<desc>Pages of VIC-1525 printers. Each dot is where the hammer strikes.</desc>\n<pattern id=\"paper\" width=\"12600\" height=\"630\" patternUnits=\"userSpaceOnUse\"><rect width=\"12600\" height=\"630\" fill=\"#fff\"/><g fill=\"#e9e6df\" stroke=\"#b4afa2\" stroke-width=\"10\"><circle cx=\"315\" cy=\"315\" r=\"100\"/><circle cx=\"12285\" cy=\"315\" r=\"100\"/><path stroke-dasharray=\"35\" d=\"M630 0v630M11970 0v630\"/></g></pattern>\n<pattern id=\"folds\" y=\"7560\" width=\"12600\" height=\"13860\" patternUnits=\"userSpaceOnUse\"><path stroke=\"#b4afa2\" stroke-width=\"10\" stroke-dasharray=\"70\" d=\"M0 6930h12600\"/></pattern>\n<rect width=\"100%\" height=\"100%\" fill=\"#e9e6df\"/>\n<defs>\n";
+    ">\n<desc>Pages of VIC-1525 printers. Each dot is where the hammer strikes.</desc>\n<pattern id=\"paper\" width=\"12600\" height=\"630\" patternUnits=\"userSpaceOnUse\"><rect width=\"12600\" height=\"630\" fill=\"#fff\"/><g fill=\"#e9e6df\" stroke=\"#b4afa2\" stroke-width=\"10\"><circle cx=\"315\" cy=\"315\" r=\"100\"/><circle cx=\"12285\" cy=\"315\" r=\"100\"/><path stroke-dasharray=\"35\" d=\"M630 0v630M11970 0v630\"/></g></pattern>\n<pattern id=\"folds\" y=\"6930\" width=\"12600\" height=\"13860\" patternUnits=\"userSpaceOnUse\"><path stroke=\"#b4afa2\" stroke-width=\"10\" stroke-dasharray=\"70\" d=\"M0 6930h12600\"/></pattern>\n<rect width=\"100%\" height=\"100%\" fill=\"#e9e6df\"/>\n<defs>\n";
 
 /// The definition of `A`.
 pub const DEFINED_A: &str =
@@ -156,7 +156,7 @@ fn printed(rt: &impl AllocGlobal, paper4: Paper, held5: Sequence<Placed>) -> Out
 
 /// The picture of what a run leaves.
 fn drawn(rt: &(impl Abort + AllocGlobal), outcome: &Outcome, present: Present) -> Vec<u8> {
-    svg(rt.alloc(), &Shapes::own(), outcome, present).expect(rt, "memory")
+    svg(rt.alloc(), &Shapes::own(), 3, outcome, present).expect(rt, "memory")
 }
 
 /// Its lines.
@@ -324,7 +324,7 @@ fn printers_that_printed_nothing(rt: HostRuntime) {
 /// The blocks of a picture, one after the other.
 fn drawn_in_blocks(rt: &(impl Abort + AllocGlobal), outcome: Outcome, present: Present) -> Vec<u8> {
     let mut bytes = Vec::new(rt.alloc());
-    let blocks = svg_blocks(rt.alloc(), &Shapes::own(), outcome, present).expect(rt, "memory");
+    let blocks = svg_blocks(rt.alloc(), &Shapes::own(), 3, outcome, present).expect(rt, "memory");
     for block in blocks {
         bytes.extend_from_slice(&block).expect(rt, "memory");
     }
@@ -358,7 +358,7 @@ fn laws(_rt: HostRuntime) {
 
 /// How many calls are refused memory. Each other one gives what it gives with ample memory.
 fn refusals(rt: &(impl Abort + AllocGlobal), outcome: &Outcome) -> usize {
-    let drawn = svg(rt.alloc(), &Shapes::own(), outcome, FOUR);
+    let drawn = svg(rt.alloc(), &Shapes::own(), 3, outcome, FOUR);
     let said = text(rt.alloc(), outcome, FOUR);
     let mut refused = 0;
     match drawn {
