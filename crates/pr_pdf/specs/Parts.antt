@@ -3,7 +3,7 @@ use Rattle.std.specs.Prelude.{◌++◌, ℕ, List, codes}
 
 -- the first line
 unfoldable pub header : List ℕ
-header = codes "%PDF-1.4\n"
+header = codes "%PDF-1.6\n"
 
 -- after an object's number
 unfoldable pub object_begin : List ℕ
@@ -41,9 +41,9 @@ stream_bytes = codes " >>\nstream\n"
 unfoldable pub stream_end : List ℕ
 stream_end = codes "\nendstream"
 
--- the object that begins the document, up to the one that has its sheets
+-- the object that begins the document, up to the one that has its sheets: viewers are not to scale them for printing
 unfoldable pub catalog_begin : List ℕ
-catalog_begin = codes "<< /Type /Catalog /Pages "
+catalog_begin = codes "<< /Type /Catalog /ViewerPreferences << /PrintScaling /None >> /Pages "
 
 -- the fonts by their names
 unfoldable pub fonts_begin : List ℕ

@@ -8,7 +8,7 @@ ghost use Rattle.pr_pdf.specs.Parts.{header, object_begin, object_end, reference
 pub fn header() -> &'static [u8]
     ensures { result.now ≡ header }
 {
-    b"%PDF-1.4\n"
+    b"%PDF-1.6\n"
 }
 
 /// After an object's number.
@@ -83,12 +83,12 @@ pub fn stream_end() -> &'static [u8]
     b"\nendstream"
 }
 
-/// The object that begins the document, up to the one that has its sheets.
+/// The object that begins the document, up to the one that has its sheets: viewers are not to scale them for printing.
 #[tactic(auto, unfolding(crate::specs::Parts::catalog_begin))]
 pub fn catalog_begin() -> &'static [u8]
     ensures { result.now ≡ catalog_begin }
 {
-    b"<< /Type /Catalog /Pages "
+    b"<< /Type /Catalog /ViewerPreferences << /PrintScaling /None >> /Pages "
 }
 
 /// The fonts by their names.
