@@ -5,10 +5,11 @@ use Rattle.std.specs.List.{concat}
 use Rattle.pr_page.specs.declared.paper.Paper.{Paper}
 use Rattle.pr_page.specs.declared.paper.Row.{Row}
 use Rattle.pr_page.specs.declared.paper.Mark.{Mark}
+use Rattle.pr_render.specs.declared.format.Size.{Size}
 use Rattle.pr_serial.specs.declared.Present.{Present}
 use Rattle.pr_dots.specs.declared.character_sets.Shapes.{Shapes}
 use Rattle.pr_pdf.specs.Fonts.{characters_pdf, encoding_pdf, font_pdf, glyph_pdf, resources_pdf, used_among, used_before, used_of, widths_pdf}
-use Rattle.pr_pdf.specs.Parts.{catalog_begin, header, list_end, object_begin, object_end, page_begin, page_content, pages_begin, pages_kids, place_end, reference, reference_end, stream_begin, stream_bytes, stream_end, table_begin, table_free, trailer_begin, trailer_end, trailer_root}
+use Rattle.pr_pdf.specs.Parts.{catalog_begin, header, list_end, object_begin, object_end, frame, page_begin, page_content, page_end, pages_begin, pages_kids, place_end, reference, reference_end, stream_begin, stream_bytes, stream_end, table_begin, table_free, trailer_begin, trailer_end, trailer_root}
 use Rattle.pr_pdf.specs.Sheets.{sheet_pdf, sheet_texts}
 use Rattle.pr_pdf.specs.Words.{numbers_from}
 
@@ -63,9 +64,11 @@ stream_pdf bytes = stream_begin ++ decimal (length bytes) ++ stream_bytes ++ byt
 unfoldable pub catalog_pdf : ℕ → List ℕ
 catalog_pdf pages = catalog_begin ++ decimal pages ++ reference_end
 
--- a sheet, with the numbers of the object that has the sheets and of what it draws
+-- a sheet, with the numbers of the object that has the sheets, of what is drawn first on every sheet, the object after that, and of
+-- what it draws itself
 unfoldable pub page_pdf : (pages content : ℕ) → List ℕ
-page_pdf pages content = page_begin ++ decimal pages ++ page_content ++ decimal content ++ reference_end
+page_pdf pages content =
+    page_begin ++ decimal pages ++ page_content ++ decimal (pages + 1) ++ reference ++ decimal content ++ page_end
 
 -- the objects of sheets from a number on: two for each
 abbrev pub sheet_bodies : (pages number : ℕ) → List (List ℕ) → List (List ℕ)
@@ -77,10 +80,10 @@ sheet_bodies pages number (sheet ∷ sheets) =
 unfoldable pub kid_pdf : (first sheet : ℕ) → List ℕ
 kid_pdf first sheet = decimal (first + 2 * sheet) ++ reference
 
--- all sheets, of 9.5 by 11 inches, the first of which is an object with this number
-unfoldable pub pages_pdf : (first count : ℕ) → List ℕ
-pages_pdf first count =
-    pages_begin ++ decimal count ++ pages_kids ++ flat_map (kid_pdf first) (numbers_from 0 count) ++ list_end
+-- all sheets, on paper of this size, the first of which is an object with this number
+unfoldable pub pages_pdf : Size → (first count : ℕ) → List ℕ
+pages_pdf size first count =
+    pages_begin size ++ decimal count ++ pages_kids ++ flat_map (kid_pdf first) (numbers_from 0 count) ++ list_end
 
 -- objects 1 to 9
 abbrev pub first_bodies : ℕ → List (List ℕ)
@@ -92,12 +95,16 @@ first_bodies pages =
 abbrev pub glyph_body : Shapes → ℕ → List ℕ
 glyph_body shapes number = stream_pdf (glyph_pdf shapes (number / 256) (number % 256))
 
+-- the last two objects: all sheets, and what is drawn first on each
+abbrev pub last_bodies : Size → (holes : Bool) → (first count : ℕ) → List (List ℕ)
+last_bodies size holes first count = pages_pdf size first count ∷ stream_pdf (frame size holes) ∷ []
+
 -- all objects, of which `first` is the number of the first sheet
-abbrev pub bodies_from : Shapes → (first : ℕ) → List Bool → List (List ℕ) → List (List ℕ)
-bodies_from shapes first used sheets =
+abbrev pub bodies_from : Shapes → Size → (holes : Bool) → (first : ℕ) → List Bool → List (List ℕ) → List (List ℕ)
+bodies_from shapes size holes first used sheets =
     first_bodies (first + 2 * length sheets) ++ map (font_pdf used) (numbers_from 0 9)
     ++ map (glyph_body shapes) (used_among used 0 2304)
-    ++ sheet_bodies (first + 2 * length sheets) first sheets ++ pages_pdf first (length sheets) ∷ []
+    ++ sheet_bodies (first + 2 * length sheets) first sheets ++ last_bodies size holes first (length sheets)
 
 -- the rows of the printers that are drawn
 abbrev pub rows_if : Bool → Paper → List Row
@@ -113,13 +120,14 @@ or_empty [] = sheet_pdf [] 0 ∷ []
 or_empty (sheet ∷ sheets) = sheet ∷ sheets
 
 -- the file of rows of both printers: the first one's sheets, then the second one's
-abbrev pub rows_pdf : Shapes → (rows4 rows5 : List Row) → List ℕ
-rows_pdf shapes rows4 rows5 = rows_with (used_of (marks_of rows4 ++ marks_of rows5))
+abbrev pub rows_pdf : Shapes → Size → (holes : Bool) → (rows4 rows5 : List Row) → List ℕ
+rows_pdf shapes size holes rows4 rows5 = rows_with (used_of (marks_of rows4 ++ marks_of rows5))
   where
     rows_with : List Bool → List ℕ
     rows_with used =
-        file_of (bodies_from shapes (19 + used_before used 2304) used (or_empty (sheet_texts rows4 ++ sheet_texts rows5)))
+        file_of (bodies_from shapes size holes (19 + used_before used 2304) used (or_empty (sheet_texts rows4 ++ sheet_texts rows5)))
 
--- papers that are printed in these shapes, as a document of sheets. Marks that are held have no place yet, and are left out
-unfoldable pub pdf_of : Shapes → (paper4 paper5 : Paper) → Present → List ℕ
-pdf_of shapes paper4 paper5 drawn = rows_pdf shapes (rows_if drawn.four paper4) (rows_if drawn.five paper5)
+-- papers that are printed in these shapes, as a document of sheets on paper of a size, with its holes or without. Marks that are held
+-- have no place yet, and are left out
+unfoldable pub pdf_of : Shapes → Size → (holes : Bool) → (paper4 paper5 : Paper) → Present → List ℕ
+pdf_of shapes size holes paper4 paper5 drawn = rows_pdf shapes size holes (rows_if drawn.four paper4) (rows_if drawn.five paper5)

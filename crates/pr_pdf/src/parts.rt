@@ -1,7 +1,10 @@
 //! The fixed parts of the document.
 
-ghost use Rattle.std.specs.Prelude.{◌≡◌};
-ghost use Rattle.pr_pdf.specs.Parts.{header, object_begin, object_end, reference, reference_end, dictionary_end, list_end, stream_begin, stream_bytes, stream_end, catalog_begin, fonts_begin, encoding_begin, characters_begin, characters_end, font_begin, font_characters, font_glyphs, glyph_box, glyph_strokes, page_begin, page_content, pages_begin, pages_kids, sheet_begin, sheet_end, run_place, run_codes, run_end, disc_move, disc_stroke, table_begin, table_free, place_end, trailer_begin, trailer_root, trailer_end};
+ghost use Rattle.std.specs.Prelude.{◌≡◌, ◌++◌, [], if◌then◌else◌, OnOk};
+ghost use Rattle.pr_pdf.specs.Parts.{header, object_begin, object_end, reference, reference_end, dictionary_end, list_end, stream_begin, stream_bytes, stream_end, catalog_begin, fonts_begin, encoding_begin, characters_begin, characters_end, font_begin, font_characters, font_glyphs, frame, glyph_box, glyph_strokes, page_begin, page_content, page_end, pages_begin, pages_kids, sheet_begin, sheet_end, size_frame, strips, run_place, run_codes, run_end, disc_move, disc_stroke, table_begin, table_free, place_end, trailer_begin, trailer_root, trailer_end};
+
+use pr_render::Size;
+use std::alloc::AllocError;
 
 /// The first line.
 #[tactic(auto, unfolding(crate::specs::Parts::header))]
@@ -172,20 +175,68 @@ pub fn page_begin() -> &'static [u8]
     b"<< /Type /Page /Parent "
 }
 
-/// Up to what it draws.
+/// Up to what is drawn first on every sheet.
 #[tactic(auto, unfolding(crate::specs::Parts::page_content))]
 pub fn page_content() -> &'static [u8]
     ensures { result.now ≡ page_content }
 {
-    b" 0 R /Contents "
+    b" 0 R /Contents [ "
 }
 
-/// The sheets, of 9.5 by 11 inches, up to their count.
-#[tactic(auto, unfolding(crate::specs::Parts::pages_begin))]
-pub fn pages_begin() -> &'static [u8]
-    ensures { result.now ≡ pages_begin }
+/// After what it draws itself.
+#[tactic(auto, unfolding(crate::specs::Parts::page_end))]
+pub fn page_end() -> &'static [u8]
+    ensures { result.now ≡ page_end }
 {
-    b"<< /Type /Pages /MediaBox [0 0 684 792] /Resources 2 0 R /Count "
+    b" 0 R ] >>"
+}
+
+/// The sheets on paper of a size, up to their count.
+#[tactic(auto, unfolding(crate::specs::Parts::pages_begin))]
+pub fn pages_begin(size: Size) -> &'static [u8]
+    ensures { result.now ≡ pages_begin size }
+{
+    match size {
+        Size::Continuous => b"<< /Type /Pages /MediaBox [0 0 684 792] /Resources 2 0 R /Count ",
+        Size::A4 => b"<< /Type /Pages /MediaBox [0 0 595.276 841.89] /Resources 2 0 R /Count ",
+        Size::Letter => b"<< /Type /Pages /MediaBox [0 0 612 792] /Resources 2 0 R /Count ",
+    }
+}
+
+/// Where the 9.5 by 11 inches of a sheet are on the paper, of which only they are drawn.
+#[tactic(auto, unfolding(crate::specs::Parts::size_frame))]
+fn size_frame(size: Size) -> &'static [u8]
+    ensures { result.now ≡ size_frame size }
+{
+    match size {
+        Size::Continuous => b"",
+        Size::A4 => b"1 0 0 1 -44.362 24.945 cm\n0 0 684 792 re W n\n",
+        Size::Letter => b".95 0 0 .95 -18.9 19.8 cm\n0 0 684 792 re W n\n",
+    }
+}
+
+/// The strips of a sheet: 22 holes in each, half an inch apart, the lines at which they tear off, and the folds.
+#[tactic(auto, unfolding(crate::specs::Parts::strips))]
+fn strips() -> &'static [u8]
+    ensures { result.now ≡ strips }
+{
+    b"q .8 G 11.4 w 1 J [.01 35.99] 0 d 18 18 m 18 774.1 l 666 18 m 666 774.1 l S\n0 J .5 w [2] 0 d 36 0 m 36 792 l 648 0 m 648 792 l 0 .25 m 684 .25 l 0 791.75 m 684 791.75 l S Q\n"
+}
+
+/// The strips, if they are wanted.
+fn strips_if(holes: bool) -> &'static [u8]
+    ensures { result.now ≡ (if holes then strips else []) }
+{
+    if holes { strips() } else { b"" }
+}
+
+/// Adds what is drawn first on every sheet.
+#[tactic(auto, unfolding(crate::specs::Parts::frame))]
+pub fn push_frame(text: &mut Vec<u8>, size: Size, holes: bool) -> Result<(), AllocError>
+    ensures { OnOk result (text.new.items ≡ text.old.items ++ frame size holes) }
+{
+    text.extend_from_slice(size_frame(size))?;
+    text.extend_from_slice(strips_if(holes))
 }
 
 /// Up to the first sheet.
