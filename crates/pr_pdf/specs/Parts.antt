@@ -43,9 +43,61 @@ stream_bytes = codes " >>\nstream\n"
 unfoldable pub stream_end : List ℕ
 stream_end = codes "\nendstream"
 
--- the object that begins the document, up to the one that has its sheets: viewers are not to scale them for printing
+-- the object that begins the document: viewers are not to scale its sheets for printing
 unfoldable pub catalog_begin : List ℕ
-catalog_begin = codes "<< /Type /Catalog /ViewerPreferences << /PrintScaling /None >> /Pages "
+catalog_begin = codes "<< /Type /Catalog /ViewerPreferences << /PrintScaling /None >> "
+
+-- up to the object that has its sheets
+unfoldable pub catalog_pages : List ℕ
+catalog_pages = codes "/Pages "
+
+-- the names of sheets: those of printer 4, up to how many they are
+unfoldable pub labels_begin : List ℕ
+labels_begin = codes "/PageLabels << /Nums [ 0 << /P (printer 4, sheet ) /S /D >> "
+
+-- those of printer 5, and up to the object that has the bookmarks
+unfoldable pub labels_end : List ℕ
+labels_end = codes " << /P (printer 5, sheet ) /S /D >> ] >> /Outlines "
+
+-- the bookmarks, up to the first, up to the last, and up to how many they are
+unfoldable pub bookmarks_begin : List ℕ
+bookmarks_begin = codes "<< /Type /Outlines /First "
+
+unfoldable pub bookmarks_last : List ℕ
+bookmarks_last = codes " 0 R /Last "
+
+unfoldable pub bookmarks_count : List ℕ
+bookmarks_count = codes " 0 R /Count "
+
+unfoldable pub bookmarks_end : List ℕ
+bookmarks_end = codes " >>"
+
+-- a bookmark, up to its printer, its sheet, the object of all bookmarks, and the sheet's object
+unfoldable pub bookmark_begin : List ℕ
+bookmark_begin = codes "<< /Title (printer "
+
+unfoldable pub bookmark_sheet : List ℕ
+bookmark_sheet = codes ", sheet "
+
+unfoldable pub bookmark_parent : List ℕ
+bookmark_parent = codes ") /Parent "
+
+unfoldable pub bookmark_place : List ℕ
+bookmark_place = codes " 0 R /Dest [ "
+
+unfoldable pub bookmark_fit : List ℕ
+bookmark_fit = codes " 0 R /Fit ]"
+
+-- the bookmark before it, and after it
+unfoldable pub bookmark_before : List ℕ
+bookmark_before = codes " /Prev "
+
+unfoldable pub bookmark_after : List ℕ
+bookmark_after = codes " /Next "
+
+-- after the number of such a bookmark
+unfoldable pub bookmark_end : List ℕ
+bookmark_end = codes " 0 R"
 
 -- the fonts by their names
 unfoldable pub fonts_begin : List ℕ

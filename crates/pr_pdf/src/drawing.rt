@@ -4,20 +4,21 @@ ghost use Rattle.std.specs.Prelude.{◌≡◌, ◌+◌, ◌*◌, ◌^◌, ◌≤
 ghost use Rattle.pr_pdf.specs.Fonts.{encoding_pdf, font_pdf, glyph_object, resources_pdf, used_among, used_of, widths_pdf, characters_pdf};
 ghost use Rattle.pr_dots.specs.Sheets.{lowered, lowered_rows, sheet_count};
 ghost use Rattle.pr_pdf.specs.Sheets.{sheet_pdf, sheet_texts};
-ghost use Rattle.pr_pdf.specs.Pdf.{catalog_pdf, file_limit, first_bodies, glyph_body, kid_pdf, marks_of, or_empty, page_pdf, pages_pdf, pdf_of, rows_if, rows_pdf, sheet_bodies, stream_pdf};
+ghost use Rattle.pr_pdf.specs.Pdf.{bookmark_bodies, bookmark_pdf, bookmarks_pdf, catalog_pdf, file_limit, first_bodies, glyph_body, kid_pdf, marks_of, or_empty, page_pdf, pages_pdf, pdf_of, rows_if, rows_pdf, sheet_bodies, stream_pdf};
 ghost use Rattle.pr_pdf.specs.Parts.{frame};
 ghost use Rattle.pr_pdf.specs.Words.{numbers_from};
 ghost use Rattle.pr_pdf.specs.Linked.{Adds, HasBodies, ascend, bodies_before};
 
 use crate::adding::push_between;
+use crate::bookmarks::{are_two, push_bookmark, push_bookmarks, push_labels};
 use crate::document::Document;
 use crate::fault::PdfFault;
 use crate::fonts::{push_characters, push_encoding, push_resources, push_widths};
 use crate::glyphs::{push_font, push_glyph};
 use crate::marks::FONTS;
 use crate::parts::{
-    catalog_begin, list_end, page_begin, page_content, page_end, pages_begin, pages_kids,
-    push_frame, reference, reference_end,
+    catalog_begin, catalog_pages, list_end, page_begin, page_content, page_end, pages_begin,
+    pages_kids, push_frame, reference, reference_end,
 };
 use crate::sheets::{are_ascending, push_sheet, rows_from, skip_before};
 use crate::used::{GLYPHS, Used};
@@ -35,11 +36,20 @@ const FIRST_GLYPH: u64 = 19;
 
 /// Adds the object that begins the document.
 #[tactic(auto, unfolding(crate::specs::Pdf::catalog_pdf))]
-fn add_catalog(document: &mut Document, alloc: Global, pages: u64) -> Result<(), AllocError>
-    ensures { OnOk result (Adds (catalog_pdf pages ∷ []) document.old document.new) }
+fn add_catalog(
+    document: &mut Document,
+    alloc: Global,
+    pages: u64,
+    count4: u64,
+    count5: u64,
+) -> Result<(), AllocError>
+    requires { pages < 2 ^ 60 }
+    ensures { OnOk result (Adds (catalog_pdf pages count4 count5 ∷ []) document.old document.new) }
 {
     let mut text = Vec::new(alloc);
-    push_between(&mut text, catalog_begin(), pages, reference_end())?;
+    text.extend_from_slice(catalog_begin())?;
+    push_labels(&mut text, pages, count4, count5)?;
+    push_between(&mut text, catalog_pages(), pages, reference_end())?;
     document.add(&text)
 }
 
@@ -81,10 +91,17 @@ fn add_characters(document: &mut Document, alloc: Global, set: u64) -> Result<()
 }
 
 /// Adds the objects that all documents have.
-fn add_first(document: &mut Document, alloc: Global, pages: u64) -> Result<(), AllocError>
-    ensures { OnOk result (Adds (first_bodies pages) document.old document.new) }
+fn add_first(
+    document: &mut Document,
+    alloc: Global,
+    pages: u64,
+    count4: u64,
+    count5: u64,
+) -> Result<(), AllocError>
+    requires { pages < 2 ^ 60 }
+    ensures { OnOk result (Adds (first_bodies pages count4 count5) document.old document.new) }
 {
-    add_catalog(document, alloc, pages)?;
+    add_catalog(document, alloc, pages, count4, count5)?;
     add_resources(document, alloc)?;
     add_encoding(document, alloc)?;
     add_widths(document, alloc, 6)?;
@@ -270,6 +287,79 @@ fn add_frame(document: &mut Document, alloc: Global, layout: Layout) -> Result<(
     document.add_stream(&text)
 }
 
+/// Adds the object of this many bookmarks.
+fn add_root(document: &mut Document, alloc: Global, root: u64, count: u64) -> Result<(), AllocError>
+    requires root { root < 2 ^ 61 }
+    requires count { count < 2 ^ 61 }
+    ensures { OnOk result (Adds (bookmarks_pdf root count ∷ []) document.old document.new) }
+{
+    let mut text = Vec::new(alloc);
+    push_bookmarks(&mut text, root, count)?;
+    document.add(&text)
+}
+
+/// Adds a bookmark.
+fn add_bookmark(
+    document: &mut Document,
+    alloc: Global,
+    root: u64,
+    first: u64,
+    count4: u64,
+    count: u64,
+    index: u64,
+) -> Result<(), AllocError>
+    requires root { root < 2 ^ 61 }
+    requires first { first < 2 ^ 61 }
+    requires index { index < 2 ^ 61 }
+    ensures { OnOk result (Adds (bookmark_pdf root first count4 count index ∷ []) document.old document.new) }
+{
+    let mut text = Vec::new(alloc);
+    push_bookmark(&mut text, root, first, count4, count, index)?;
+    document.add(&text)
+}
+
+/// Adds all bookmarks.
+fn add_each(
+    document: &mut Document,
+    alloc: Global,
+    root: u64,
+    first: u64,
+    count4: u64,
+    count: u64,
+) -> Result<(), AllocError>
+    requires root { root < 2 ^ 61 }
+    requires first { first < 2 ^ 61 }
+    requires count { count < 2 ^ 61 }
+    ensures { OnOk result (Adds (map (bookmark_pdf root first count4 count) (numbers_from 0 count)) document.old document.new) }
+{
+    for index in 0..count {
+        add_bookmark(document, alloc, root, first, count4, count, index)?;
+    }
+    Ok(())
+}
+
+/// Adds the bookmarks of this many sheets of each printer, if both have some.
+fn add_bookmarks(
+    document: &mut Document,
+    alloc: Global,
+    root: u64,
+    first: u64,
+    count4: u64,
+    count5: u64,
+) -> Result<(), AllocError>
+    requires root { root < 2 ^ 61 }
+    requires first { first < 2 ^ 61 }
+    requires count4 { count4 < 2 ^ 60 }
+    requires count5 { count5 < 2 ^ 60 }
+    ensures { OnOk result (Adds (bookmark_bodies root first count4 count5) document.old document.new) }
+{
+    if !are_two(count4, count5) {
+        return Ok(());
+    }
+    add_root(document, alloc, root, count4 + count5)?;
+    add_each(document, alloc, root, first, count4, count4 + count5)
+}
+
 /// Which glyphs the marks of rows of both printers use.
 fn used_by(alloc: Global, rows4: &[Row], rows5: &[Row]) -> Result<Used, AllocError>
     ensures { IfOk result (λ used. used ≡ used_of (marks_of rows4.now ++ marks_of rows5.now)) }
@@ -281,11 +371,19 @@ fn used_by(alloc: Global, rows4: &[Row], rows5: &[Row]) -> Result<Used, AllocErr
 }
 
 /// A document with all objects before the sheets.
-fn begun(alloc: Global, shapes: &Shapes, used: &Used, pages: u64) -> Result<Document, AllocError>
-    ensures { IfOk result (λ d. HasBodies (bodies_before shapes.now pages used.now) d) }
+fn begun(
+    alloc: Global,
+    shapes: &Shapes,
+    used: &Used,
+    pages: u64,
+    count4: u64,
+    count5: u64,
+) -> Result<Document, AllocError>
+    requires { pages < 2 ^ 60 }
+    ensures { IfOk result (λ d. HasBodies (bodies_before shapes.now pages count4 count5 used.now) d) }
 {
     let mut document = Document::new(alloc)?;
-    add_first(&mut document, alloc, pages)?;
+    add_first(&mut document, alloc, pages, count4, count5)?;
     add_fonts(&mut document, alloc, used)?;
     add_glyphs(&mut document, alloc, shapes, used, GLYPHS)?;
     Ok(document)
@@ -339,10 +437,13 @@ fn draw(
     let glyphs = used.before(GLYPHS);
     let first = FIRST_GLYPH + glyphs;
     let pages = first + 2 * count;
-    let mut document = begun(alloc, shapes, &used, pages)?;
+    let count4 = sheet_count(top, rows4);
+    let count5 = sheet_count(top, rows5);
+    let mut document = begun(alloc, shapes, &used, pages, count4, count5)?;
     add_all_sheets(&mut document, alloc, pages, first, top, rows4, rows5)?;
     add_pages(&mut document, alloc, layout.size, first, count)?;
     add_frame(&mut document, alloc, layout)?;
+    add_bookmarks(&mut document, alloc, pages + 2, first, count4, count5)?;
     let file = document.finish()?;
     Ok(file)
 }
@@ -355,7 +456,8 @@ fn rows_if(drawn: bool, paper: &Paper) -> &[Row]
 }
 
 /// The papers of the printers that are drawn, printed in these shapes, as a PDF document. Printer 4's sheets come first, then
-/// printer 5's; if neither printed, there is one empty sheet.
+/// printer 5's; if neither printed, there is one empty sheet, and if both did, each sheet has a name, as `printer 4, sheet 1`,
+/// and a bookmark with that name.
 ///
 /// A sheet is 9.5 by 11 inches, with the 480 dot columns in the middle, on paper of the layout's size; the first row is as many
 /// lines of 1/6 inch below the upper edge of the first as the layout says. Each dot is a disc at its place, and a row that straddles a fold is on both sheets. Characters can be found and copied as

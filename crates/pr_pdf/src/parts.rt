@@ -1,7 +1,7 @@
 //! The fixed parts of the document.
 
 ghost use Rattle.std.specs.Prelude.{◌≡◌, ◌++◌, [], if◌then◌else◌, OnOk};
-ghost use Rattle.pr_pdf.specs.Parts.{header, object_begin, object_end, reference, reference_end, dictionary_end, list_end, stream_begin, stream_bytes, stream_end, catalog_begin, fonts_begin, encoding_begin, characters_begin, characters_end, font_begin, font_characters, font_glyphs, frame, glyph_box, glyph_strokes, page_begin, page_content, page_end, pages_begin, pages_kids, sheet_begin, sheet_end, size_frame, strips, run_place, run_codes, run_end, disc_move, disc_stroke, table_begin, table_free, place_end, trailer_begin, trailer_root, trailer_end};
+ghost use Rattle.pr_pdf.specs.Parts.{header, object_begin, object_end, reference, reference_end, dictionary_end, list_end, stream_begin, stream_bytes, stream_end, bookmark_after, bookmark_before, bookmark_begin, bookmark_end, bookmark_fit, bookmark_parent, bookmark_place, bookmark_sheet, bookmarks_begin, bookmarks_count, bookmarks_end, bookmarks_last, catalog_begin, catalog_pages, labels_begin, labels_end, fonts_begin, encoding_begin, characters_begin, characters_end, font_begin, font_characters, font_glyphs, frame, glyph_box, glyph_strokes, page_begin, page_content, page_end, pages_begin, pages_kids, sheet_begin, sheet_end, size_frame, strips, run_place, run_codes, run_end, disc_move, disc_stroke, table_begin, table_free, place_end, trailer_begin, trailer_root, trailer_end};
 
 use pr_render::Size;
 use std::alloc::AllocError;
@@ -86,12 +86,132 @@ pub fn stream_end() -> &'static [u8]
     b"\nendstream"
 }
 
-/// The object that begins the document, up to the one that has its sheets: viewers are not to scale them for printing.
+/// The object that begins the document: viewers are not to scale its sheets for printing.
 #[tactic(auto, unfolding(crate::specs::Parts::catalog_begin))]
 pub fn catalog_begin() -> &'static [u8]
     ensures { result.now ≡ catalog_begin }
 {
-    b"<< /Type /Catalog /ViewerPreferences << /PrintScaling /None >> /Pages "
+    b"<< /Type /Catalog /ViewerPreferences << /PrintScaling /None >> "
+}
+
+/// Up to the object that has its sheets.
+#[tactic(auto, unfolding(crate::specs::Parts::catalog_pages))]
+pub fn catalog_pages() -> &'static [u8]
+    ensures { result.now ≡ catalog_pages }
+{
+    b"/Pages "
+}
+
+/// The names of sheets: those of printer 4, up to how many they are.
+#[tactic(auto, unfolding(crate::specs::Parts::labels_begin))]
+pub fn labels_begin() -> &'static [u8]
+    ensures { result.now ≡ labels_begin }
+{
+    b"/PageLabels << /Nums [ 0 << /P (printer 4, sheet ) /S /D >> "
+}
+
+/// Those of printer 5, and up to the object that has the bookmarks.
+#[tactic(auto, unfolding(crate::specs::Parts::labels_end))]
+pub fn labels_end() -> &'static [u8]
+    ensures { result.now ≡ labels_end }
+{
+    b" << /P (printer 5, sheet ) /S /D >> ] >> /Outlines "
+}
+
+/// The bookmarks, up to the first.
+#[tactic(auto, unfolding(crate::specs::Parts::bookmarks_begin))]
+pub fn bookmarks_begin() -> &'static [u8]
+    ensures { result.now ≡ bookmarks_begin }
+{
+    b"<< /Type /Outlines /First "
+}
+
+/// Up to the last.
+#[tactic(auto, unfolding(crate::specs::Parts::bookmarks_last))]
+pub fn bookmarks_last() -> &'static [u8]
+    ensures { result.now ≡ bookmarks_last }
+{
+    b" 0 R /Last "
+}
+
+/// Up to how many they are.
+#[tactic(auto, unfolding(crate::specs::Parts::bookmarks_count))]
+pub fn bookmarks_count() -> &'static [u8]
+    ensures { result.now ≡ bookmarks_count }
+{
+    b" 0 R /Count "
+}
+
+/// Their end, and that of one.
+#[tactic(auto, unfolding(crate::specs::Parts::bookmarks_end))]
+pub fn bookmarks_end() -> &'static [u8]
+    ensures { result.now ≡ bookmarks_end }
+{
+    b" >>"
+}
+
+/// A bookmark, up to its printer.
+#[tactic(auto, unfolding(crate::specs::Parts::bookmark_begin))]
+pub fn bookmark_begin() -> &'static [u8]
+    ensures { result.now ≡ bookmark_begin }
+{
+    b"<< /Title (printer "
+}
+
+/// Up to its sheet.
+#[tactic(auto, unfolding(crate::specs::Parts::bookmark_sheet))]
+pub fn bookmark_sheet() -> &'static [u8]
+    ensures { result.now ≡ bookmark_sheet }
+{
+    b", sheet "
+}
+
+/// Up to the object of all bookmarks.
+#[tactic(auto, unfolding(crate::specs::Parts::bookmark_parent))]
+pub fn bookmark_parent() -> &'static [u8]
+    ensures { result.now ≡ bookmark_parent }
+{
+    b") /Parent "
+}
+
+/// Up to the sheet's object.
+#[tactic(auto, unfolding(crate::specs::Parts::bookmark_place))]
+pub fn bookmark_place() -> &'static [u8]
+    ensures { result.now ≡ bookmark_place }
+{
+    b" 0 R /Dest [ "
+}
+
+/// After it.
+#[tactic(auto, unfolding(crate::specs::Parts::bookmark_fit))]
+pub fn bookmark_fit() -> &'static [u8]
+    ensures { result.now ≡ bookmark_fit }
+{
+    b" 0 R /Fit ]"
+}
+
+/// The bookmark before it.
+#[tactic(auto, unfolding(crate::specs::Parts::bookmark_before))]
+pub fn bookmark_before() -> &'static [u8]
+    ensures { result.now ≡ bookmark_before }
+{
+    b" /Prev "
+}
+
+/// The one after it.
+#[tactic(auto, unfolding(crate::specs::Parts::bookmark_after))]
+pub fn bookmark_after() -> &'static [u8]
+    ensures { result.now ≡ bookmark_after }
+{
+    b" /Next "
+}
+
+/// After the number of such a bookmark.
+#[tactic(auto, unfolding(crate::specs::Parts::bookmark_end))]
+pub fn bookmark_end() -> &'static [u8]
+    ensures { result.now ≡ bookmark_end }
+{
+    b" 0 R"
 }
 
 /// The fonts by their names.

@@ -111,6 +111,29 @@ fn has_parts_on(
     }
 }
 
+/// Where both printers have sheets, each sheet has a name and a bookmark: here one of printer 4, and two of printer 5.
+#[test]
+fn sheets_of_two_printers(rt: HostRuntime) {
+    let four = paper(&rt, &[(21, &[LETTER])]);
+    let five = paper(&rt, &[(1380, &[LETTER])]);
+    let labels =
+        "/PageLabels << /Nums [ 0 << /P (printer 4, sheet ) /S /D >> 1 << /P (printer 5, sheet ) /S /D >> ] >> /Outlines 28 0 R /Pages 26 0 R >>";
+    let root = "\n28 0 obj\n<< /Type /Outlines /First 29 0 R /Last 31 0 R /Count 3 >>\nendobj\n";
+    let first =
+        "\n29 0 obj\n<< /Title (printer 4, sheet 1) /Parent 28 0 R /Dest [ 20 0 R /Fit ] /Next 30 0 R >>\nendobj\n";
+    let second =
+        "\n30 0 obj\n<< /Title (printer 5, sheet 1) /Parent 28 0 R /Dest [ 22 0 R /Fit ] /Prev 29 0 R /Next 31 0 R >>\nendobj\n";
+    let third =
+        "\n31 0 obj\n<< /Title (printer 5, sheet 2) /Parent 28 0 R /Dest [ 24 0 R /Fit ] /Prev 30 0 R >>\nendobj\n";
+    has_parts(
+        &rt,
+        &four,
+        &five,
+        BOTH,
+        &[labels, root, first, second, third],
+    );
+}
+
 /// The paper, and what is drawn first on every sheet, of each size.
 #[test]
 fn papers(rt: HostRuntime) {
