@@ -304,8 +304,8 @@ typedef struct {
     uint8_t intervals;                /* --intervals: 1: also those outside their bounds, and a table; 0: not */
     uint8_t bounds;                   /* --bounds: enum print1525_bounds */
     uint8_t inverted;                 /* --invert: 1: the levels of a dump or a table are inverted; 0: not */
-    uint8_t top;                      /* --top: the lines from the paper's upper edge to the first row, at most 65; 3 */
     uint8_t paper;                    /* --paper and --holes: enum print1525_paper, of a document */
+    uint8_t top;                      /* --top: the lines from the paper's upper edge to the first row, at most 65; 3 */
     uint8_t reserved[2];              /* 0 */
     uint64_t sheet;                   /* --sheet: this sheet alone, from 1; 0: all, in a PNG file the first */
     uint64_t start;                   /* --from-time: the microsecond at which a dump or a table starts */
@@ -325,7 +325,7 @@ typedef struct {
     {                                                                                                               \
         sizeof(print1525_settings), PRINT1525_PRESENT_BOTH, PRINT1525_MODE_EACH, PRINT1525_FROM_TEXT,               \
             PRINT1525_PAGE_LIST, PRINT1525_TRACE_TEXT, PRINT1525_SET_UPPER, 0, PRINT1525_RECORDING_TEXT,            \
-            PRINT1525_WORDS_LIST, 0, PRINT1525_BOUNDS_PROFILE, 0, 3, 0, {0, 0}, 0, 0, 0, {NULL, 0}, {NULL, 0},      \
+            PRINT1525_WORDS_LIST, 0, PRINT1525_BOUNDS_PROFILE, 0, 0, 3, {0, 0}, 0, 0, 0, {NULL, 0}, {NULL, 0},      \
             {NULL, 0}, {NULL, 0}, {NULL, 0}, {NULL, 0}, NULL, 0, {0, 0, 0, 0, 0}                                    \
     }
 
@@ -1153,7 +1153,6 @@ PRINT1525_OWN void print1525_own_words(print1525_own_text *to, int of, const pri
     static const char subcommands[3][6] = {"pages", "bus", "raw"}, printers[4][5] = {"none", "4", "5", "both"};
     static const char modes[2][5] = {"each", "kept"}, sets[2][6] = {"upper", "lower"};
     static const char formats[5][5] = {"list", "text", "svg", "png", "pdf"}, traces[2][5] = {"text", "vcd"};
-    static const char papers[4][11] = {"continuous", "continuous", "a4", "letter"};
     print1525_own_word(to, "print1525");
     print1525_own_word(to, subcommands[of]);
     if (of == PRINT1525_OWN_RAW) {
@@ -1186,7 +1185,11 @@ PRINT1525_OWN void print1525_own_words(print1525_own_text *to, int of, const pri
         print1525_own_add_number(to, s->top);
     }
     if (s->page == PRINT1525_PAGE_PDF || s->paper > PRINT1525_PAPER_LETTER)
-        print1525_own_option(to, "--paper", s->paper <= PRINT1525_PAPER_LETTER ? papers[s->paper] : "");
+        print1525_own_option(to, "--paper",
+                             s->paper == PRINT1525_PAPER_A4       ? "a4"
+                             : s->paper == PRINT1525_PAPER_LETTER ? "letter"
+                             : s->paper < PRINT1525_PAPER_A4      ? "continuous"
+                                                                  : "");
     if (s->page == PRINT1525_PAGE_PDF && s->paper == PRINT1525_PAPER_HOLES) print1525_own_word(to, "--holes");
     if (s->page >= PRINT1525_PAGE_SVG && s->characters_length > 0) print1525_own_option(to, "--characters", "given");
 }

@@ -16,7 +16,7 @@
 #define ROOM (1 << 18)
 #define UNTOUCHED 0xA5
 /* How many settings are numbers of a byte, from `present` on. */
-#define SETTINGS 12
+#define SETTINGS 14
 /* Where a printer has no room for a line more: only one of damaged numbers comes there. */
 #define LAST_LINE (((uint64_t)1 << 63) - 9999)
 

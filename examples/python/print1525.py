@@ -40,8 +40,8 @@ NAMES = {
     "intervals": ("no", "yes"),
     "bounds": ("profile", "guide"),
     "inverted": ("no", "yes"),
+    "paper": ("continuous", "holes", "a4", "letter"),
 }
-PAPERS = ("continuous", "holes", "a4", "letter")
 NUMBERS = ("sheet", "start", "rate")
 SIGNALS = ("atn", "clock", "data")
 RECEIVED = (None, "byte", "select", "listen", "unlisten")
@@ -63,7 +63,7 @@ class Name(Structure):
 class Settings(Structure):
     _fields_ = [("size", c_size_t)]
     _fields_ += [(name, c_uint8) for name in NAMES]
-    _fields_ += [("top", c_uint8), ("paper", c_uint8), ("reserved", c_uint8 * 2)]
+    _fields_ += [("top", c_uint8), ("reserved", c_uint8 * 2)]
     _fields_ += [(name, c_uint64) for name in NUMBERS]
     _fields_ += [(f"{party}_delays", Delays) for party in ("computer", "printer4", "printer5")]
     _fields_ += [(name, Name) for name in SIGNALS]
@@ -161,8 +161,6 @@ def _settings(words):
             setattr(made, name, NAMES[name].index(value) if value in NAMES[name] else _number(value, 255, word))
         elif name == "top":
             made.top = _number(value, 255, word)
-        elif name == "paper":
-            made.paper = PAPERS.index(value) if value in PAPERS else _number(value, 255, word)
         elif name in NUMBERS:
             setattr(made, name, _number(value, 2**64 - 1, word))
         elif name in SIGNALS:
