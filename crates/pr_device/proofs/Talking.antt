@@ -122,7 +122,7 @@ byte_moves x look f = record {
 
 pulse-stays : (x : Bool) (free : ℕ) (pulse : Option EoiAnswer) (pull : ℕ) → IsOpened x free pulse pull → Stay x true (pulse_edges pulse)
 pulse-stays x free None pull w = tt
-pulse-stays x free (Some p) pull (h, u, v, w) = (sym h, refl, sym h, refl, tt)
+pulse-stays x free (Some p) pull (h, u, v, w) = (sym h, refl, (sym h, refl, tt))
 
 pulse-answers : (wait : ℕ) (x : Bool) (free : ℕ) (pulse : Option EoiAnswer) (pull : ℕ) → IsOpened x free pulse pull → (x && is_answered_from wait free (pulse_edges pulse)) ≡ has_pulse pulse
 pulse-answers wait true free None pull w = refl
