@@ -1,5 +1,5 @@
 -- The bits of a byte, and the bytes between two changes of ATN.
-use Rattle.std.proofs.Common.{◌≡◌, ℕ, suc, ◌+◌, ◌*◌, ◌/◌, ◌<◌, ◌≤◌, ◌==◌, nat_lt, Bool, true, false, not, ◌&&◌, ◌||◌, List, [], ◌∷◌, ◌++◌, length, map, Option, Some, None, if◌then◌else◌, refl, sym, ap, subst, ◌∙◌, append_assoc, append-nil, arith, lt-ltb, eq-eqb, ne_eqb}
+use Rattle.std.proofs.Common.{◌≡◌, ℕ, ◌+◌, ◌*◌, ◌<◌, ◌==◌, nat_lt, Bool, true, false, not, ◌&&◌, List, [], ◌∷◌, ◌++◌, length, map, Option, Some, None, if◌then◌else◌, refl, sym, ap, subst, ◌∙◌, append_assoc, append-nil, arith, lt-ltb, ne_eqb}
 use Rattle.std.proofs.lemmas.List.{length-map}
 use Rattle.pr_wire.specs.declared.Edge.{Edge}
 use Rattle.pr_wire.specs.declared.Frame.{Frame}
@@ -7,7 +7,7 @@ use Rattle.pr_wire.specs.Levels.{byte_of}
 use Rattle.pr_device.specs.declared.place.Place.{Place}
 use Rattle.pr_device.specs.declared.place.Place.TheVariants.{Between, Sent, Opening, Bits}
 use Rattle.pr_device.specs.Following.{leads, ends, begun, shifted}
-use Rattle.pr_device.specs.Talkers.{Stay, BitMoves, ByteMoves, AreBits, IsByte, AreBytes, bit_moments, all_bits, byte_moments, all_bytes, is_answered_in, is_released_in, frame_sent}
+use Rattle.pr_device.specs.Talkers.{Stay, BitMoves, ByteMoves, AreBits, IsByte, AreBytes, all_bits, byte_moments, all_bytes, is_answered_in, is_released_in, frame_sent}
 use Rattle.pr_device.proofs.Walking.{onto, onto-append, Stands, IsBetween, freed_in, begins-bits, chosen, refused, framed, goes-to, goes-quietly, walk-calm, walk-open}
 
 -- the level of a bit

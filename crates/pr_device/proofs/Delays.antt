@@ -1,11 +1,10 @@
 -- What a device does keeps to its delays.
-use Rattle.std.proofs.Common.{◌≡◌, ℕ, ◌+◌, ◌<◌, ◌≤◌, ◌==◌, nat_lt, max, Bool, true, false, not, ◌&&◌, ◌||◌, Option, Some, None, if◌then◌else◌, refl, sym, ap, ◌∙◌, arith, ltb-true, ltb-false, le-ltb}
+use Rattle.std.proofs.Common.{◌≡◌, ℕ, ◌+◌, ◌<◌, ◌≤◌, ◌==◌, nat_lt, max, Bool, true, false, not, ◌&&◌, ◌||◌, Some, None, refl, sym, ap, ◌∙◌, arith, ltb-true, ltb-false, le-ltb}
 use Rattle.pr_device.specs.declared.place.Place.{Place}
 use Rattle.pr_device.specs.declared.place.Place.TheVariants.{Opening, Bits}
 use Rattle.pr_device.specs.declared.timing.Timing.{Timing}
 use Rattle.pr_device.specs.Data.{Standing, pulls, pulls_at, leaves, is_away}
 use Rattle.pr_device.specs.Laws.{DelaysAreKept}
-use Rattle.pr_device.specs.Timing.{IsTiming}
 use Rattle.pr_device.proofs.Stepping.{left-true, right-true}
 use Rattle.pr_device.proofs.Walking.{chosen, refused}
 

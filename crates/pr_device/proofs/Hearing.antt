@@ -1,21 +1,20 @@
 -- What a device hears of the bytes that are said, and the inputs that its events are.
-use Rattle.std.proofs.Common.{◌≡◌, ℕ, ◌+◌, ◌/◌, ◌%◌, ◌==◌, Bool, true, false, not, ◌&&◌, cond, List, [], ◌∷◌, ◌++◌, Option, Some, None, if◌then◌else◌, refl, sym, ap, ◌∙◌, append_assoc, append-nil, arith, eqb-true, ne_eqb}
+use Rattle.std.proofs.Common.{◌≡◌, ℕ, ◌+◌, ◌/◌, ◌%◌, ◌==◌, Bool, true, false, not, ◌&&◌, List, [], ◌∷◌, ◌++◌, Option, Some, None, if◌then◌else◌, refl, sym, ap, ◌∙◌, append_assoc, append-nil, arith, eqb-true, ne_eqb}
 use Rattle.std.proofs.lemmas.Bool.{eqb-false}
 use Rattle.std.proofs.lemmas.Grind.{flat_map-append}
 use Rattle.std.specs.List.{flat_map}
 use Rattle.std.specs.Option.{option_to_list}
-use Rattle.pr_wire.specs.declared.Edge.{Edge}
 use Rattle.pr_wire.specs.declared.Frame.{Frame}
 use Rattle.pr_page.specs.Before.{with_before}
 use Rattle.pr_page.specs.declared.input.Input.{Input}
 use Rattle.pr_page.specs.declared.input.Input.TheVariants as input
-use Rattle.pr_receiver.specs.Heard.{heard_of, input_of, is_listening, is_called, is_listen, is_command}
+use Rattle.pr_receiver.specs.Heard.{heard_of, input_of, is_listening, is_called}
 use Rattle.pr_device.specs.declared.event.Event.{Event}
 use Rattle.pr_device.specs.declared.event.Event.TheVariants.{Listen, Second, Open, Close, Byte, Unlisten}
 use Rattle.pr_device.specs.Events.{command_event, event_of, events_of, secondary_event, input_of_event, inputs_of_events}
 use Rattle.pr_device.specs.Following.{said, frame_at}
 use Rattle.pr_device.specs.Laws.{HistoriesAreHeard}
-use Rattle.pr_device.specs.Seen.{event_at, events_with}
+use Rattle.pr_device.specs.Seen.{event_at}
 use Rattle.pr_device.specs.Sound.{event_if}
 
 -- the elements before each, for two parts

@@ -1,5 +1,5 @@
 -- What the moves of a talker say, and what lawful traces say.
-use Rattle.std.proofs.Common.{◌≡◌, ℕ, suc, ◌==◌, Bool, true, false, not, ◌&&◌, ◌||◌, List, [], ◌∷◌, ◌++◌, length, map, Option, Some, None, if◌then◌else◌, refl, sym, ap, subst, ◌∙◌, append_assoc, append-nil}
+use Rattle.std.proofs.Common.{◌≡◌, ℕ, suc, ◌==◌, Bool, true, false, not, ◌&&◌, List, [], ◌∷◌, ◌++◌, length, map, Option, Some, None, if◌then◌else◌, refl, sym, ap, subst, ◌∙◌, append_assoc, append-nil}
 use Rattle.std.specs.Prelude.{reverse}
 use Rattle.std.proofs.lemmas.List.{reverse-append}
 use Rattle.pr_wire.specs.declared.Edge.{Edge}
@@ -11,12 +11,12 @@ use Rattle.pr_wire.specs.Pieces.Between.{Resting, Held, Loose}
 use Rattle.pr_wire.specs.Pieces.Piece.{Unanswered, Attention, DataByte, Dropped}
 use Rattle.pr_device.specs.declared.place.Place.{Place}
 use Rattle.pr_device.specs.declared.place.Place.TheVariants.{Between, Sent, Opening, Bits}
-use Rattle.pr_device.specs.Following.{atn_of, said}
+use Rattle.pr_device.specs.Following.{said}
 use Rattle.pr_device.specs.Laws.{TracesSayWhatTheySpell}
-use Rattle.pr_device.specs.Talkers.{Stay, BitMoves, ByteMoves, Turn, AreBits, IsByte, AreBytes, IsTurn, AreTurns, all_bits, byte_moments, all_bytes, turn_moments, moments_of, is_answered_from, is_answered_in, frame_sent, turn_frames, frames_sent}
+use Rattle.pr_device.specs.Talkers.{Stay, BitMoves, ByteMoves, Turn, AreBits, IsByte, AreBytes, IsTurn, AreTurns, all_bits, byte_moments, all_bytes, turn_moments, moments_of, is_answered_from, frame_sent, turn_frames, frames_sent}
 use Rattle.pr_device.specs.Talkers.Turn.{Silent, Talking}
 use Rattle.pr_device.proofs.Walking.{onto, onto-append, Stands, IsAt, IsBetween, IsCalm, framed, not-not, goes-quietly, turns, begins-all, walk-calm}
-use Rattle.pr_device.proofs.Bits.{Rests, Comes, level_of, walk-look, walk-byte, walk-bytes}
+use Rattle.pr_device.proofs.Bits.{Rests, level_of, walk-look, walk-byte, walk-bytes}
 
 -- where a history leads, in short
 at-of : (wait : ℕ) (h : List Edge) (x c : Bool) (p : Place) (fs : List Frame) → Stands wait h x c p fs → IsAt wait h x fs

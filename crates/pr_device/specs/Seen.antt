@@ -7,7 +7,6 @@ use Rattle.pr_receiver.specs.Kept.{kept_of}
 use Rattle.pr_device.specs.declared.event.Event.{Event}
 use Rattle.pr_device.specs.declared.state.State.{State}
 use Rattle.pr_device.specs.declared.timing.Timing.{Timing}
-use Rattle.pr_device.specs.Data.{standing}
 use Rattle.pr_device.specs.Following.{atn_of, clock_of, since_of, place_after, said, frame_at}
 use Rattle.pr_device.specs.Sound.{event_if}
 

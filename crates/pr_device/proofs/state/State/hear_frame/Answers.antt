@@ -1,5 +1,4 @@
 use Rattle.std.proofs.Common.{refl, ap, ◌∙◌}
-use Rattle.pr_receiver.specs.declared.listener.Listener.{Listener}
 use Rattle.pr_device.specs.Events.{event_by}
 use Rattle.pr_device.proofs.Stepping.{kept_in}
 use Rattle.pr_device.proofs.state.State.hear_frame.Goals as goal
