@@ -175,11 +175,11 @@ impl Bus {
     /// Shows the lines to all devices until none of them changes them.
     pub fn settle(&mut self, rt: &(impl Abort + AllocGlobal)) {
         for _ in 0..MOST_ACTS {
-            let levels = self.levels();
-            self.four.show(rt, self.now, levels);
-            self.five.show(rt, self.now, levels);
+            let (now, levels) = (self.now, self.levels());
+            self.four.show(rt, now, levels);
+            self.five.show(rt, now, levels);
             if let Some(drive) = &mut self.drive {
-                drive.show(rt, self.now, levels);
+                drive.show(rt, now, levels);
             }
             if self.line() == levels.line {
                 self.record(rt);

@@ -19,9 +19,10 @@ fn begin(rt: &(impl Abort + AllocGlobal), bus: &mut Bus, eoi: bool) {
 fn bits(rt: &(impl Abort + AllocGlobal), bus: &mut Bus, byte: u8) {
     for bit in 0..8u8 {
         bus.pause(rt, 17);
-        bus.set(rt, false, byte >> bit & 1 == 1);
+        let level = byte >> bit & 1 == 1;
+        bus.set(rt, false, level);
         bus.pause(rt, 43);
-        bus.set(rt, true, bus.data);
+        bus.set(rt, true, level);
         bus.pause(rt, 19);
         bus.set(rt, false, true);
     }
@@ -141,7 +142,11 @@ fn part(rt: &(impl Abort + AllocGlobal), bus: &mut Bus, seed: &mut u32) {
     }
     let device = [4, 5, 8, 11][usize::from(next_number(seed) % 4)];
     let second = [0x60, 0x67, 0xe1, 0xff][usize::from(next_number(seed) % 4)];
-    let count = if device == 11 { 0 } else { usize::from(next_number(seed) % 9) };
+    let count = if device == 11 {
+        0
+    } else {
+        usize::from(next_number(seed) % 9)
+    };
     talk(rt, bus, device, second, &bytes()[..count]);
 }
 

@@ -43,7 +43,8 @@ impl Computer {
 
     /// Goes on for a delay.
     fn pause(&mut self, rt: &(impl Abort + AllocGlobal), kind: Kind) {
-        self.after(rt, self.bus.now, kind);
+        let now = self.bus.now;
+        self.after(rt, now, kind);
     }
 
     /// Sends a byte from the look on.
@@ -58,7 +59,8 @@ impl Computer {
         for bit in 0..8u8 {
             self.bus.set(rt, false, byte >> bit & 1 == 1);
             self.pause(rt, Kind::S);
-            self.bus.set(rt, true, self.bus.data);
+            let bit = self.bus.data;
+            self.bus.set(rt, true, bit);
             self.pause(rt, Kind::V);
         }
         self.bus.set(rt, false, true);
@@ -68,7 +70,8 @@ impl Computer {
 
     /// Calls.
     fn attention(&mut self, rt: &(impl Abort + AllocGlobal), first: u8, second: Option<u8>) {
-        self.after(rt, self.end, Kind::Bb);
+        let end = self.end;
+        self.after(rt, end, Kind::Bb);
         self.bus.atn = false;
         self.bus.set(rt, false, true);
         self.pause(rt, Kind::Aw);
@@ -90,7 +93,8 @@ impl Computer {
 
     /// Sends a data byte.
     fn byte(&mut self, rt: &(impl Abort + AllocGlobal), byte: u8, eoi: bool) {
-        self.after(rt, self.end, Kind::Bb);
+        let end = self.end;
+        self.after(rt, end, Kind::Bb);
         if self.four || self.five {
             self.frame(rt, byte, eoi);
         } else {

@@ -90,7 +90,10 @@ fn listen_step_by_step(rt: HostRuntime) {
     assert!(rt; play(&rt, &mut four, listen()) == Some(Event::Listen) && four.listens());
     assert!(rt; play(&rt, &mut five, listen()).is_none() && !five.listens());
     assert!(rt; play(&rt, &mut four, last_byte()).is_none());
-    let released = [(2930, [1, 0, 0], true, Some(2950)), (2950, [1, 0, 0], false, None)];
+    let released = [
+        (2930, [1, 0, 0], true, Some(2950)),
+        (2950, [1, 0, 0], false, None),
+    ];
     assert!(rt; play(&rt, &mut five, &released).is_none());
 }
 
