@@ -17,7 +17,7 @@ not-true false h = refl
 not-true true h = absurd (let k : false ≡ true = h in cc)
 
 -- the rule where somebody speaks to the device, at a place
-near : (t : Timing) (until : ℕ) (before : Bool) (s : Standing) (now : ℕ) (p : Place) → is_away s ≡ false → s.place ≡ p → pulls t until before s now ≡ pulls_at t until before s p now
+pub near : (t : Timing) (until : ℕ) (before : Bool) (s : Standing) (now : ℕ) (p : Place) → is_away s ≡ false → s.place ≡ p → pulls t until before s now ≡ pulls_at t until before s p now
 near t until before s now p a e =
     refused (is_away s) (leaves t before s.since now) (pulls_at t until before s s.place now) a
     ∙ ap (λ q. pulls_at t until before s q now) e

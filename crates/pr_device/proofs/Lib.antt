@@ -4,3 +4,5 @@ pub mod Talking
 pub mod Hearing
 pub mod Stepping
 pub mod Delays
+pub mod Pairs
+pub mod Waking

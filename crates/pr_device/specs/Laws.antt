@@ -4,12 +4,14 @@ use Rattle.pr_wire.specs.declared.Edge.{Edge}
 use Rattle.pr_wire.specs.declared.Frame.{Frame}
 use Rattle.pr_wire.specs.Pieces.{Spells}
 use Rattle.pr_receiver.specs.Given.{inputs_with}
+use Rattle.pr_device.specs.declared.place.Place.{Place}
 use Rattle.pr_device.specs.declared.place.Place.TheVariants.{Opening, Bits}
 use Rattle.pr_device.specs.declared.timing.Timing.{Timing}
 use Rattle.pr_device.specs.Data.{Standing, is_away, pulls}
 use Rattle.pr_device.specs.Events.{events_of, inputs_of_events}
 use Rattle.pr_device.specs.Following.{said}
 use Rattle.pr_device.specs.Seen.{events_with}
+use Rattle.pr_device.specs.Pairs.{SharesTheLine}
 use Rattle.pr_device.specs.Timing.{IsTiming}
 use Rattle.pr_device.specs.Talkers.{Turn, AreTurns, moments_of, frames_sent}
 
@@ -54,3 +56,30 @@ pub record KeepsToDelays (t : Timing) (until : ℕ) (before : Bool) (s : Standin
 abbrev pub DelaysAreKept : Type 0
 DelaysAreKept =
     (t : Timing) (until : ℕ) (before : Bool) (s : Standing) (now : ℕ) → IsTiming t → KeepsToDelays t until before s now
+
+-- two devices make DATA's moments in a timed trace: the least and the greatest of their delays
+abbrev pub PairsShareTheLine : Type 0
+PairsShareTheLine = (t u : Timing) (s : Standing) (now : ℕ) → IsTiming t → IsTiming u → SharesTheLine t u s now
+
+-- a moment comes before the next wake, if there is one
+abbrev pub IsBeforeWake : ℕ → Option ℕ → Type 0
+IsBeforeWake moment None = Unit {0}
+IsBeforeWake moment (Some next) = moment < next
+
+-- a place's moment does not come after the present one
+abbrev pub IsPast : Place → ℕ → Type 0
+IsPast (Opening look free eoi) now = look ≤ now
+IsPast _ now = Unit {0}
+
+-- as long as things stand as they do, the device does to DATA what it does now, until its wake, and then the other thing
+pub record StaysUntilTheWake (t : Timing) (until : ℕ) (before : Bool) (s : Standing) (now : ℕ) : Type 0 where
+  pub stays : (later : ℕ) → now ≤ later → IsBeforeWake later (wake t until (pulls t until before s now) s now)
+      → pulls t until (pulls t until before s now) s later ≡ pulls t until before s now
+  pub turns : (next : ℕ) → wake t until (pulls t until before s now) s now ≡ Some next
+      → pulls t until (pulls t until before s now) s next ≡ not (pulls t until before s now)
+
+-- whatever the delays, each wake is the moment of the device's next act
+abbrev pub WakesAreActs : Type 0
+WakesAreActs =
+    (t : Timing) (until : ℕ) (before : Bool) (s : Standing) (now : ℕ) → IsTiming t → IsPast s.place now
+    → StaysUntilTheWake t until before s now

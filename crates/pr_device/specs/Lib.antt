@@ -3,6 +3,7 @@ pub mod Events
 pub mod Following
 pub mod Data
 pub mod Spoken
+pub mod Pairs
 pub mod Sound
 pub mod Seen
 pub mod Talkers

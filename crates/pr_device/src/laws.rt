@@ -1,6 +1,6 @@
 //! Laws of the definitions, with nothing to run. A caller whose proof needs one calls the function.
 
-ghost use Rattle.pr_device.specs.Laws.{DelaysAreKept, HistoriesAreHeard, TalkersAreHeard, TracesAreHeard, TracesSayWhatTheySpell};
+ghost use Rattle.pr_device.specs.Laws.{DelaysAreKept, HistoriesAreHeard, PairsShareTheLine, TalkersAreHeard, TracesAreHeard, TracesSayWhatTheySpell, WakesAreActs};
 
 use pr_receiver::traces_give_what_is_heard;
 
@@ -30,4 +30,17 @@ pub fn traces_are_heard()
 /// it does not listen.
 pub fn delays_are_kept()
     ensures { DelaysAreKept }
+{}
+
+/// The law of pairs: two devices that hear the same bytes make DATA's moments in the timed trace of
+/// pr_bus. They pull DATA after the least of their delays, release it after the greatest, and answer
+/// end-or-identify with one pulse.
+pub fn pairs_share_the_line()
+    ensures { PairsShareTheLine }
+{}
+
+/// The law of wakes: as long as things stand as they do, a device does to DATA what it does now until its
+/// wake, and the other thing from then on; without a wake it goes on as it does.
+pub fn wakes_are_acts()
+    ensures { WakesAreActs }
 {}
