@@ -103,26 +103,26 @@ away-stays t before (Some r) now later h =
 
 -- at the wake it does the other thing
 turns-up : (h : Bool) (next m : ℕ) → where_true (not h) m ≡ Some next → (h || not (nat_lt next m)) ≡ not h
-turns-up true next m e = absurd (let k : None {ℕ} ≡ Some next = e in cc)
-turns-up false next m e = let k : m ≡ next = cc in ap not (le-ltb next m (omega arith))
+turns-up true next m e = absurd (let k : Some next ≡ None = sym e in cc)
+turns-up false next m e = let j : Some m ≡ Some next = e in let k : m ≡ next = cc in ap not (le-ltb next m (omega arith))
 
 turns-down : (h : Bool) (next m : ℕ) → where_true h m ≡ Some next → (h && nat_lt next m) ≡ not h
-turns-down true next m e = let k : m ≡ next = cc in le-ltb next m (omega arith)
-turns-down false next m e = absurd (let k : None {ℕ} ≡ Some next = e in cc)
+turns-down true next m e = let j : Some m ≡ Some next = e in let k : m ≡ next = cc in le-ltb next m (omega arith)
+turns-down false next m e = absurd (let k : Some next ≡ None = sym e in cc)
 
 between-turns : (t : Timing) (before clock atn : Bool) (since : Option ℕ) (now next : ℕ)
     → after_where (not atn && not (if atn then not clock else calls t before since now)) since t.attention ≡ Some next
     → (if atn then not clock else calls t (if atn then not clock else calls t before since now) since next) ≡ not (if atn then not clock else calls t before since now)
-between-turns t before clock true since now next e = absurd (let k : None {ℕ} ≡ Some next = e in cc)
-between-turns t true clock false None now next e = absurd (let k : None {ℕ} ≡ Some next = e in cc)
-between-turns t false clock false None now next e = absurd (let k : None {ℕ} ≡ Some next = e in cc)
+between-turns t before clock true since now next e = absurd (let k : Some next ≡ None = sym e in cc)
+between-turns t true clock false None now next e = absurd (let k : Some next ≡ None = sym e in cc)
+between-turns t false clock false None now next e = absurd (let k : Some next ≡ None = sym e in cc)
 between-turns t before clock false (Some a) now next e =
     let held : Bool = before || not (nat_lt now (a + t.attention)) in
     turns-up held next (a + t.attention) (sym (after-is (not held) a t.attention) ∙ e)
 
 open-turns : (h : Bool) (look m next : ℕ) → where_true h m ≡ Some next → ((h || next == look) && nat_lt next m) ≡ not h
 open-turns true look m next e = turns-down true next m e
-open-turns false look m next e = absurd (let k : None {ℕ} ≡ Some next = e in cc)
+open-turns false look m next e = absurd (let k : Some next ≡ None = sym e in cc)
 
 answer-turns : (x : Bool) (d e now next : ℕ) → d < e
     → (if nat_lt now d then where_true x d else where_true (x && nat_lt now e) e) ≡ Some next
@@ -132,14 +132,16 @@ answer-turns x d e now next i h = by x (nat_lt now d) (nat_lt now e) h
     by : (x p q : Bool) → (if p then where_true x d else where_true (x && q) e) ≡ Some next
         → (x && (not (nat_lt next d) && nat_lt next e)) ≡ not (x && (not p && q))
     by true true q k =
+        let j : Some d ≡ Some next = k in
         let n : d ≡ next = cc in
         ap (λ v. not v && nat_lt next e) (le-ltb next d (omega arith)) ∙ lt-ltb next e (omega arith)
     by true false true k =
+        let j : Some e ≡ Some next = k in
         let n : e ≡ next = cc in
         ap (λ v. not v && nat_lt next e) (le-ltb next d (omega arith)) ∙ le-ltb next e (omega arith)
-    by true false false k = absurd (let i : None {ℕ} ≡ Some next = k in cc)
-    by false true q k = absurd (let i : None {ℕ} ≡ Some next = k in cc)
-    by false false q k = absurd (let i : None {ℕ} ≡ Some next = k in cc)
+    by true false false k = absurd (let i : Some next ≡ None = sym k in cc)
+    by false true q k = absurd (let i : Some next ≡ None = sym k in cc)
+    by false false q k = absurd (let i : Some next ≡ None = sym k in cc)
 
 near-turns : (t : Timing) (until : ℕ) (before : Bool) (s : Standing) (p : Place) (now next : ℕ) → 0 < t.answer
     → wake_at t until (pulls_at t until before s p now) s p now ≡ Some next
@@ -150,11 +152,11 @@ near-turns t until before s (Opening look None eoi) now next a h =
     open-turns ((before || now == look) && nat_lt now (max (look + t.hold) until)) look (max (look + t.hold) until) next h
 near-turns t until before s (Opening look (Some free) eoi) now next a h =
     answer-turns s.atn (free + t.wait) (free + t.wait + t.answer) now next (omega arith) h
-near-turns t until before s (Bits eoi count byte) now next a h = absurd (let i : None {ℕ} ≡ Some next = h in cc)
+near-turns t until before s (Bits eoi count byte) now next a h = absurd (let i : Some next ≡ None = sym h in cc)
 
 away-turns : (t : Timing) (before : Bool) (since : Option ℕ) (now next : ℕ) → after_where (leaves t before since now) since t.leave ≡ Some next
     → leaves t (leaves t before since now) since next ≡ not (leaves t before since now)
-away-turns t before None now next h = absurd (let i : None {ℕ} ≡ Some next = h in cc)
+away-turns t before None now next h = absurd (let i : Some next ≡ None = sym h in cc)
 away-turns t before (Some r) now next h =
     let held : Bool = before && nat_lt now (r + t.leave) in
     turns-down held next (r + t.leave) (sym (after-is held r t.leave) ∙ h)
