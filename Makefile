@@ -1,27 +1,20 @@
+# make test         the gate: every proof, test and must-fail edit, then the tests outside the prover
+# make test-more    what takes hours or needs further packages: other programs that read what this one writes, sanitizers, other
+#                   platforms, browsers, wrong ideas
+# make docs         what tools make of sources: manual page, completions, trust, cases; `git diff` shows what differs
+# make help         these lines, and the parts of the three, each of which runs alone: make test-cases, make docs-trust
+#
 # make run          proves and builds the program (once) and prints the page of examples/hello.bas
 # make try          prints that page within a minute or two, by a build of which nothing is proved
-# make test         the gate: every proof, test and must-fail edit, then the tests outside the prover
-# make cases        makes the inputs and answers of cases/ anew; make test says if the program's answers differ from them
-# make edits        tries each wrong idea of tests/ideas and writes down what refuses it: hours; tools/edits CRATE of one crate
-# make bench        speed and peak memory beside `wc -l`, with the aim of each
-# make peer         all cases by the library's calls for texts; small inputs with one byte replaced, in some 200,000 runs (two
-#                   minutes); traces and pictures of runs, read by others: sigrok's decoder of the bus (sigrok-cli and
-#                   libsigrokdecode4), xmllint, rsvg-convert, qpdf, pdftoppm and pngcheck (libxml2-utils, librsvg2-bin, netpbm,
-#                   qpdf, poppler-utils, pngcheck); and the calls for C watched by valgrind and by cc's sanitizer of addresses
 # make lib          proves and builds libprint1525.a and libprint1525.so, the library for C programs (docs/C.md)
 # make web          makes web/print1525.html, the page in a browser, with its WebAssembly module of proved crates (web/README.md says
 #                   how; it needs wasm-opt, Debian's package binaryen), and says whether the committed file is another one
-# make web-test     tests that page in Chromium, Firefox and WebKitGTK beside the built program, and print1525.mjs in Node
 # make install      copies the built program, the library for C with its header and what pkg-config needs, the manual page and the
 #                   completions of bash, zsh and fish to $(DESTDIR)$(PREFIX), where PREFIX is /usr/local unless it is given
-# make docs         makes anew what is made of sources without a proof: docs/TRUST.md, docs/WRONG_BODIES.md, tests/names.txt, the faults
-#                   of include/faults.txt in the header and the wrappers, and what make manual makes; make test says if they differ
-# make manual       makes the manual page and the completions anew from the program's help
 # make dist         packs an archive for each platform of docs/PLATFORMS.md, and the library as one C file: program, library, page in the
 #                   browser, examples, cases and documents, as out/print1525-VERSION-PLATFORM.tar.gz or .zip with its SHA-256: of one
 #                   commit always the same bytes
-# make test-more    tests that are not in the gate since they take long or need further packages: the archives' programs and libraries as
-#                   users of other platforms run them (tests/platforms, docs/PLATFORMS.md)
+# make bench        speed and peak memory beside `wc -l`, with the aim of each
 
 SHELL := /bin/bash
 export PYTHONDONTWRITEBYTECODE := 1
@@ -35,7 +28,7 @@ LIBRARY_VERSION := $(shell sed -n 's/^.define PRINT1525_VERSION "\(.*\)"/\1/p' i
 SHARED := libprint1525.so.$(LIBRARY_VERSION)
 SONAME := libprint1525.so.$(firstword $(subst ., ,$(LIBRARY_VERSION)))
 
-# The tests that go on after a refused allocation (tests/growths).
+# The tests that go on after a refused allocation (tests/rows/growths).
 TEST_CRATES := pr_tests_core pr_tests_forms
 TESTS := $(foreach crate,$(TEST_CRATES),crates/$(crate)/out/$(crate)_tests)
 
@@ -57,7 +50,11 @@ PORTED := $(foreach platform,$(PLATFORMS),$(PORT)/$(platform)/made) $(PORT)/univ
 .SUFFIXES:
 %: %.c
 
-.PHONY: run try build test outside cases edits bench peer lib web web-test install docs manual ports dist test-more
+.PHONY: help run try build tests test test-more docs bench lib web install ports dist
+
+help:
+	@sed -n '/^#/!q; s/^# \{0,1\}//p' Makefile
+	@tests/run --parts
 
 run: build
 	@$(PROGRAM) pages < examples/hello.bas
@@ -74,24 +71,22 @@ try:
 	@echo 'Nothing is proved in this build: it only shows a page. make run proves it.'
 	@cd crates/print1525 && rt try -- pages < ../../examples/hello.bas
 
+# tests/run has the parts of test, test-more and docs, and what each needs.
 test:
-	@tools/library --before-gate
-	rt ci
-	@tools/library --after-gate
-	@$(MAKE) --no-print-directory outside
-	@tools/edits --newer
+	@tests/run --build test
 
-# The tests outside the prover: the built program, and the tests of crates that go on after a refusal.
-outside: build lib $(TESTS)
-	@tests/run $(PROGRAM)
-	@cases/run $(PROGRAM) cases tests/cases
-	@tests/documents $(PROGRAM)
-	@tests/listings.py $(PROGRAM)
-	@tests/recordings.py $(PROGRAM) 300
-	@cases/made --check
-	@cases/reach --check
+test-more:
+	@tests/run --build more
 
-# So are the tests.
+docs:
+	@tests/run --build docs
+
+test-% docs-%:
+	@tests/run --build $*
+
+# The tests of crates that go on after a refused allocation.
+tests: $(TESTS)
+
 $(TESTS): $(SOURCES)
 	@cd $(@D)/.. && rt test > out.log 2>&1 || { cat out.log; exit 1; }; rm -f out.log
 
@@ -106,28 +101,8 @@ $(PARTS) &: $(SOURCES) tools/crates.py tools/library
 	@tools/library $(PART_CRATES)
 	@touch $(PARTS)
 
-# What differs shows in `git diff`.
-cases: build
-	@cases/made
-	@cases/run --make $(PROGRAM)
-	@cases/reach --write
-
-# Not a part of the gate, which tries the edits in must-fail alone.
-edits:
-	@tools/edits --jobs 2
-
 bench: build $(TESTS)
 	@tools/bench $(PROGRAM)
-
-# Not a part of the gate.
-peer: build lib
-	@tests/answered $(PROGRAM) $(LIBRARY)
-	@tests/replaced $(PROGRAM)
-	@tests/watched $(LIBRARY)
-	@tests/peer $(PROGRAM)
-	@tests/recordings.py $(PROGRAM) 10000 301
-	@tests/pictures $(PROGRAM)
-	@tests/printed $(PROGRAM)
 
 # Not a part of the gate, which knows no WebAssembly. The module is made anew where a crate changed.
 web: $(MODULE)
@@ -138,15 +113,6 @@ web: $(MODULE)
 $(MODULE): $(SOURCES) tools/crates.py tools/llvm.py web/module
 	@mkdir -p $(@D)
 	web/module $@
-
-# Needs chromium, firefox-esr, webkit2gtk-driver, xvfb, nodejs, npm and node-typescript (Debian's packages); the pictures of the page are
-# left in out/web, to be looked at.
-web-test: build
-	@tsc -p web
-	@web/compare $(PROGRAM) web/print1525.html 40
-	@web/test --program $(PROGRAM)
-	@web/compare-node $(PROGRAM)
-	@web/test-package
 
 install: build lib
 	install -d $(DESTDIR)$(PREFIX)/bin $(DESTDIR)$(PREFIX)/include $(DESTDIR)$(PREFIX)/lib/pkgconfig $(DESTDIR)$(PREFIX)/share/man/man1
@@ -165,16 +131,6 @@ install: build lib
 	sed -e 's|@PREFIX@|$(PREFIX)|' -e 's|@VERSION@|$(LIBRARY_VERSION)|' include/print1525.pc.in > $(DESTDIR)$(PREFIX)/lib/pkgconfig/print1525.pc
 	chmod 644 $(DESTDIR)$(PREFIX)/lib/pkgconfig/print1525.pc
 	@[ -n "$(DESTDIR)" ] || ldconfig 2> /dev/null || echo 'Run ldconfig, or set LD_LIBRARY_PATH, for the shared library.'
-
-docs: manual
-	@tools/faults
-	@mkdir -p out
-	@tools/trust --write
-	@tools/edits --named > out/made && cp out/made docs/WRONG_BODIES.md
-	@tools/calls --names > out/made && cp out/made tests/names.txt
-
-manual:
-	@tools/manual
 
 $(LLVM_MODULES) &: $(SOURCES) tools/crates.py tools/llvm.py tools/port/modules
 	@tools/port/modules $(LLVM) $(PART_CRATES) print1525
@@ -198,8 +154,3 @@ ports: $(PORTED)
 dist: build lib
 	@$(MAKE) --no-print-directory -j4 ports
 	@tools/dist $(VERSION) out
-
-# Others belong here that take long, or need packages that few have.
-test-more: build lib
-	@$(MAKE) --no-print-directory -j4 ports
-	@tests/platforms

@@ -1,6 +1,6 @@
 // What the module is asked by the page's settings: the words of a command line, or the numbers in their place.
 
-// The values of options, in the order of their numbers (tests/documents holds them equal to the program's).
+// The values of options, in the order of their numbers (tests/evidence/once holds them equal to the program's).
 export const PRESENT = ['none', '4', '5', 'both'], STATUS = ['each', 'kept'], SETS = ['upper', 'lower'], SOURCES = ['text', 'vcd', 'csv'], FORMS = ['text', 'prg', 'petcat', 'magazine', 'auto'];
 
 /** Whether strings of a listing in this form have names in braces. */

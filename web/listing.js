@@ -1,6 +1,6 @@
 // A saved program as petcat writes it, for the editor, and files that are none of what the page takes. The module reads a program
 // and petcat's text; what is made here is shown only where the module prints the same of it. Its words and names are data for
-// that and for the colours of the editor: tests/documents holds them equal to those of pr_listing.
+// that and for the colours of the editor: tests/evidence/once holds them equal to those of pr_listing.
 
 const KEYWORDS = ('end for next data input# input dim read let goto run if restore gosub return rem stop on wait load save verify def ' +
   'poke print# print cont list clr cmd sys open close get new tab( to fn spc( then not step + - * / ^ and or > = < sgn int abs usr fre ' +

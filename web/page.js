@@ -22,7 +22,7 @@ const TYPED_PAUSE = 250;                  // milliseconds of that moment
 const TYPED_AFTER = 800;                  // milliseconds after a key until a refusal of its line is shown
 export const LONG_FILE = 10 ** 6;         // bytes: reading a longer recording shows how far it is
 export const FILE_LIMIT = 2 ** 21;        // bytes of a file that is here after a reload
-export const LISTING_LIMIT = 16777216;    // bytes of a script, as the program has it (tests/documents holds it equal)
+export const LISTING_LIMIT = 16777216;    // bytes of a script, as the program has it (tests/evidence/once holds it equal)
 
 /** The choices beside the listing, and what the paper and the wire show: the listing, or a file (`source`). */
 export const state = { form: 'text', printers: 3, status: 0, delays: 'typical', lists: ['', '', ''], source: null, characters: null, tabs: { pages: 'sheets', wire: 'wave' } };

@@ -31,7 +31,7 @@ function wordsOfByte(byte) {
 }
 
 // The names of bytes in magazines that petcat has not, and the keys 1 to 9 and 0 with the control key and 1 to 8 with the Commodore
-// key. (web/test compares each with what the module reads.)
+// key. (tests/browser/page compares each with what the module reads.)
 const CONTROL_KEYS = { 1: 144, 2: 5, 3: 28, 4: 159, 5: 156, 6: 30, 7: 31, 8: 158, 9: 18, 0: 146 };
 const COMMODORE_KEYS = { 1: 129, 2: 149, 3: 150, 4: 151, 5: 152, 6: 153, 7: 154, 8: 155 };
 const keysOf = (name, keys) => Object.entries(keys).map(([key, byte]) => [`${name} ${key}`, byte]);

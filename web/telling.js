@@ -19,7 +19,7 @@ export let traced = 0;     // the number of the print whose trace is shown (the 
 let began = 0;             // since when a job is under way that may take long, or 0
 
 const PATIENCE = 600;      // milliseconds: such a job that takes longer is ended by the next print
-// What a byte of a listing comes to, about: edges, seconds and bytes of memory (web/test measures them).
+// What a byte of a listing comes to, about: edges, seconds and bytes of memory (tests/browser/page measures them).
 const COST = { edges: 17, seconds: 20e-6, memory: 2400 };
 const MOST_EDGES = 33e6;   // a longer trace has more than the four gigabytes that the module can have
 

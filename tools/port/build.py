@@ -5,7 +5,7 @@ modules MODULES/CRATE.ll:
     FOLDER/lib/libprint1525.a           and the shared library: libprint1525.so.V (Linux), libprint1525.1.dylib (macOS) or
                                         print1525.dll with print1525.def and its import libraries (Windows)
     FOLDER/bin/print1525 or .exe        but for macOS, of which nothing here can run a program
-    FOLDER.objects/                     the objects of all that, which tests/platforms links once more
+    FOLDER.objects/                     the objects of all that, which tests/peers/platforms links once more
 
        build.py universal ONE OTHER FOLDER: makes the libraries of two folders for macOS, of one processor each, libraries of both
 

@@ -1,0 +1,594 @@
+/* The proved exports of pr_exports over small inputs: what each answers, and what it leaves in its buffer. The header's
+ * own functions call those that include/print1525.h declares. The page in a browser alone calls the others, which are
+ * in no library for C: the archive of the crate is linked beside it, or WITHOUT_PAGE is defined.
+ *
+ * Standard input is examples/hello.trace. Each buffer holds sevens before a call. What a call may not write still does
+ * after it: all that is behind its answer, and the whole buffer where it answers nothing. Status 0, else 1 and a line
+ * for each row that is WRONG. */
+#include "print1525.h"
+#include <stdio.h>
+#include <string.h>
+
+#define COUNT(rows) (sizeof(rows) / sizeof *(rows))
+#define ROOM 9999
+#define SEVEN 7
+/* A length of which nothing is said but that it is more than this. */
+#define MORE_THAN(length) (length) + 1, SIZE_MAX
+#define EXACTLY(length) (length), (length)
+#define ANY 0, SIZE_MAX
+/* A text that is known to its end, by its length and its front. */
+#define WHOLE(text) EXACTLY(sizeof(text) - 1), text
+
+static int wrong;
+static const print1525_plain_numbers before = {SEVEN, SEVEN, SEVEN, SEVEN};
+
+static const uint8_t *bytes(const char *text) { return (const uint8_t *)text; }
+
+/* A recording's text and settings: the usual names of its signals, levels as they are, from its start, at no rate. */
+#define RECORDING(row)                                                                                                \
+    bytes((row)->input), strlen((row)->input), (row)->number, bytes("ATN"), 3, bytes("CLOCK"), 5, bytes("DATA"), 4,   \
+        0, 0, 0
+
+/* The trace of standard input, with a zero at its end. */
+static char trace[ROOM];
+
+/* Whether a buffer still holds sevens from this byte on. */
+static int is_untouched(const uint8_t *buffer, size_t from) {
+    for (; from < ROOM; from++)
+        if (buffer[from] != SEVEN) return 0;
+    return 1;
+}
+
+/* ---- Texts. ---- */
+
+static uint8_t text[ROOM];
+
+typedef struct text_row {
+    const char *name;
+    void (*call)(const struct text_row *row, print1525_plain_numbers *answer);
+    const char *input;
+    uint8_t number;  /* the format of the recording, the form of the listing, or the error that stopped the run */
+    uint8_t wording; /* of readings */
+    size_t room;
+    size_t code, fault, place, least, most;
+    const char *front; /* what the text begins with */
+} text_row;
+
+static void readings(const text_row *row, print1525_plain_numbers *answer) {
+    print1525_plain_readings(RECORDING(row), row->wording, text, row->room, answer);
+}
+
+/* As SVG, of all printers and sheets, with this project's characters. */
+static void reprint(const text_row *row, print1525_plain_numbers *answer) {
+    print1525_plain_reprint(RECORDING(row), 2, 0, 0, bytes(""), 0, text, row->room, answer);
+}
+
+static void explain_script(const text_row *row, print1525_plain_numbers *answer) {
+    print1525_plain_explain_script(bytes(row->input), strlen(row->input), text, row->room, answer);
+}
+
+/* At the first statement, with a status of its own for each statement, and with both printers. */
+static void explain_stop(const text_row *row, print1525_plain_numbers *answer) {
+    print1525_plain_explain_stop(bytes(row->input), strlen(row->input), 0, row->number, 1, 1, 1, text, row->room,
+                                 answer);
+}
+
+static void explain_trace(const text_row *row, print1525_plain_numbers *answer) {
+    print1525_plain_explain_trace(RECORDING(row), text, row->room, answer);
+}
+
+/* The same, of a table in which a name is searched for that is no text. */
+static void explain_name(const text_row *row, print1525_plain_numbers *answer) {
+    print1525_plain_explain_trace(bytes(row->input), strlen(row->input), row->number, bytes("ATN"), 3,
+                                  bytes("D\377"), 2, bytes("DATA"), 4, 0, 0, 0, text, row->room, answer);
+}
+
+static void explain_reading(const text_row *row, print1525_plain_numbers *answer) {
+    print1525_plain_explain_reading(RECORDING(row), text, row->room, answer);
+}
+
+static void listing(const text_row *row, print1525_plain_numbers *answer) {
+    print1525_plain_listing(bytes(row->input), strlen(row->input), row->number, text, row->room, answer);
+}
+
+/* A printer's inputs, each a character of `input`, but `s` the selection of the set of lower case and `x` the first
+ * number that is no input; as a list, of all sheets, with this project's characters. */
+static void print(const text_row *row, print1525_plain_numbers *answer) {
+    uint16_t inputs[9];
+    const size_t length = strlen(row->input);
+    size_t n;
+    for (n = 0; n < length; n++)
+        inputs[n] = row->input[n] == 's' ? 257 : row->input[n] == 'x' ? 258 : bytes(row->input)[n];
+    print1525_plain_print(inputs, length, 0, 0, 0, bytes(""), 0, text, row->room, answer);
+}
+
+static const text_row text_rows[] = {
+    {"no frame", readings, "0 111\n", 0, 0, 999, 0, 0, 0, MORE_THAN(9), "frames: 0, commands: 0, data bytes: 0\nnot acknowledged: 0\n"},
+    {"no room", readings, "0 111\n", 0, 0, 0, 4, 0, 0, MORE_THAN(99), ""},
+    {"a bad line", readings, "0 111\n5 11\n", 0, 0, 999, 2, 8, 2, EXACTLY(0), ""},
+    {"a table without CLOCK", readings, "Time [s],ATN,DATA\n0,1,1\n", 2, 0, 999, 2, 32, 1, ANY, ""},
+    {"no format of a recording", readings, "0 111\n", 5, 0, 999, 2, 29, 0, EXACTLY(0), ""},
+    {"JSON", readings, "0 111\n", 0, 4, 999, 0, 0, 0, MORE_THAN(1), "{"},
+    {"a number that means no wording", readings, "0 111\n", 0, 5, 999, 2, 20, 0, EXACTLY(0), ""},
+    {"SVG", reprint, "0 111\n", 0, 0, 9999, 0, 0, 0, MORE_THAN(5), "<svg "},
+    {"a refused script", explain_script, "OPEN 4,4\nPRUNT", 0, 0, 999, 0, 0, 2, MORE_THAN(40),
+     "  PRUNT\n  ^\n  line 2, column 1: expected "},
+    {"a run that stops", explain_stop, "PRINT#5", 3, 0, 999, 0, 0, 1, MORE_THAN(50),
+     "?FILE NOT OPEN  ERROR (statement 1)\n  line 1: PRINT#5\n"},
+    {"a stop that does not come", explain_stop, "PRINT#5", 4, 0, 999, 2, 30, 0, EXACTLY(0), ""},
+    {"a line that is no edge", explain_trace, "0 11\n", 0, 0, 999, 0, 0, 1, MORE_THAN(10), "  line 1: "},
+    {"nothing to explain", explain_reading, "0 111\n", 0, 0, 999, 0, 0, 0, EXACTLY(0), ""},
+    {"nothing_to_explain, a recording", explain_reading, "0 111\n0 001\n9 001\n", 0, 0, 999, 0, 0, 0, EXACTLY(0), ""},
+    {"nothing_to_explain, a trace", explain_trace, trace, 0, 0, 999, 0, 0, 0, EXACTLY(0), ""},
+    {"nothing_to_explain, a script", explain_script, "10 OPEN 4,4\r\n20 PRINT#4,\"A\";CHR$(65)\n", 0, 0, 999, 0, 0, 0,
+     EXACTLY(0), ""},
+    {"names_that_are_no_text", explain_name, "t,ATN,D1,DATA\n", 2, 0, 999, 0, 0, 1,
+     WHOLE("  line 1: t,ATN,D1,DATA\n"
+           "  found no signal named D\\xFF for the CLOCK line\n"
+           "  the first column is named t\n"
+           "  the recording has the signals ATN, D1, DATA\n"
+           "  name the signals of ATN, CLOCK and DATA with --names, such as --names D0,D1,D2\n")},
+    {"a letter", print, "sA\r", 0, 0, 999, 0, 0, 0, MORE_THAN(9), "printer 4"},
+    {"no input", print, "Ax", 0, 0, 999, 2, 28, 1, EXACTLY(0), ""},
+    {"no name of petcat's", listing, "10 print \"{nix}\"\n", 2, 0, 999, 2, 63, 1, MORE_THAN(1), ""},
+    {"no form of a listing", listing, "REM", 5, 0, 999, 2, 60, 0, EXACTLY(0), ""},
+};
+
+static void try_text(const text_row *row) {
+    print1525_plain_numbers answer = before;
+    memset(text, SEVEN, sizeof text);
+    row->call(row, &answer);
+    if (answer.code != row->code || answer.fault != row->fault || answer.place != row->place ||
+        answer.length < row->least || answer.length > row->most) {
+        fprintf(stderr, "WRONG: %s: code %u, fault %u, place %u, length %u\n", row->name, (unsigned)answer.code,
+                (unsigned)answer.fault, (unsigned)answer.place, (unsigned)answer.length);
+        wrong = 1;
+    } else if (memcmp(text, row->front, strlen(row->front)) != 0) {
+        fprintf(stderr, "WRONG: %s: another text\n", row->name);
+        wrong = 1;
+    } else if (!is_untouched(text, answer.code == 0 ? answer.length : 0)) {
+        fprintf(stderr, "WRONG: %s: more is written than the text\n", row->name);
+        wrong = 1;
+    }
+}
+
+/* ---- Errors of statements. ---- */
+
+/* The device is that of the file's last OPEN before the statement. */
+#define DEVICES "OPEN 1,4:OPEN 2,30\nCLOSE 1\nOPEN 1,5\nCMD 1\nPRINT#2\nOPEN 2,9\nPRINT#3\nREM\n"
+/* A present printer answers each LISTEN, so it is the byte held back that nobody answers. */
+#define HELD_BACK "OPEN 4,4,7:OPEN 5,5:OPEN 9,9\nCMD 4:CLOSE 4:PRINT \"X\"\nPRINT#5,\"Y\"\nCMD 9\nPRINT#9\nPRINT#3\n"
+
+typedef struct {
+    const char *script;
+    uint8_t kept; /* whether the status is */
+    uint8_t stop; /* the number of the error */
+    size_t statement;
+    uint8_t four, five; /* whether the printers are present */
+    size_t line;
+    const char *told;
+} stop_row;
+
+/* errors_of_statements: errors at any statement, also at those that no run stops at. */
+static const stop_row stop_rows[] = {
+    {"10 OPEN 4,4\n20 OPEN 7,7:PRINT#7,\"A:B\":REM :\n30 CLOSE 7\n", 0, 5, 3, 0, 0, 2,
+     "?DEVICE NOT PRESENT  ERROR IN 20 (statement 3)\n"
+     "  line 2: 20 OPEN 7,7:PRINT#7,\"A:B\":REM :\n"
+     "  device 7 does not answer; --present sets which of printers 4 and 5 are connected\n"},
+    {"OPEN 4,4\r\n\r\nPRINT#5,\"X\"", 0, 3, 2, 0, 0, 3,
+     "?FILE NOT OPEN  ERROR (statement 2)\n"
+     "  line 3: PRINT#5,\"X\"\n"
+     "  the file is not open; open it first\n"},
+    {"  63999  OPEN 4,4:OPEN 4,4\n", 0, 2, 2, 0, 0, 1,
+     "?FILE OPEN  ERROR IN 63999 (statement 2)\n"
+     "  line 1:   63999  OPEN 4,4:OPEN 4,4\n"
+     "  the file is already open; close it first\n"},
+    {"OPEN 4,4\nOPEN 5,5\nPRINT#5,\"A\"\nPRINT#4,\"B\"\n", 1, 5, 4, 0, 0, 4,
+     "?DEVICE NOT PRESENT  ERROR (statement 4)\n"
+     "  line 4: PRINT#4,\"B\"\n"
+     "  no printer answered, here or at an earlier statement (--status kept); --present sets which of printers 4 and "
+     "5 are connected\n"},
+    {"OPEN 4,4,7:OPEN 5,5:CMD 4:CLOSE 4:PRINT \"X\":CMD 5\n", 1, 5, 6, 1, 1, 1,
+     "?DEVICE NOT PRESENT  ERROR (statement 6)\n"
+     "  line 1: OPEN 4,4,7:OPEN 5,5:CMD 4:CLOSE 4:PRINT \"X\":CMD 5\n"
+     "  no printer was listening to a byte sent here or at an earlier statement (--status kept)\n"},
+    {"0030 CLOSE 4:PRINT#4", 0, 3, 2, 0, 0, 1,
+     "?FILE NOT OPEN  ERROR IN 30 (statement 2)\n"
+     "  line 1: 0030 CLOSE 4:PRINT#4\n"
+     "  the file is not open; open it first\n"},
+    {"000PRINT#4", 0, 3, 1, 0, 0, 1,
+     "?FILE NOT OPEN  ERROR IN 0 (statement 1)\n"
+     "  line 1: 000PRINT#4\n"
+     "  the file is not open; open it first\n"},
+    {DEVICES, 0, 5, 5, 0, 0, 4,
+     "?DEVICE NOT PRESENT  ERROR (statement 5)\n"
+     "  line 4: CMD 1\n"
+     "  device 5 does not answer; --present sets which of printers 4 and 5 are connected\n"},
+    {DEVICES, 0, 5, 6, 0, 0, 5,
+     "?DEVICE NOT PRESENT  ERROR (statement 6)\n"
+     "  line 5: PRINT#2\n"
+     "  device 30 does not answer; --present sets which of printers 4 and 5 are connected\n"},
+    {DEVICES, 0, 5, 7, 0, 0, 6,
+     "?DEVICE NOT PRESENT  ERROR (statement 7)\n"
+     "  line 6: OPEN 2,9\n"
+     "  device 9 does not answer; --present sets which of printers 4 and 5 are connected\n"},
+    {DEVICES, 0, 5, 8, 0, 0, 7,
+     "?DEVICE NOT PRESENT  ERROR (statement 8)\n"
+     "  line 7: PRINT#3\n"
+     "  no printer answers; --present sets which of printers 4 and 5 are connected\n"},
+    {DEVICES, 0, 5, 9, 0, 0, 8,
+     "?DEVICE NOT PRESENT  ERROR (statement 9)\n"
+     "  line 8: REM\n"
+     "  no printer answers; --present sets which of printers 4 and 5 are connected\n"},
+    {HELD_BACK, 0, 5, 7, 1, 1, 3,
+     "?DEVICE NOT PRESENT  ERROR (statement 7)\n"
+     "  line 3: PRINT#5,\"Y\"\n"
+     "  no printer was listening to the last byte printed before this statement, which is sent only now\n"},
+    {HELD_BACK, 0, 5, 7, 0, 1, 3,
+     "?DEVICE NOT PRESENT  ERROR (statement 7)\n"
+     "  line 3: PRINT#5,\"Y\"\n"
+     "  no printer was listening to the last byte printed before this statement, which is sent only now\n"},
+    {HELD_BACK, 0, 5, 7, 1, 0, 3,
+     "?DEVICE NOT PRESENT  ERROR (statement 7)\n"
+     "  line 3: PRINT#5,\"Y\"\n"
+     "  no printer was listening to the last byte printed before this statement, which is sent only now; device 5 is "
+     "not connected either: --present sets which of printers 4 and 5 are connected\n"},
+    {HELD_BACK, 0, 5, 9, 1, 1, 5,
+     "?DEVICE NOT PRESENT  ERROR (statement 9)\n"
+     "  line 5: PRINT#9\n"
+     "  no printer was listening to the last byte printed before this statement, which is sent only now; device 9 is "
+     "not connected either: --present sets which of printers 4 and 5 are connected\n"},
+    {HELD_BACK, 0, 5, 10, 1, 1, 6,
+     "?DEVICE NOT PRESENT  ERROR (statement 10)\n"
+     "  line 6: PRINT#3\n"
+     "  no printer was listening to the last byte printed before this statement, which is sent only now\n"},
+    {"REM", 0, 1, 1, 0, 0, 1,
+     "?TOO MANY FILES  ERROR (statement 1)\n"
+     "  line 1: REM\n"
+     "  ten files are already open; close one first\n"},
+    {"REM", 0, 2, 1, 0, 0, 1,
+     "?FILE OPEN  ERROR (statement 1)\n"
+     "  line 1: REM\n"
+     "  the file is already open; close it first\n"},
+    {"REM", 0, 3, 1, 0, 0, 1,
+     "?FILE NOT OPEN  ERROR (statement 1)\n"
+     "  line 1: REM\n"
+     "  the file is not open; open it first\n"},
+    {"REM", 0, 5, 1, 0, 0, 1,
+     "?DEVICE NOT PRESENT  ERROR (statement 1)\n"
+     "  line 1: REM\n"
+     "  no printer answers; --present sets which of printers 4 and 5 are connected\n"},
+    {"REM", 0, 6, 1, 0, 0, 1,
+     "?NOT INPUT FILE  ERROR (statement 1)\n"
+     "  line 1: REM\n"
+     "  file 0 cannot be opened; use 1 to 255\n"},
+};
+
+static void try_stop(const stop_row *row) {
+    print1525_plain_numbers answer = before;
+    const size_t length = strlen(row->told);
+    memset(text, SEVEN, sizeof text);
+    print1525_plain_explain_stop(bytes(row->script), strlen(row->script), row->kept, row->stop, row->statement,
+                                 row->four, row->five, text, sizeof text, &answer);
+    if (answer.code != 0 || answer.fault != 0 || answer.place != row->line || answer.length != length ||
+        memcmp(text, row->told, length) != 0 || !is_untouched(text, length)) {
+        fprintf(stderr, "WRONG: error %u at statement %u of %s: code %u, line %u, %.*s\n", (unsigned)row->stop,
+                (unsigned)row->statement, row->script, (unsigned)answer.code, (unsigned)answer.place,
+                (int)(answer.length < ROOM ? answer.length : 0), (const char *)text);
+        wrong = 1;
+    }
+}
+
+/* ---- Numbers. ---- */
+
+static uint64_t numbers[70];
+
+typedef struct number_row {
+    const char *name;
+    void (*call)(const struct number_row *row, print1525_plain_numbers *answer);
+    const char *input;
+    uint8_t number; /* the format of the recording */
+    size_t room;
+    print1525_plain_numbers answer;
+    size_t known; /* how many of the numbers are said here */
+    uint64_t numbers[30];
+} number_row;
+
+static void edges(const number_row *row, print1525_plain_numbers *answer) {
+    print1525_plain_edges(RECORDING(row), numbers, row->room, answer);
+}
+
+/* The first byte of a lawful trace: printer 4 is called, and nothing follows. */
+#define CALL "0 111\n100 011\n200 010\n1000 000\n1100 010\n1150 011\n1190 001\n"
+
+#ifndef WITHOUT_PAGE
+#ifdef __cplusplus
+extern "C" {
+#endif
+void print1525_edge_delays(const uint8_t *recording, size_t length, uint8_t source, const uint8_t *atn,
+                           size_t atn_length, const uint8_t *clock, size_t clock_length, const uint8_t *line,
+                           size_t line_length, uint8_t inverted, uint64_t start, uint64_t rate, uint64_t *buffer,
+                           size_t capacity, print1525_plain_numbers *answer);
+void print1525_reading_rows(const uint8_t *recording, size_t length, uint8_t source, const uint8_t *atn,
+                            size_t atn_length, const uint8_t *clock, size_t clock_length, const uint8_t *line,
+                            size_t line_length, uint8_t inverted, uint64_t start, uint64_t rate, uint8_t detail,
+                            uint64_t *buffer, size_t capacity, print1525_plain_numbers *answer);
+void print1525_intervals(const uint8_t *recording, size_t length, uint8_t source, const uint8_t *atn, size_t atn_length,
+                         const uint8_t *clock, size_t clock_length, const uint8_t *line, size_t line_length,
+                         uint8_t inverted, uint64_t start, uint64_t rate, uint64_t *buffer, size_t capacity,
+                         print1525_plain_numbers *answer);
+void print1525_bounds(uint64_t *buffer, size_t capacity, print1525_plain_numbers *answer);
+void print1525_statement_lines(const uint8_t *script, size_t length, uint64_t *buffer, size_t capacity,
+                               print1525_plain_numbers *answer);
+void print1525_script_fault(const uint8_t *script, size_t length, uint64_t *buffer, size_t capacity,
+                            print1525_plain_numbers *answer);
+#ifdef __cplusplus
+}
+#endif
+
+static void edge_delays(const number_row *row, print1525_plain_numbers *answer) {
+    print1525_edge_delays(RECORDING(row), numbers, row->room, answer);
+}
+
+/* Of the lines that readings have with wording 0. */
+static void reading_rows(const number_row *row, print1525_plain_numbers *answer) {
+    print1525_reading_rows(RECORDING(row), 0, numbers, row->room, answer);
+}
+
+static void intervals(const number_row *row, print1525_plain_numbers *answer) {
+    print1525_intervals(RECORDING(row), numbers, row->room, answer);
+}
+
+static void bounds(const number_row *row, print1525_plain_numbers *answer) {
+    print1525_bounds(numbers, row->room, answer);
+}
+
+static void statement_lines(const number_row *row, print1525_plain_numbers *answer) {
+    print1525_statement_lines(bytes(row->input), strlen(row->input), numbers, row->room, answer);
+}
+
+static void script_fault(const number_row *row, print1525_plain_numbers *answer) {
+    print1525_script_fault(bytes(row->input), strlen(row->input), numbers, row->room, answer);
+}
+
+/* ATN after a rest, the printers' answer, the look, ready, the first pull, and both halves of a bit, of which the
+ * second is 20 microseconds too long. After that edge nothing is known. */
+#define LATE "0 111\n100 001\n200 000\n1100 010\n1150 011\n1190 000\n1260 010\n1480 000\n1550 010\n"
+#endif
+
+static const number_row number_rows[] = {
+    {"two edges", edges, "0 111\n100 011\n", 0, 40, {0, 0, 0, 4}, 4, {0, 7, 100, 3}},
+    {"no room for edges", edges, CALL, 0, 3, {4, 0, 0, 14}, 0, {0}},
+#ifndef WITHOUT_PAGE
+    /* CLOCK is released at 1100, DATA at 1150, CLOCK is pulled at 1190, and the recording ends: no bit comes. */
+    {"a byte without a bit", reading_rows, CALL, 0, 40, {0, 0, 0, 18}, 17,
+     {4, 0, 0, 0, 1, 1100, 1150, 0, 0, 0, 1190, 1190, 0, 0, 0, 0, 0}},
+    /* bounds_of_each_kind; the typical delays are those of tests/rows/trace_of_two_letters.case. */
+    {"the bounds of delays", bounds, "", 0, 40, {0, 0, 0, 30}, 30,
+     {100, 1000, 1000, 2000, 1, 199, 1, 60, 20, 200, 20, 200, 100, 200, 100, 200,
+      1, 1000, 1, 10000, 200, 250, 80, 200, 1, 80, 1, 60, 80, 250}},
+    {"delays up to a late edge", edge_delays, LATE, 0, 20, {0, 0, 0, 18}, 18,
+     {15, 0, 14, 0, 8, 100, 1, 100, 9, 1100, 2, 1150, 4, 1190, 5, 1260, 15, 0}},
+    {"delays of no format", edge_delays, "0 111\n", 5, 20, {2, 29, 0, 0}, 0, {0}},
+    /* One byte, ready after 50 microseconds, whose CLOCK is pulled 40 later: the recording ends before a bit. */
+    {"intervals of a byte without a bit", intervals, CALL, 0, 70, {0, 0, 0, 70}, 21,
+     {1, 50, 50, 50, 1, 10000, 0, 1, 40, 40, 40, 1, 199, 0, 0, 0, 0, 0, 200, 250, 0}},
+    {"three statements", statement_lines, "OPEN 4,4:PRINT#4\n\n10 CLOSE 4", 0, 9, {0, 0, 0, 3}, 3, {1, 1, 3}},
+    {"statements of a refused script", statement_lines, "\nPRUNT", 0, 9, {2, 1, 2, 0}, 0, {0}},
+    {"a fault behind a line number", script_fault, "\n10 OPEN 256,4", 0, 9, {0, 0, 0, 4}, 4, {2, 9, 11, 3}},
+    {"no fault", script_fault, "REM", 0, 9, {0, 0, 0, 0}, 0, {0}},
+#endif
+};
+
+static void try_numbers(const number_row *row) {
+    print1525_plain_numbers answer = before;
+    const size_t written = row->answer.code == 0 ? row->answer.length : 0;
+    size_t n;
+    for (n = 0; n < COUNT(numbers); n++) numbers[n] = SEVEN;
+    row->call(row, &answer);
+    if (answer.code != row->answer.code || answer.fault != row->answer.fault || answer.place != row->answer.place ||
+        answer.length != row->answer.length) {
+        fprintf(stderr, "WRONG: %s: code %u, fault %u, place %u, length %u\n", row->name, (unsigned)answer.code,
+                (unsigned)answer.fault, (unsigned)answer.place, (unsigned)answer.length);
+        wrong = 1;
+    }
+    for (n = 0; n < COUNT(numbers); n++) {
+        if (n < row->known ? numbers[n] != row->numbers[n] : n >= written && numbers[n] != SEVEN) {
+            fprintf(stderr, "WRONG: %s: number %u is %lu\n", row->name, (unsigned)n, (unsigned long)numbers[n]);
+            wrong = 1;
+        }
+    }
+}
+
+/* ---- The program as a function. ---- */
+
+static uint8_t output[ROOM], messages[ROOM];
+
+typedef struct {
+    const char *words; /* with a blank for the byte 0 between each two */
+    const char *input;
+    uint8_t most;
+    size_t output_room, messages_room;
+    size_t status, fault, place, column;
+    size_t output_least, output_most, messages_least, messages_most;
+    const char *front; /* what the output begins with */
+} program_row;
+
+#define PRESENT_5 "print1525 pages --present 5"
+
+static const program_row program_rows[] = {
+    {"print1525 pages", "OPEN 4,4\nPRINT#4,\"A\"", 3, 999, 999, 0, 0, 0, 0, MORE_THAN(9), EXACTLY(0), "printer 4"},
+    {"print1525 pages", "\nPRUNT", 3, 999, 999, 2, 1, 2, 0, EXACTLY(0), ANY, ""},
+    {"print1525 pages", "OPEN 4,4", 3, 0, 999, 4, 0, 0, 0, MORE_THAN(9), ANY, ""},
+    {"print1525 pages --from=prg", "\001", 3, 999, 999, 2, 61, 0, 0, ANY, ANY, ""},
+    {"print1525 fly", "", 3, 999, 999, 2, 54, 0, 0, ANY, MORE_THAN(0), ""},
+    {"print1525 fly", "", 3, 0, 9, 2, 54, 0, 0, ANY, MORE_THAN(9), ""}, /* messages without room */
+    /* Printer 5 answers the LISTEN for printer 4, but no byte after it. */
+    {PRESENT_5, "OPEN 4,4\nCMD 4\nPRINT#4", 1, 4096, 0, 1, 105, 3, 0, ANY, ANY, ""},
+    {PRESENT_5, "OPEN 4,4\nPRINT#4\nPRINT#4", 1, 4096, 0, 0, 0, 0, 0, ANY, ANY, ""},
+    {PRESENT_5 " --status kept", "OPEN 4,4\nPRINT#4\nPRINT#4", 1, 4096, 0, 1, 105, 3, 0, ANY, ANY, ""},
+};
+
+/* Words with a byte 0 between each two. */
+static size_t zeros_between(const char *words, uint8_t *made) {
+    const size_t length = strlen(words);
+    size_t n;
+    for (n = 0; n < length; n++) made[n] = words[n] == ' ' ? 0 : bytes(words)[n];
+    return length;
+}
+
+static void is_wrong(const program_row *row, const char *what, const print1525_plain_end *end) {
+    fprintf(stderr, "WRONG: %s, room for %u and %u bytes: %s: ", row->words, (unsigned)row->output_room,
+            (unsigned)row->messages_room, what);
+    fprintf(stderr, "status %u, fault %u, place %u, column %u, output %u, messages %u\n", (unsigned)end->status,
+            (unsigned)end->fault, (unsigned)end->place, (unsigned)end->column, (unsigned)end->output,
+            (unsigned)end->messages);
+    wrong = 1;
+}
+
+/* How a call ends, and what it leaves in both buffers. */
+static void compare(const program_row *row, const print1525_plain_end *end) {
+    const size_t said = end->messages <= row->messages_room ? end->messages : 0;
+    const size_t written = end->status <= row->most && end->output <= row->output_room ? end->output : 0;
+    if (end->status != row->status || end->fault != row->fault || end->place != row->place ||
+        end->column != row->column)
+        is_wrong(row, "another end", end);
+    else if (end->output < row->output_least || end->output > row->output_most)
+        is_wrong(row, "another length of the output", end);
+    else if (end->messages < row->messages_least || end->messages > row->messages_most)
+        is_wrong(row, "another length of the messages", end);
+    else if (memcmp(output, row->front, strlen(row->front)) != 0)
+        is_wrong(row, "another output", end);
+    else if (!is_untouched(output, written) || !is_untouched(messages, said))
+        is_wrong(row, "more is written than the texts", end);
+}
+
+static void try_program(const program_row *row) {
+    print1525_plain_end end = {SEVEN, SEVEN, SEVEN, SEVEN, SEVEN, SEVEN};
+    uint8_t words[99];
+    const size_t length = zeros_between(row->words, words);
+    memset(output, SEVEN, sizeof output);
+    memset(messages, SEVEN, sizeof messages);
+    print1525_plain_answer(words, length, 0, row->most, bytes(row->input), strlen(row->input), bytes(""), 0, output,
+                           row->output_room, messages, row->messages_room, &end);
+    compare(row, &end);
+}
+
+/* A BASIC error stops a run, nothing does, and a script is refused, whatever the run's output is. */
+static void try_runs(void) {
+    static const char *const commands[] = {"print1525 pages", "print1525 pages --as text",
+                                           "print1525 pages --as bytes --device 4", "print1525 bus",
+                                           "print1525 bus --as vcd"};
+    size_t n;
+    for (n = 0; n < COUNT(commands); n++) {
+        const program_row rows[] = {
+            {commands[n], "OPEN 4,4\nPRINT#5", 1, 4096, 0, 1, 103, 2, 0, ANY, ANY, ""},
+            {commands[n], "OPEN 4,4", 1, 4096, 0, 0, 0, 0, 0, ANY, ANY, ""},
+            {commands[n], "OPEN 4,4\nPRUNT", 1, 4096, 0, 2, 1, 2, 0, ANY, ANY, ""},
+        };
+        size_t row;
+        for (row = 0; row < COUNT(rows); row++) try_program(&rows[row]);
+    }
+}
+
+/* The names of the files that words name: one that is read, none that is written, and none of characters. */
+static void try_names(void) {
+    static const program_row row = {"print1525 pages a.bas", "", 3, 999, 999, 0, 0, 0, 0, EXACTLY(9), ANY, "=a.bas"};
+    print1525_plain_end end = {SEVEN, SEVEN, SEVEN, SEVEN, SEVEN, SEVEN};
+    uint8_t words[99];
+    const size_t length = zeros_between(row.words, words);
+    memset(output, SEVEN, sizeof output);
+    memset(messages, SEVEN, sizeof messages);
+    print1525_plain_names(words, length, output, row.output_room, messages, row.messages_room, &end);
+    compare(&row, &end);
+    if (output[6] != 0 || output[7] != 0 || output[8] != 0) is_wrong(&row, "another end of the names", &end);
+}
+
+/* ---- Whole answers. ---- */
+
+typedef struct {
+    const char *name;
+    const char *words; /* with a blank for the byte 0 between each two */
+    uint8_t explained;
+    const char *input;
+    size_t status, fault, place;
+    const char *output;
+    const char *messages; /* what they begin with */
+    size_t lines;         /* and how many lines they have, or SIZE_MAX where that is not said */
+} answer_row;
+
+#define HI "OPEN 4,4\nPRINT#4,\"HI\"\n"
+#define PAGE "printer 4\nrow 0\n 0 cell 72\n 6 cell 73\nprinter 5\nstatus 0 0\nscreen\n"
+#define BAD_BYTE "print1525: line 1: bad byte\n"
+
+static const answer_row answer_rows[] = {
+    {"answers_in_memory, the pages of a script; words_as_one_text", "print1525 pages", 0, HI, 0, 0, 0, PAGE, "", 0},
+    {"answers_in_memory, a file that words name is the input", "print1525 pages hello.bas -o hello.page", 0, HI, 0, 0,
+     0, PAGE, "", 0},
+    {"answers_in_memory, a run that a BASIC error stops", "print1525 pages --present none", 0,
+     "OPEN 4,4\nPRINT#4,\"A\"\n", 1, 105, 2, "printer 4\nprinter 5\nstatus 0 128\nscreen\nstop 5 at 2\n", "", 0},
+    {"answers_in_memory, a refused script", "print1525 bus", 0, "OPEN 4,4\nPRINT#4,CHR$(256)\n", 2, 5, 2, "",
+     "print1525: line 2: bad byte\n", 1},
+    {"answers_in_memory, the frames of a trace", "print1525 check", 0, trace, 0, 0, 0,
+     "command 36\ndata 72\ndata 73\ndata 13 eoi\ncommand 63\nlawful\n", "", 0},
+    {"answers_in_memory, a bad value", "print1525 pages --present 6", 0, HI, 2, 54, 0, "", "print1525: bad --present\n",
+     1},
+    {"answers_in_memory, the version", "print1525 --version", 0, "", 0, 0, 0,
+     "print1525 0.1.0 (rattle-kit-13, logic dac8208d650f15bf)\n", "", 0},
+    {"answers_in_memory, a file of characters without shapes", "print1525 raw --as svg --characters a.txt", 0, "HI", 2,
+     52, 1, "", "print1525: a.txt: line 1: bad character line\n", 1},
+    {"explained_in_memory, not", "print1525 pages", 0, "PRINT#4,CHR$(256)\n", 2, 5, 1, "", BAD_BYTE, 1},
+    {"explained_in_memory, for the caller", "print1525 pages", 1, "PRINT#4,CHR$(256)\n", 2, 5, 1, "", BAD_BYTE, 4},
+    {"explained_in_memory, by its words", "print1525 pages --explain", 0, "PRINT#4,CHR$(256)\n", 2, 5, 1, "", BAD_BYTE,
+     4},
+    {"words_that_are_not_utf_8", "print1525 \377", 0, "", 2, 54, 0, "", "print1525: \\xff: not UTF-8\n", SIZE_MAX},
+    {"words_without_a_job, printers", "print1525 pages --present x --delays 65536", 0, HI, 2, 54, 0, "",
+     "print1525: bad --present\n", 1},
+    {"words_without_a_job, delays", "print1525 bus --delays 65536", 0, HI, 2, 54, 0, "", "print1525: bad --delays\n",
+     1},
+    {"words_without_a_job, a status", "print1525 bus --status x", 0, HI, 2, 54, 0, "", "print1525: bad --status\n", 1},
+    {"words_without_a_job, a line", "print1525 check --delays 1", 0, HI, 2, 54, 0, "",
+     "error: unexpected argument '--delays' found\n", SIZE_MAX},
+    {"words_without_a_job, but this one", "print1525 check", 0, "0 111\n", 0, 0, 0, "lawful\n", "", 0},
+};
+
+static size_t lines_of(const uint8_t *said, size_t length) {
+    size_t n, lines = 0;
+    for (n = 0; n < length; n++) lines += said[n] == '\n';
+    return lines;
+}
+
+/* The file of characters has no shapes. */
+static void try_answer(const answer_row *row) {
+    print1525_plain_end end = {SEVEN, SEVEN, SEVEN, SEVEN, SEVEN, SEVEN};
+    const size_t written = strlen(row->output), front = strlen(row->messages);
+    uint8_t words[99];
+    const size_t length = zeros_between(row->words, words);
+    memset(output, SEVEN, sizeof output);
+    memset(messages, SEVEN, sizeof messages);
+    print1525_plain_answer(words, length, row->explained, 3, bytes(row->input), strlen(row->input), bytes("?\n"), 2,
+                           output, sizeof output, messages, sizeof messages, &end);
+    if (end.status != row->status || end.fault != row->fault || end.place != row->place || end.column != 0 ||
+        end.output != written || memcmp(output, row->output, written) != 0 || !is_untouched(output, written) ||
+        end.messages < front || end.messages > sizeof messages || memcmp(messages, row->messages, front) != 0 ||
+        (row->lines != SIZE_MAX && lines_of(messages, end.messages) != row->lines) ||
+        (row->lines == lines_of(messages, front) && end.messages != front) || !is_untouched(messages, end.messages)) {
+        fprintf(stderr, "WRONG: %s: status %u, fault %u, place %u, output %u, messages %u\n", row->name,
+                (unsigned)end.status, (unsigned)end.fault, (unsigned)end.place, (unsigned)end.output,
+                (unsigned)end.messages);
+        wrong = 1;
+    }
+}
+
+int main(void) {
+    size_t n = fread(trace, 1, sizeof trace - 1, stdin);
+    trace[n] = 0;
+    for (n = 0; n < COUNT(text_rows); n++) try_text(&text_rows[n]);
+    for (n = 0; n < COUNT(stop_rows); n++) try_stop(&stop_rows[n]);
+    for (n = 0; n < COUNT(number_rows); n++) try_numbers(&number_rows[n]);
+    for (n = 0; n < COUNT(program_rows); n++) try_program(&program_rows[n]);
+    for (n = 0; n < COUNT(answer_rows); n++) try_answer(&answer_rows[n]);
+    try_runs();
+    try_names();
+    return wrong;
+}
