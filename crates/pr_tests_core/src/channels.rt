@@ -337,7 +337,7 @@ fn is_script_refused(rt: &(impl Abort + AllocGlobal), listens: u64) -> bool {
     refused
 }
 
-/// Growths of the screen's list and of the bus. `tests/growths` runs this with each allocation
+/// Growths of the screen's list and of the bus. `tests/rows/growths` runs this with each allocation
 /// refused in turn: at most one part then meets a refusal, and with no growth refused none does. A
 /// byte for the screen that is refused changes nothing, and each call that reaches the bus after a
 /// refusal by it is refused too.

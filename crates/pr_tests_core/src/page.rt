@@ -1,4 +1,4 @@
-//! Growths of a printer's paper. The pages of inputs are cases (cases/page, tests/cases) and rows of tests/library.
+//! Growths of a printer's paper. The pages of inputs are cases (cases/page, tests/rows) and rows of tests/c/library.
 
 use pr_page::Input::{self, Byte, Select};
 use pr_page::{Printer, Sequence};
@@ -100,7 +100,7 @@ fn refusals(rt: &(impl Abort + AllocGlobal), line: &[u8]) -> usize {
     refused
 }
 
-/// `tests/growths` runs this with each allocation refused in turn: at most one input is then
+/// `tests/rows/growths` runs this with each allocation refused in turn: at most one input is then
 /// refused, and with no growth refused none is. Each printer is new, so that its first row makes the
 /// list of rows grow.
 #[test]

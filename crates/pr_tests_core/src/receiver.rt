@@ -1,4 +1,4 @@
-//! Receivers that take whole frames. Edge by edge they are in tests/example.c, by the library for C.
+//! Receivers that take whole frames. Edge by edge they are in tests/c/example.c, by the library for C.
 
 use crate::wire::example_trace::{EDGES, example, spelled};
 use pr_receiver::{Input, Receiver};

@@ -264,7 +264,7 @@ fn answers_by_presence(rt: HostRuntime) {
     }
 }
 
-/// `tests/growths` runs this with each growth in turn refused. Since only one is, at least one of two
+/// `tests/rows/growths` runs this with each growth in turn refused. Since only one is, at least one of two
 /// runs of the rows is done whole. With no growth refused both are.
 #[test]
 fn each_growth_refused(rt: HostRuntime) {
@@ -276,7 +276,7 @@ fn each_growth_refused(rt: HostRuntime) {
 }
 
 /// An absent printer has no room for inputs: of the three growths one is that of the items, and two
-/// are those of what printer 4 hears. `tests/growths` runs this with each one refused.
+/// are those of what printer 4 hears. `tests/rows/growths` runs this with each one refused.
 #[test]
 fn room_for_inputs(rt: HostRuntime) {
     let is_done = calls_done(&rt, ONLY_FOUR, worked_rows().1) == 4;

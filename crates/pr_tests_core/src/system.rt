@@ -1,4 +1,4 @@
-//! Whole runs. What the program shows of them is in tests/cases.
+//! Whole runs. What the program shows of them is in tests/rows.
 
 mod device_left_out;
 mod growths;

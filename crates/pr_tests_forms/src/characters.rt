@@ -1,5 +1,5 @@
 //! A character of another shape than this project's own. What files of characters give is in
-//! tests/cases/characters_of_a_file.case.
+//! tests/rows/characters_of_a_file.case.
 
 use crate::picture::cell;
 use pr_dots::{Shapes, columns};

@@ -1,4 +1,4 @@
-//! A decoder whose edges go back in time, and the laws. What recordings say is in tests/worked_readings.
+//! A decoder whose edges go back in time, and the laws. What recordings say is in tests/c/worked_readings.
 
 use pr_decode::{Decoder, GoesBack, Halves, IncompleteEnd, Opening, Reading, Transfer};
 use pr_wire::{Edge, Levels};

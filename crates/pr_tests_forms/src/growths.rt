@@ -1,4 +1,4 @@
-//! Each growth of memory refused in turn, by `tests/growths`. Each function says whether its call is refused
+//! Each growth of memory refused in turn, by `tests/rows/growths`. Each function says whether its call is refused
 //! memory; if not, the call gives what it gives with ample memory.
 
 use crate::readings::{LISTED, SLOW};

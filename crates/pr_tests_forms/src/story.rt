@@ -1,4 +1,4 @@
-//! The lines of a story, and a story without memory. Whole stories are in tests/cases/stories.case.
+//! The lines of a story, and a story without memory. Whole stories are in tests/rows/stories.case.
 
 use crate::text::joined;
 use ByteRole::{Data, First, Second};

@@ -1,5 +1,5 @@
-//! The places of explanations, for callers in Rust. Their texts are in tests/exports.c and, without memory, in
-//! tests/refused.c; the lines that the program prints are in tests/cases/explained.
+//! The places of explanations, for callers in Rust. Their texts are in tests/c/exports.c and, without memory, in
+//! tests/c/refused.c; the lines that the program prints are in tests/rows/explained.
 
 use pr_basic::StatusMode;
 use pr_capture::{Probes, Signals, Source, TraceInput};

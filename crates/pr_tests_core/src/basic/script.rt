@@ -1,5 +1,5 @@
 //! The statements of scripts, and readings of which memory is refused. What the statements do is in
-//! tests/cases/statements_of_scripts.case.
+//! tests/rows/statements_of_scripts.case.
 
 use pr_basic::{FaultAt, ScriptFault, Statement, read_script, read_script_at};
 use pr_refusals::most_refusals;

@@ -116,7 +116,7 @@ fn is_front(first: &[Edge], second: &[Edge]) -> bool {
     first.starts_with(second) || second.starts_with(first)
 }
 
-/// `tests/growths` runs this with each growth in turn refused.
+/// `tests/rows/growths` runs this with each growth in turn refused.
 #[test]
 fn each_growth_refused(rt: HostRuntime) {
     let mut first = bus_of_both(&rt);

@@ -24,8 +24,8 @@ fn is_refused(rt: &(impl Abort + AllocGlobal)) -> bool {
 }
 
 /// An item gets room for two inputs of a present printer, not for as many as it has edges, and none for an absent one. So
-/// `tests/growths` runs this with each growth refused, and needs their number: more room takes fewer growths, room for
-/// printer 5 takes more.
+/// `tests/rows/growths` runs this with each growth refused, and needs their number: more room takes fewer growths, room
+/// for printer 5 takes more.
 #[test]
 fn room_for_inputs(rt: HostRuntime) {
     assert!(rt; usize::from(is_refused(&rt)) <= most_refusals(&rt));

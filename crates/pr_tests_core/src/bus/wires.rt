@@ -117,7 +117,7 @@ const ANSWER_AT_THE_LOOK: &str = "\
 ";
 
 /// Two printers with lists of their own, of which only printer 4 listens: who takes which number. It is worked out in
-/// tests/cases/numbers_of_one_listener.case.
+/// tests/rows/numbers_of_one_listener.case.
 const ONE_LISTENER: &str = "\
     0 111\n100 001\n103 000\n1100 010\n\
     1120 011\n1160 000\n1230 010\n1250 000\n\

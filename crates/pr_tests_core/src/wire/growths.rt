@@ -1,4 +1,4 @@
-//! Each allocation refused in turn: `tests/growths` runs these tests so.
+//! Each allocation refused in turn: `tests/rows/growths` runs these tests so.
 
 use pr_receiver::{Input, replay};
 use pr_refusals::most_refusals;

@@ -108,8 +108,8 @@ const EXAMPLE_DUMP: &str = "\
     1A\n#7190\n1D\n#7270\n1C\n#8270\n\
 ";
 
-/// The picture of two letters on printer 4, as tests/pictures.awk draws it, apart from the proved code: of the pages of the
-/// script, and of the page of the bytes.
+/// The picture of two letters on printer 4, as tests/lib/pages.py draws it, apart from the proved code: of the pages of
+/// the script, and of the page of the bytes.
 const PICTURE: &str = "\
     <svg xmlns=\"http://www.w3.org/2000/svg\" version=\"1.1\" width=\"66pc\" height=\"18pc\" viewBox=\"0 0 \
     13860 3780\">\n<desc>Pages of VIC-1525 printers. Each dot is where the hammer strikes.</desc>\n<pattern \

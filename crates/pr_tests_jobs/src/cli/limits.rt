@@ -1,5 +1,5 @@
 //! Inputs of about the greatest length that a caller gives, and endless ones. Those of the program's own limits are in
-//! tests/cases (input_limit and million_statements).
+//! tests/rows (input_limit and million_statements).
 
 ghost use Rattle.std.specs.Prelude.{◌≡◌, ◌^◌, ◌<◌, false};
 ghost use Rattle.pr_input.specs.Watched.{has_failed};
