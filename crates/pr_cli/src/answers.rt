@@ -12,8 +12,8 @@ use crate::characters::{shapes_for, shapes_given};
 use crate::jobs::{Answer, do_job, found_job};
 use crate::lacking::strict_of;
 use crate::notes::{
-    ListingNote, drawn_by, note_held, note_listing, note_overheard, note_reprinted, note_stop,
-    petcat_note, program_note,
+    ListingNote, View, note_listing, note_overheard, note_pages, note_reprinted, note_stop,
+    petcat_note, program_note, view_of,
 };
 use crate::outside::Outside;
 use crate::progress::{Progress, clear};
@@ -589,7 +589,7 @@ fn answer_over<R: Read + Drop, W: Write + Drop>(
         ..
     } = work;
     let subject = subject_of(&job);
-    let drawn = drawn_by(&job);
+    let view = view_of(&job);
     let strict = strict_of(&job);
     let is_kept = !aside.is_file && (aside.is_explained || (aside.is_noted && has_notes(subject)));
     let kept = TeeReader::new(rt.alloc(), reader, is_kept);
@@ -613,22 +613,17 @@ fn answer_over<R: Read + Drop, W: Write + Drop>(
         answer,
         aside,
     );
-    tell_lacking(rt, drawn, answer, aside);
+    tell_lacking(rt, view, answer, aside);
     (end, output.into_inner())
 }
 
-/// Notes what was not printed of pages that were drawn, or of a printer's bytes: of a run's, and of bytes given, what the
-/// printers hold, if notes are written; of a recording's, all that is left out, unless it is quiet.
-fn tell_lacking(
-    rt: &impl Eprint,
-    drawn: Present,
-    answer: Result<Answer, CliFault>,
-    aside: Aside<'_>,
-) {
+/// Notes what pages that were drawn have not, or a printer's bytes: of a run's, and of bytes given, what the printers hold,
+/// other sheets, and why they are blank, if notes are written; of a recording's, all that is left out, unless it is quiet.
+fn tell_lacking(rt: &impl Eprint, view: View, answer: Result<Answer, CliFault>, aside: Aside<'_>) {
     match answer {
-        Ok(Answer::Printed(pages)) if aside.is_noted => note_held(rt, pages, drawn),
-        Ok(Answer::Reprinted(said)) if !aside.is_quiet => note_reprinted(rt, said, drawn),
-        Ok(Answer::Overheard(said)) if !aside.is_quiet => note_overheard(rt, said, drawn),
+        Ok(Answer::Printed(pages)) if aside.is_noted => note_pages(rt, pages, view),
+        Ok(Answer::Reprinted(said)) if !aside.is_quiet => note_reprinted(rt, said, view),
+        Ok(Answer::Overheard(said)) if !aside.is_quiet => note_overheard(rt, said, view),
         _ => {}
     }
 }

@@ -103,5 +103,5 @@ pub fn holds(held: HeldMarks) -> bool
 fn hold(shown: Present, pages: PagesEnd) -> bool
     ensures { result ≡ hold shown pages }
 {
-    (shown.four && holds(pages.four)) || (shown.five && holds(pages.five))
+    (shown.four && holds(pages.four.held)) || (shown.five && holds(pages.five.held))
 }
