@@ -411,12 +411,12 @@ fn blank_text(pages: PagesEnd, view: View) -> Option<&'static str> {
     let (four, five) = (has_marks(pages.four), has_marks(pages.five));
     if !(drawn.four || drawn.five) || (drawn.four && four) || (drawn.five && five) {
         None
-    } else if view.is_of_bytes {
-        Some(NO_PRINTED_BYTE)
     } else if four {
         Some(ONLY_FOUR)
     } else if five {
         Some(ONLY_FIVE)
+    } else if view.is_of_bytes {
+        Some(NO_PRINTED_BYTE)
     } else if pages.run != RunEnd::Done {
         None
     } else if pages.has_unanswered {
