@@ -36,7 +36,7 @@ pub fn still_note(
     recording: &[u8],
     input: TraceInput<'_>,
 ) -> Result<Option<&'static str>, AllocError> {
-    if !matches!(edge_count(alloc, recording, input)?, Some(0 | 1)) {
+    if !matches!(edge_count(alloc, recording, input)?, Some(1)) {
         return Ok(None);
     }
     let early = TraceInput { start: 0, ..input };
