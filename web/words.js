@@ -11,6 +11,7 @@ const WORDS = [
   [/name the signals of ATN, CLOCK and DATA with --names, such as --names .*/, 'choose the signals that are ATN, CLOCK and DATA'],
   [/add the scopes in --names, such as .*/, 'choose the signals with their scopes'],
   [/or choose others with --names/, 'or choose others'],
+  [/--names chooses other signals/, 'choose other signals'],
   [/(try|remove|without) --invert,? for probes behind inverters, or other signals with --names/, 'try “inverted levels” for probes behind inverters, or other signals'],
   [/try without --invert, or other signals with --names/, 'try it without “inverted levels”, or other signals'],
   [/add --invert to read 0 as released/, 'choose “inverted levels” to read 0 as released'],
