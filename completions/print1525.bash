@@ -28,7 +28,7 @@ _print1525() {
         bus/--delays) return ;;
         bus/--status) words='each kept' ;;
         bus/--as) words='text vcd' ;;
-        check/--from) words='text vcd csv' ;;
+        check/--from) words='auto text vcd csv' ;;
         check/--names) return ;;
         check/--from-time) return ;;
         check/--glitch) return ;;

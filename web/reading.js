@@ -31,13 +31,13 @@ function wordsOfByte(byte) {
 }
 
 // The names of bytes in magazines that petcat has not, and the keys 1 to 9 and 0 with the control key and 1 to 8 with the Commodore
-// key. (tests/browser/page compares each with what the module reads.)
+// key. RUN has SHFT and COMD, and a blank, where petcat has SHIFT- and CBM-. (tests/browser/page compares each with what the module reads.)
 const CONTROL_KEYS = { 1: 144, 2: 5, 3: 28, 4: 159, 5: 156, 6: 30, 7: 31, 8: 158, 9: 18, 0: 146 };
 const COMMODORE_KEYS = { 1: 129, 2: 149, 3: 150, 4: 151, 5: 152, 6: 153, 7: 154, 8: 155 };
 const keysOf = (name, keys) => Object.entries(keys).map(([key, byte]) => [`${name} ${key}`, byte]);
 const MAGAZINE = new Map(/** @type {[string, number][]} */ ([
   ['rvs', 18], ['rvs on', 18], ['off', 146], ['rvs off', 146], ['right', 29], ['up arrow', 94], ['back arrow', 95], ['pi', 222],
-  ['crsr dn', 17], ['crsr up', 145], ['crsr lf', 157], ['crsr rt', 29], ['shift clr/home', 147],
+  ['crsr dn', 17], ['crsr up', 145], ['crsr lf', 157], ['crsr rt', 29], ['shift clr/home', 147], ['shft clr/home', 147], ['shft clr', 147],
   ...keysOf('ctrl', CONTROL_KEYS), ...keysOf('comd', COMMODORE_KEYS),
 ]));
 
@@ -48,7 +48,9 @@ function byteOfName(name, form) {
   const set = NAMES.findIndex(names => name && names.includes(name));
   if (set >= 0) return 128 * set + NAMES[set].indexOf(name);
   if (form !== 'magazine') return undefined;
-  return /^[a-z]$/.test(name) ? name.charCodeAt(0) - 96 : MAGAZINE.get(name);
+  if (/^[a-z]$/.test(name)) return name.charCodeAt(0) - 96;
+  const [, key] = /^(?:shft|comd) ([a-z@*+-]|space)$/.exec(name) || [];
+  return key ? byteOfName(`${name.startsWith('s') ? 'shift' : 'cbm'}-${key}`, form) : MAGAZINE.get(name);
 }
 
 /** The byte of a key with the Commodore key, or undefined. */

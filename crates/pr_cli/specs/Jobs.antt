@@ -60,14 +60,19 @@ use Rattle.pr_cli.specs.Statuses.{job_end, status_of}
 use Rattle.pr_cli.specs.declared.statuses.End.{End}
 use Rattle.pr_cli.specs.declared.statuses.End.TheVariants.{Listing}
 
+-- an input in the format that the first bytes show
+abbrev pub found_input : (first : List ℕ) → TraceInput → TraceInput
+found_input first input = record input { source = found_source input.source first }
+
 -- a job whose recording's format has to be found, with the format that the first bytes show; all else of it stays
 abbrev pub found_job : (first : List ℕ) → Job → Job
-found_job first (Decode true input f) = Decode false (record input { source = found_source input.source first }) f
+found_job first (Check true input f) = Check false (found_input first input) f
+found_job first (Decode true input f) = Decode false (found_input first input) f
 found_job first job = job
 
 -- a job with another start of its trace, where it reads one; all else of it stays
 abbrev pub restarted_job : (start : ℕ) → Job → Job
-restarted_job start (Check input r) = Check (record input { start = start }) r
+restarted_job start (Check is_found input f) = Check is_found (record input { start = start }) f
 restarted_job start (Decode is_found input f) = Decode is_found (record input { start = start }) f
 restarted_job start job = job
 
@@ -191,7 +196,7 @@ AnswersJob located shapes (Pages form present delays mode output) text old new r
     AnswersRun located shapes (start_of present delays mode) output text old new result
 AnswersJob located shapes (Bus form present delays mode f) text old new result =
     AnswersTraced located (start_of present delays mode) f text old new result
-AnswersJob located shapes (Check input output) text old new result =
+AnswersJob located shapes (Check is_found input output) text old new result =
     IsDone (AnswersTrace input output text old new) result
 AnswersJob located shapes (Decode is_found input output) text old new result =
     AnswersRecording shapes input output text old new result
@@ -236,6 +241,7 @@ form_of _ = Text
 
 -- whether a job has to find the format of its recording
 abbrev pub finds_format : Job → Bool
+finds_format (Check is_found input output) = is_found
 finds_format (Decode is_found input output) = is_found
 finds_format _ = false
 
@@ -256,7 +262,7 @@ first_bytes = 4096
 
 -- how long after its first moment a job's recording has its own moment 0, if the job reads one
 abbrev pub zero_of_job : Job → (recording : List ℕ) → ℕ
-zero_of_job (Check input output) recording = own_zero input recording
+zero_of_job (Check is_found input output) recording = own_zero input recording
 zero_of_job (Decode is_found input output) recording = own_zero input recording
 zero_of_job _ recording = 0
 
@@ -298,7 +304,7 @@ IsRecordingFault _ fault = IsDecodeFault fault
 abbrev pub IsJobFault : Job → CliFault → Type 0
 IsJobFault (Pages form present delays mode output) fault = IsPrintFault output fault
 IsJobFault (Bus form present delays mode f) fault = IsRunFault fault
-IsJobFault (Check input output) fault = IsReportFault fault
+IsJobFault (Check is_found input output) fault = IsReportFault fault
 IsJobFault (Decode is_found input output) fault = IsRecordingFault output fault
 IsJobFault (Raw lower f) fault = IsRawFault fault
 
@@ -318,7 +324,7 @@ ReadsTrace checked.Json left result = check.ReadsAll report.Story left result
 abbrev pub ReadsInput : Job → Option (List ℕ) → Result Answer CliFault → Type 0
 ReadsInput (Pages form present delays mode output) left result = ReadsToEnd left result
 ReadsInput (Bus form present delays mode f) left result = ReadsToEnd left result
-ReadsInput (Check input output) left result = IsDone (ReadsTrace output left) result
+ReadsInput (Check is_found input output) left result = IsDone (ReadsTrace output left) result
 ReadsInput (Decode is_found input output) left result = ReadsRecording output left result
 ReadsInput (Raw lower f) left result = ReadsToEnd left result
 
@@ -335,6 +341,6 @@ KeepsRun located old new result = IsRan located (WritesNoEdge old new) (WritesNo
 abbrev pub KeepsOutput : (located : Bool) → Job → Option (List ℕ) → Option (List ℕ) → Result Answer CliFault → Type 0
 KeepsOutput located (Pages form present delays mode output) old new result = WritesNothing old new result
 KeepsOutput located (Bus form present delays mode f) old new result = KeepsRun located old new result
-KeepsOutput located (Check input output) old new result = IsDone (KeepsTrace output old new) result
+KeepsOutput located (Check is_found input output) old new result = IsDone (KeepsTrace output old new) result
 KeepsOutput located (Decode is_found input output) old new result = Unit {0}
 KeepsOutput located (Raw lower f) old new result = WritesNothing old new result

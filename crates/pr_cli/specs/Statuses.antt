@@ -57,7 +57,7 @@ abbrev pub holds : HeldMarks → Bool
 holds held = nat_lt 0 held.characters || nat_lt 0 held.columns
 
 abbrev pub hold : (shown : Present) → PagesEnd → Bool
-hold shown pages = (shown.four && holds pages.four) || (shown.five && holds pages.five)
+hold shown pages = (shown.four && holds pages.four.held) || (shown.five && holds pages.five.held)
 
 abbrev pub lacks : (shown : Present) → Answer → Bool
 lacks shown (Overheard said) = leaves_out said.left || not said.has_byte

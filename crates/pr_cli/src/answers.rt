@@ -12,8 +12,8 @@ use crate::characters::{shapes_for, shapes_given};
 use crate::jobs::{Answer, do_job, found_job};
 use crate::lacking::strict_of;
 use crate::notes::{
-    ListingNote, drawn_by, note_held, note_listing, note_overheard, note_reprinted, note_stop,
-    petcat_note, program_note,
+    ListingNote, View, note_listing, note_overheard, note_pages, note_reprinted, note_stop,
+    petcat_note, program_note, view_of,
 };
 use crate::outside::Outside;
 use crate::progress::{Progress, clear};
@@ -23,7 +23,7 @@ use crate::starts::started_job;
 use crate::statuses::{End, FAILED, is_answered};
 use crate::told::{
     Listing, Subject, has_more, has_notes, is_notable, listing_of, show_brief, show_oddities,
-    subject_of, tell_heard, tell_listing, tell_more, tell_notes,
+    subject_of, tell_heard, tell_listing, tell_more, tell_notes, tell_sheets,
 };
 use pr_dots::Shapes;
 use pr_files::{Noting, Unsaved, save};
@@ -293,7 +293,7 @@ fn is_standard_output(name: &str) -> bool {
 pub fn tell_waiting(rt: &impl Eprint, job: &Job<'_>) {
     let input = match job {
         Job::Pages(..) | Job::Bus(..) => "a script",
-        Job::Check(..) => "a trace",
+        Job::Check { .. } => "a trace",
         Job::Decode { .. } => "a recording",
         Job::Raw { .. } => "a printer's bytes",
     };
@@ -396,7 +396,10 @@ fn answer_job<R: Read + Drop, W: Write + Drop>(
 fn is_to_find(job: &Job<'_>) -> bool
     ensures { result ≡ finds_format job.now }
 {
-    matches!(job, Job::Decode { is_found: true, .. })
+    matches!(
+        job,
+        Job::Check { is_found: true, .. } | Job::Decode { is_found: true, .. }
+    )
 }
 
 /// Does a job in the format, and from the moment, that a recording's first bytes show.
@@ -563,7 +566,7 @@ fn form_of(job: &Job<'_>) -> ListingForm
 {
     match job {
         Job::Pages(form, _, _, _, _) | Job::Bus(form, _, _, _, _) => *form,
-        Job::Check(..) | Job::Decode { .. } | Job::Raw { .. } => ListingForm::Text,
+        Job::Check { .. } | Job::Decode { .. } | Job::Raw { .. } => ListingForm::Text,
     }
 }
 
@@ -589,7 +592,7 @@ fn answer_over<R: Read + Drop, W: Write + Drop>(
         ..
     } = work;
     let subject = subject_of(&job);
-    let drawn = drawn_by(&job);
+    let view = view_of(&job);
     let strict = strict_of(&job);
     let is_kept = !aside.is_file && (aside.is_explained || (aside.is_noted && has_notes(subject)));
     let kept = TeeReader::new(rt.alloc(), reader, is_kept);
@@ -613,30 +616,27 @@ fn answer_over<R: Read + Drop, W: Write + Drop>(
         answer,
         aside,
     );
-    tell_lacking(rt, drawn, answer, aside);
+    tell_lacking(rt, view, answer, aside);
     (end, output.into_inner())
 }
 
-/// Notes what was not printed of pages that were drawn, or of a printer's bytes: of a run's, and of bytes given, what the
-/// printers hold, if notes are written; of a recording's, all that is left out, unless it is quiet.
-fn tell_lacking(
-    rt: &impl Eprint,
-    drawn: Present,
-    answer: Result<Answer, CliFault>,
-    aside: Aside<'_>,
-) {
+/// Notes what pages that were drawn have not, or a printer's bytes: of a run's, and of bytes given, what the printers hold,
+/// other sheets, and why they are blank, if notes are written; of a recording's, all that is left out, unless it is quiet.
+fn tell_lacking(rt: &impl Eprint, view: View, answer: Result<Answer, CliFault>, aside: Aside<'_>) {
     match answer {
-        Ok(Answer::Printed(pages)) if aside.is_noted => note_held(rt, pages, drawn),
-        Ok(Answer::Reprinted(said)) if !aside.is_quiet => note_reprinted(rt, said, drawn),
-        Ok(Answer::Overheard(said)) if !aside.is_quiet => note_overheard(rt, said, drawn),
+        Ok(Answer::Printed(pages)) if aside.is_noted => note_pages(rt, pages, view),
+        Ok(Answer::Reprinted(said)) if !aside.is_quiet => note_reprinted(rt, said, view),
+        Ok(Answer::Overheard(said)) if !aside.is_quiet => note_overheard(rt, said, view),
         _ => {}
     }
 }
 
-/// Says that more can be said of a job that failed, or of a run that a BASIC error stopped, if it can.
-fn advise_on(rt: &impl Eprint, answer: Result<Answer, CliFault>, end: End) {
+/// Says that more can be said of a job that failed, or of a run that a BASIC error stopped, if it can; or at once how many
+/// sheets there are.
+fn advise_on(rt: &(impl Eprint + AllocGlobal), answer: Result<Answer, CliFault>, end: End) {
     match answer {
         Ok(_) if matches!(end, End::Stopped | End::StoppedAt { .. }) => note_stop(rt),
+        Err(CliFault::Picture(fault)) => tell_sheets(rt, fault),
         Err(fault) if has_more(fault) => advise(rt),
         _ => {}
     }
@@ -672,7 +672,8 @@ fn tell_read<R: Read + Drop>(
         }
         if is_noted {
             note_listing(rt, aside.note);
-            tell_notes(rt, bytes.as_slice(), subject);
+            let is_whole = aside.is_explained || aside.count.get() <= NOTED;
+            tell_notes(rt, bytes.as_slice(), is_whole, subject);
         }
     }
 }

@@ -6,7 +6,7 @@ ghost use Rattle.pr_jobs.specs.Does.{AreFresh, DoesJob};
 ghost use Rattle.pr_jobs.specs.Pages.{AnswersPages, IsRunFault, ReadsToEnd, WritesNothing};
 ghost use Rattle.pr_jobs.specs.Report.{IsReportFault};
 ghost use Rattle.pr_input.specs.Watched.{wrapped};
-ghost use Rattle.pr_cli.specs.Jobs.{AnswersJob, AnswersRecording, AnswersRun, AnswersTrace, AnswersTraced, IsJobFault, IsPrintFault, IsRecordingFault, KeepsOutput, KeepsRun, KeepsTrace, ReadsInput, ReadsRecording, ReadsTrace, found_job, listening_of, restarted_job};
+ghost use Rattle.pr_cli.specs.Jobs.{AnswersJob, AnswersRecording, AnswersRun, AnswersTrace, AnswersTraced, IsJobFault, IsPrintFault, IsRecordingFault, KeepsOutput, KeepsRun, KeepsTrace, ReadsInput, ReadsRecording, ReadsTrace, found_input, found_job, listening_of, restarted_job};
 
 use pr_capture::{Source, TraceFormat, TraceInput, found_source};
 use pr_dots::Shapes;
@@ -51,19 +51,35 @@ pub fn found_job<'a>(job: Job<'a>, first: &[u8]) -> Job<'a>
     ensures { result ≡ found_job first.now job.entry }
 {
     match job {
+        Job::Check {
+            is_found: true,
+            input,
+            output,
+        } => Job::Check {
+            is_found: false,
+            input: found_input(input, first),
+            output,
+        },
         Job::Decode {
             is_found: true,
             input,
             output,
         } => Job::Decode {
             is_found: false,
-            input: TraceInput {
-                source: found_source(input.source, first),
-                ..input
-            },
+            input: found_input(input, first),
             output,
         },
         _ => job,
+    }
+}
+
+/// How to read a recording in the format that its first bytes show.
+fn found_input<'a>(input: TraceInput<'a>, first: &[u8]) -> TraceInput<'a>
+    ensures { result ≡ found_input first.now input }
+{
+    TraceInput {
+        source: found_source(input.source, first),
+        ..input
     }
 }
 
@@ -72,7 +88,15 @@ pub fn restarted_job<'a>(job: Job<'a>, start: u64) -> Job<'a>
     ensures { result ≡ restarted_job start job.entry }
 {
     match job {
-        Job::Check(input, report) => Job::Check(TraceInput { start, ..input }, report),
+        Job::Check {
+            is_found,
+            input,
+            output,
+        } => Job::Check {
+            is_found,
+            input: TraceInput { start, ..input },
+            output,
+        },
         Job::Decode {
             is_found,
             input,
@@ -143,7 +167,11 @@ pub fn do_job<R: Read, W: Write>(
             };
             trace_run(alloc, input, output, start, format, is_located)
         }
-        Job::Check(trace, wanted) => {
+        Job::Check {
+            input: trace,
+            output: wanted,
+            ..
+        } => {
             check_trace(alloc, input, output, trace, wanted)?;
             Ok(Answer::Ended(Ending::Done))
         }

@@ -23,7 +23,7 @@ pub fn strict_of(job: &Job<'_>) -> Option<Present>
 {
     match job {
         Job::Decode { output, .. } => strict_in(*output),
-        Job::Pages(..) | Job::Bus(..) | Job::Check(..) | Job::Raw { .. } => None,
+        Job::Pages(..) | Job::Bus(..) | Job::Check { .. } | Job::Raw { .. } => None,
     }
 }
 
@@ -103,5 +103,5 @@ pub fn holds(held: HeldMarks) -> bool
 fn hold(shown: Present, pages: PagesEnd) -> bool
     ensures { result ≡ hold shown pages }
 {
-    (shown.four && holds(pages.four)) || (shown.five && holds(pages.five))
+    (shown.four && holds(pages.four.held)) || (shown.five && holds(pages.five.held))
 }

@@ -4,7 +4,7 @@ use crate::lacking::{BOTH, hears, holds};
 use pr_basic::cut_line;
 use pr_capture::{Source, TraceInput};
 use pr_explain::{html_instead, unit_meant};
-use pr_jobs::{HeldMarks, PagesEnd, shown_of};
+use pr_jobs::{HeldMarks, PagesEnd, PaperEnd, RunEnd, shown_of};
 use pr_listing::{
     ListingForm, has_typed_strings, is_p00, is_t64, looks_like_disk, looks_saved, program_in,
     tape_files,
@@ -95,7 +95,8 @@ const LONGEST_NAME: usize = 15;
 
 /// What is said of a script or a magazine's listing whose strings have signs that a C64 has not.
 const OTHER_SIGNS: &str =
-    "some signs in strings print another character: \\ a pound sign, _ a left arrow, and ` | } ~ graphics";
+    "some signs in strings print another character: \\ a pound sign, _ a left arrow, ~ pi, or a pattern in the lower \
+     case set, and ` | } graphics";
 
 /// What is said of one with a character by its number, as HTML has it.
 const HTML_NUMBERS: &str =
@@ -156,6 +157,31 @@ const FOUR_ALONE: Present = Present {
     four: true,
     five: false,
 };
+
+/// What is said of a blank page where another printer has printed.
+const ONLY_FOUR: &str =
+    "the page is blank: the output went to printer 4, whose page --device 4 draws";
+
+/// The same where that is printer 5.
+const ONLY_FIVE: &str =
+    "the page is blank: the output went to printer 5, whose page --device 5 draws";
+
+/// What is said of one where nobody answered a statement.
+const UNANSWERED: &str =
+    "the page is blank: a device that a statement calls does not answer; only the printers 4 and 5 do, \
+     where they are present";
+
+/// What is said of one where the screen has output.
+const ON_SCREEN: &str =
+    "the page is blank: the output went to the screen; PRINT# prints on paper, and so does PRINT after CMD, \
+     as in OPEN 4,4:CMD 4";
+
+/// What is said of a blank page of a printer's bytes.
+const NO_PRINTED_BYTE: &str = "the page is blank: the input has no byte that prints";
+
+/// What is said of a sheet of printer 4 where printer 5 has printed and none of both was chosen.
+const FIVE_TOO: &str =
+    "this sheet is printer 4's, and printer 5 has printed, too: --device 5 draws its sheets";
 
 /// What a note says to do about bytes that the list has.
 const LISTED: &str = "--as list shows where";
@@ -307,41 +333,135 @@ impl Display for Unprinted {
     }
 }
 
-/// The printers whose pages a job draws, in lines or in a picture, or whose bytes in a recording it writes. A list of
-/// marks draws none.
-pub fn drawn_by(job: &Job<'_>) -> Present {
+/// What of the pages a job shows, or whose bytes in a recording it writes.
+#[derive(Clone, Copy)]
+pub struct View {
+    /// The printers whose pages are drawn, in lines or in a picture. A list of marks draws none.
+    drawn: Present,
+    /// It is one sheet, of one of these printers.
+    is_single: bool,
+    /// The sheet was not chosen.
+    is_first: bool,
+    /// The page is that of a printer's bytes.
+    is_of_bytes: bool,
+}
+
+/// What of the pages a job shows.
+pub fn view_of(job: &Job<'_>) -> View {
     match job {
-        Job::Pages(_, present, _, _, PagesOutput::Pages(format)) => drawn_in(*format, *present),
+        Job::Pages(_, present, _, _, PagesOutput::Pages(format)) => view_in(*format, *present),
         Job::Decode {
             output: DecodeOutput::Pages(format, _),
             ..
-        } => drawn_in(*format, BOTH),
+        } => view_in(*format, BOTH),
         Job::Decode {
             output: DecodeOutput::Bytes(device, _),
             ..
-        } => shown_of(Some(*device), BOTH),
-        Job::Raw { format, .. } => drawn_in(*format, FOUR_ALONE),
-        _ => NO_PRINTER,
+        } => whole_view(shown_of(Some(*device), BOTH)),
+        Job::Raw { format, .. } => View {
+            is_of_bytes: true,
+            ..view_in(*format, FOUR_ALONE)
+        },
+        _ => whole_view(NO_PRINTER),
     }
 }
 
 /// The same of a format, with these printers connected.
-fn drawn_in(format: Format, present: Present) -> Present {
+fn view_in(format: Format, present: Present) -> View {
     match format {
-        Format::List => NO_PRINTER,
-        Format::Lines => present,
-        Format::Svg(part) | Format::Png(part) => shown_of(part.device, present),
-        Format::Pdf(device) => shown_of(device, present),
+        Format::List => whole_view(NO_PRINTER),
+        Format::Lines => whole_view(present),
+        Format::Svg(part) => View {
+            is_single: part.sheet.is_some(),
+            ..whole_view(shown_of(part.device, present))
+        },
+        Format::Png(part) => View {
+            is_single: true,
+            is_first: part.sheet.is_none(),
+            ..whole_view(shown_of(part.device, present))
+        },
+        Format::Pdf(device) => whole_view(shown_of(device, present)),
+    }
+}
+
+/// All pages of these printers.
+fn whole_view(drawn: Present) -> View {
+    View {
+        drawn,
+        is_single: false,
+        is_first: false,
+        is_of_bytes: false,
+    }
+}
+
+/// Writes what is to be noted of pages that were written: marks that a printer holds, that the page is blank, and which
+/// sheets there are beside the one that is drawn.
+pub fn note_pages(rt: &impl Eprint, pages: PagesEnd, view: View) {
+    note_held(rt, pages, view.drawn);
+    if let Some(text) = blank_text(pages, view) {
+        note(rt, text);
+    }
+    note_others(rt, pages, view);
+}
+
+/// What is to be noted of a page on which nothing is, if it is one and the reason is known. Where a BASIC error stopped the
+/// run, that is the reason, and is noted.
+fn blank_text(pages: PagesEnd, view: View) -> Option<&'static str> {
+    let drawn = view.drawn;
+    let (four, five) = (has_marks(pages.four), has_marks(pages.five));
+    if !(drawn.four || drawn.five) || (drawn.four && four) || (drawn.five && five) {
+        None
+    } else if four {
+        Some(ONLY_FOUR)
+    } else if five {
+        Some(ONLY_FIVE)
+    } else if view.is_of_bytes {
+        Some(NO_PRINTED_BYTE)
+    } else if pages.run != RunEnd::Done {
+        None
+    } else if pages.has_unanswered {
+        Some(UNANSWERED)
+    } else if pages.has_screen {
+        Some(ON_SCREEN)
+    } else {
+        None
+    }
+}
+
+/// Whether a printer has printed a row, or holds marks.
+fn has_marks(paper: PaperEnd) -> bool {
+    paper.sheets > 0 || holds(paper.held)
+}
+
+/// Writes a note of each kind of sheets that there are beside the one that is drawn: those of the same printer, if nobody
+/// chose one, and those of the other printer.
+fn note_others(rt: &impl Eprint, pages: PagesEnd, view: View) {
+    if !view.is_single {
+        return;
+    }
+    let has_four = view.drawn.four && pages.four.sheets > 0;
+    let sheets = if has_four {
+        pages.four.sheets
+    } else {
+        pages.five.sheets
+    };
+    if view.is_first && sheets > 1 {
+        let _ = rt.eprintln(format_args!(
+            "print1525: note: this is sheet 1 of {sheets}; --sheet 2 draws the next, and --as pdf has all"
+        ));
+    }
+    if has_four && view.drawn.five && pages.five.sheets > 0 {
+        note(rt, FIVE_TOO);
     }
 }
 
 /// Writes a note of each of these printers that holds marks of a line that has not ended.
-pub fn note_held(rt: &impl Eprint, pages: PagesEnd, drawn: Present) {
+fn note_held(rt: &impl Eprint, pages: PagesEnd, drawn: Present) {
     if drawn.four {
-        note_marks(rt, 4, pages.four);
+        note_marks(rt, 4, pages.four.held);
     }
     if drawn.five {
-        note_marks(rt, 5, pages.five);
+        note_marks(rt, 5, pages.five.held);
     }
 }
 
@@ -367,7 +487,7 @@ pub fn note_brief(rt: &impl Eprint, count: u64, source: Source) {
     };
     let _ = match source {
         Source::Text => rt.eprintln(format_args!(
-            "print1525: note: {count} {are} at most 1 microsecond long; no bus has such pulses"
+            "print1525: note: {count} {are} at most 1 microsecond long; no KERNAL makes such pulses"
         )),
         Source::Vcd | Source::Csv => rt.eprintln(format_args!(
             "print1525: note: {count} {are} at most 1 microsecond long; --glitch 1us leaves {them} out"
@@ -375,15 +495,19 @@ pub fn note_brief(rt: &impl Eprint, count: u64, source: Source) {
     };
 }
 
-/// Writes what the pages of these printers lack that a recording has.
-pub fn note_reprinted(rt: &impl Eprint, said: Reprinted, drawn: Present) {
+/// Writes what the pages of these printers lack that a recording has, and which sheets there are beside the one that is
+/// drawn.
+pub fn note_reprinted(rt: &impl Eprint, said: Reprinted, view: View) {
+    let drawn = view.drawn;
     note_left(rt, said.left, drawn);
     note_nothing(rt, drawn, said.present);
     note_held(rt, said.end, drawn);
+    note_others(rt, said.end, view);
 }
 
 /// Writes what the bytes of this printer lack that a recording has.
-pub fn note_overheard(rt: &impl Eprint, said: Overheard, drawn: Present) {
+pub fn note_overheard(rt: &impl Eprint, said: Overheard, view: View) {
+    let drawn = view.drawn;
     note_left(rt, said.left, drawn);
     let heard = if said.has_byte { BOTH } else { NO_PRINTER };
     note_nothing(rt, drawn, heard);
@@ -663,46 +787,134 @@ fn after_count(name: &[u8]) -> &[u8] {
     name
 }
 
-/// Two lines of a script of which the later one has no greater number; each by its place, from 1, and its number.
-#[derive(Clone, Copy)]
-struct Unsorted {
-    first: (usize, u64),
-    second: (usize, u64),
+/// How many line numbers BASIC has.
+const LABELS: usize = 64000;
+
+/// Line numbers of a script, a bit for each.
+#[derive(Drop)]
+struct Labels {
+    bits: [u8; LABELS / 8],
 }
 
-/// Says which line has a number that is not greater than the one before it, if a line does.
-fn note_order(rt: &impl Eprint, script: &[u8]) {
-    if let Some(Unsorted { first, second }) = unsorted_in(script) {
-        let (at, before) = first;
-        let (line, number) = second;
-        let _ = rt.eprintln(format_args!(
-            "print1525: note: line {line} has the number {number}, after {before} in line {at}: \
-             lines run in the order of the file, where a C64 sorts them and keeps the last of each number; \
-             put them in order, or leave one out"
-        ));
+impl Labels {
+    /// None.
+    fn new() -> Labels {
+        Labels {
+            bits: [0; LABELS / 8],
+        }
+    }
+
+    /// Whether a number is one of them.
+    fn has(&self, number: u64) -> bool {
+        match self.bits.get((number / 8) as usize) {
+            Some(bits) => *bits & bit_of(number) != 0,
+            None => false,
+        }
+    }
+
+    /// Adds a number, if BASIC has it.
+    fn add(&mut self, number: u64) {
+        if let Some(bits) = self.bits.get_mut((number / 8) as usize) {
+            *bits |= bit_of(number);
+        }
     }
 }
 
-/// The first line of a script with a number that is not greater than the last one before it.
-fn unsorted_in(script: &[u8]) -> Option<Unsorted> {
+/// The bit of a number in its byte.
+fn bit_of(number: u64) -> u8 {
+    1 << (number % 8) as u32
+}
+
+/// A line of a script that a C64 has elsewhere, or has not; each line by its place, from 1, and its number.
+#[derive(Clone, Copy)]
+enum Misplaced {
+    /// The later line has no greater number.
+    Unsorted {
+        first: (usize, u64),
+        second: (usize, u64),
+    },
+    /// A number alone, which a line before it has.
+    Deleting {
+        place: usize,
+        number: u64,
+    },
+}
+
+/// Says which line has a number that is not greater than the one before it, or is a number alone that a line has, if one
+/// does.
+fn note_order(rt: &impl Eprint, script: &[u8]) {
+    let _ = match misplaced_in(script) {
+        None => return,
+        Some(Misplaced::Unsorted { first, second }) => {
+            let (at, before) = first;
+            let (line, number) = second;
+            rt.eprintln(format_args!(
+                "print1525: note: line {line} has the number {number}, after {before} in line {at}: \
+                 lines run in the order of the file, where a C64 sorts them and keeps the last of each number; \
+                 put them in order, or leave one out"
+            ))
+        }
+        Some(Misplaced::Deleting { place, number }) => rt.eprintln(format_args!(
+            "print1525: note: line {place} is the number {number} alone: on a C64 it deletes the line of that number, \
+             and here it does nothing; leave out both"
+        )),
+    };
+}
+
+/// The first line of a script with a number that is not greater than the last one before it, or that is a number alone
+/// which a line before it has. Any other number alone does nothing, here and on a C64.
+fn misplaced_in(script: &[u8]) -> Option<Misplaced> {
     let mut rest = script;
     let mut place: usize = 0;
     let mut last: Option<(usize, u64)> = None;
+    let mut seen = Labels::new();
     while !rest.is_empty() {
         let (line, more) = cut_line(rest);
         place = place.wrapping_add(1);
         if let Some(number) = label_of(line) {
-            let second = (place, number);
-            if let Some(first) = last {
-                if number <= first.1 {
-                    return Some(Unsorted { first, second });
-                }
+            let this = (place, number);
+            let found = misplaced_at(this, is_label_alone(line), last, &seen);
+            if found.is_some() {
+                return found;
             }
-            last = Some(second);
+            if !is_label_alone(line) {
+                seen.add(number);
+                last = Some(this);
+            }
         }
         rest = more;
     }
     None
+}
+
+/// What is wrong with a line that has a number, after this one and those of these numbers.
+fn misplaced_at(
+    line: (usize, u64),
+    is_alone: bool,
+    last: Option<(usize, u64)>,
+    seen: &Labels,
+) -> Option<Misplaced> {
+    match last {
+        _ if is_alone => {
+            let (place, number) = line;
+            if seen.has(number) {
+                Some(Misplaced::Deleting { place, number })
+            } else {
+                None
+            }
+        }
+        Some(first) if line.1 <= first.1 => Some(Misplaced::Unsorted {
+            first,
+            second: line,
+        }),
+        _ => None,
+    }
+}
+
+/// Whether a line of a script with a number has nothing else.
+fn is_label_alone(line: &[u8]) -> bool {
+    line.iter()
+        .all(|byte| matches!(*byte, b' ' | b'\t' | b'\r' | b'0'..=b'9'))
 }
 
 /// The number with which a line of a script begins, if it does; the greatest one where it is too large.

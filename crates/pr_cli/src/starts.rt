@@ -60,7 +60,7 @@ fn zero_of_job<R: Read>(
     ensures refused { IfErr result (λ fault. fault_status fault ≡ 3) }
 {
     match job {
-        Job::Check(trace, _) | Job::Decode { input: trace, .. } => {
+        Job::Check { input: trace, .. } | Job::Decode { input: trace, .. } => {
             own_zero(alloc, *trace, input, first)
         }
         Job::Pages(..) | Job::Bus(..) | Job::Raw { .. } => Ok(0),

@@ -3,6 +3,7 @@
 use crate::notes::{
     address_note, is_script, is_typed, listing_text, note_brief, note_bytes, note_script, note_unit,
 };
+use crate::still::still_note;
 use pr_basic::{ScriptFault, StatusMode, cut_line};
 use pr_capture::{Source, TraceFormat, TraceInput};
 use pr_explain::{
@@ -120,7 +121,7 @@ fn is_default(job: &Job<'_>) -> bool {
     match job {
         Job::Pages(_, _, _, _, output) => *output == PagesOutput::Pages(Format::List),
         Job::Bus(_, _, _, _, format) => *format == TraceFormat::Text,
-        Job::Check(_, output) => *output == CheckOutput::Report(Report::Frames),
+        Job::Check { output, .. } => *output == CheckOutput::Report(Report::Frames),
         Job::Decode { output, .. } => matches!(output, DecodeOutput::Readings(_)),
         Job::Raw { format, .. } => *format == Format::List,
     }
@@ -184,12 +185,24 @@ pub fn tell_more(
     show_hint(rt, hint_of(bytes, listing, subject, answer));
 }
 
-/// Writes what is to be noted of an input whose job is answered.
-pub fn tell_notes(rt: &(impl Eprint + AllocGlobal), bytes: &[u8], subject: Subject<'_>) {
+/// Writes what is to be noted of an input whose job is answered, by all of its bytes, or of a recording by its first ones.
+pub fn tell_notes(
+    rt: &(impl Eprint + AllocGlobal),
+    bytes: &[u8],
+    is_whole: bool,
+    subject: Subject<'_>,
+) {
     match subject {
         Subject::Script(job) => note_script(rt, bytes, job.form),
         Subject::Bytes => note_bytes(rt, bytes),
-        Subject::Trace(input) | Subject::Recording(input) => note_unit(rt, bytes, input),
+        Subject::Trace(input) | Subject::Recording(input) => {
+            note_unit(rt, bytes, input);
+            if is_whole {
+                if let Ok(note) = still_note(rt.alloc(), bytes, input) {
+                    show_note(rt, note);
+                }
+            }
+        }
     }
 }
 
@@ -204,7 +217,7 @@ pub fn is_notable(subject: Subject<'_>, fault: Option<CliFault>) -> bool {
     match (subject, fault) {
         (Subject::Script(_) | Subject::Bytes, None) => true,
         (Subject::Trace(input), None | Some(CliFault::Wave(_)))
-        | (Subject::Recording(input), None) => input.source == Source::Csv,
+        | (Subject::Recording(input), None) => input.source != Source::Text,
         _ => false,
     }
 }
@@ -260,7 +273,7 @@ pub fn subject_of<'a>(job: &Job<'a>) -> Subject<'a> {
             present: *present,
             mode: *mode,
         }),
-        Job::Check(trace, _) => Subject::Trace(*trace),
+        Job::Check { input, .. } => Subject::Trace(*input),
         Job::Decode { input, .. } => Subject::Recording(*input),
         Job::Raw { .. } => Subject::Bytes,
     }
@@ -281,6 +294,11 @@ fn told(
         (Subject::Recording(trace), Err(fault)) => reading_told(rt, bytes, trace, fault),
         (Subject::Bytes, _) | (_, Ok(_)) => Ok(String::new(rt.alloc())),
     }
+}
+
+/// Says how many sheets the paper has, where one past the end is asked for.
+pub fn tell_sheets(rt: &(impl Eprint + AllocGlobal), fault: PictureFault) {
+    show(rt, sheets_told(rt, fault));
 }
 
 /// What more there is to say of pages that are not shown.

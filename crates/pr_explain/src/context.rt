@@ -47,7 +47,7 @@ fn expected_at(before: &[u8], rest: &[u8], fault: ScriptFault) -> &'static str {
     match fault {
         ScriptFault::BadNumber(_) => match context {
             Context::Start => "a line number from 0 to 63999",
-            Context::Open | Context::Close | Context::File => "a file number from 0 to 255",
+            Context::Open | Context::Close | Context::File => "a file number from 1 to 255",
             Context::List => CODE,
         },
         ScriptFault::BadDevice(_) => match last_of(before) {

@@ -99,7 +99,7 @@ fn split_section(bytes: &[u8]) -> (&[u8], &[u8])
 }
 
 /// The first word, and what follows it.
-fn split_word(bytes: &[u8]) -> (&[u8], &[u8])
+pub fn split_word(bytes: &[u8]) -> (&[u8], &[u8])
     ensures within { length result.1.now ≤ length bytes.now }
     ensures less { 0 < length bytes.now → length result.1.now < length bytes.now }
 {

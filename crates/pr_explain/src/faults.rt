@@ -4,10 +4,12 @@ ghost use Rattle.std.specs.Prelude.{◌≡◌, Some};
 ghost use Rattle.pr_jobs.specs.Report.{IsOwnFault};
 ghost use Rattle.pr_explain.specs.TracePlaces.{capture_line, fault_line};
 
+use crate::declared::split_word;
 use crate::names::{
     first_field, has_column, has_signal, has_units, has_volts, is_number, is_signal, is_volts,
-    push_dump_names, push_same_names, push_table_names, separator_of,
+    number_of, push_dump_names, push_same_names, push_table_names, separator_of,
 };
+use crate::preambles::heading_of;
 use crate::tables::{
     begins_number, names_before, other_said, push_other_said, push_row_rule, push_times_rule,
     separator_at,
@@ -56,6 +58,18 @@ const NO_VOLTS: &str =
 
 /// What a message says of text of 16 bits a letter.
 const WIDE: &str = "this is UTF-16 text: save the recording as UTF-8 text";
+
+/// What a message says of a dump with a byte order mark.
+const MARK: &str = "a byte order mark is in front: save the dump as UTF-8 without one";
+
+/// What a message says of a line at the end of a recording that may have more.
+const CUT: &str =
+    "this line is the last one and has no end: if the recording was cut there, delete the line";
+
+/// What a message says of a table without a line of names whose signals are numbers.
+const NUMBERS: &str =
+    "numbers in --names count the columns below a line of names: put one in front, such as Time [us],ATN,CLOCK,DATA, \
+     and leave out --names";
 
 /// What a message says of an archive.
 const ARCHIVE: &str =
@@ -108,15 +122,56 @@ pub fn own_line(fault: CliFault) -> usize
     }
 }
 
+/// Whether bytes begin as text of 16 bits a letter does, with a mark in front or without one.
+fn is_wide(bytes: &[u8]) -> bool {
+    match bytes {
+        [255, 254, ..] | [254, 255, ..] => true,
+        [first, 0, second, 0, ..] => *first != 0 && *second != 0,
+        [0, first, 0, second, ..] => *first != 0 && *second != 0,
+        _ => false,
+    }
+}
+
 /// What to do with an input that is no text, by its first bytes. None for others.
 fn rule_of_file(bytes: &[u8]) -> Option<&'static str> {
-    if bytes.starts_with(&[255, 254]) || bytes.starts_with(&[254, 255]) {
+    if is_wide(bytes) {
         Some(WIDE)
     } else if bytes.starts_with(&[b'P', b'K', 3, 4]) {
         Some(ARCHIVE)
     } else {
         None
     }
+}
+
+/// The program that has packed a file and unpacks it, by the file's first bytes. None for others.
+fn packer_of(bytes: &[u8]) -> Option<&'static str> {
+    if bytes.starts_with(&[31, 139]) {
+        Some("gzip")
+    } else if bytes.starts_with(&[253, b'7', b'z', b'X', b'Z', 0]) {
+        Some("xz")
+    } else if bytes.starts_with(b"BZh") {
+        Some("bzip2")
+    } else if bytes.starts_with(&[40, 181, 47, 253]) {
+        Some("zstd")
+    } else {
+        None
+    }
+}
+
+/// Adds what to do with an input that is no text, if it is none, and gives whether that is so.
+fn push_file(text: &mut String, bytes: &[u8]) -> Result<bool, NoMemory> {
+    if let Some(rule) = rule_of_file(bytes) {
+        write!(text, "  {rule}\n")?;
+        return Ok(true);
+    }
+    if let Some(packer) = packer_of(bytes) {
+        write!(
+            text,
+            "  this file is packed with {packer}: unpack it first, as {packer} -d does\n"
+        )?;
+        return Ok(true);
+    }
+    Ok(false)
 }
 
 /// Adds the line of an input, of this number, that has this fault, and what it should have.
@@ -130,9 +185,28 @@ pub fn push_fault(
 ) -> Result<(), NoMemory> {
     let line = line_with(bytes, number);
     write!(text, "  line {number}: {}\n", Cut(without_end(line)))?;
-    if let Some(rule) = rule_of_file(bytes) {
-        return write!(text, "  {rule}\n");
+    if push_file(text, bytes)? {
+        return Ok(());
     }
+    push_rule(alloc, text, bytes, input, fault, number)?;
+    match fault {
+        CliFault::Capture(fault) if may_be_cut(bytes, number, fault, input.source) => {
+            write!(text, "  {CUT}\n")
+        }
+        _ => Ok(()),
+    }
+}
+
+/// Adds what the line of an input, of this number, should have that has this fault.
+fn push_rule(
+    alloc: Global,
+    text: &mut String,
+    bytes: &[u8],
+    input: TraceInput<'_>,
+    fault: CliFault,
+    number: usize,
+) -> Result<(), NoMemory> {
+    let line = line_with(bytes, number);
     let signals = input.signals;
     match (fault, input.source) {
         (CliFault::Capture(CaptureFault::NoSignal(_, wire)), Source::Vcd) => {
@@ -143,10 +217,7 @@ pub fn push_fault(
             let (_, name) = line_and_name(wire, signals);
             push_same_names(alloc, text, bytes, name, second_name(wire, name))
         }
-        (CliFault::Capture(fault), Source::Vcd) => {
-            let rule = no_dump_hint(bytes, fault).unwrap_or(rule_of_dumps(fault));
-            write!(text, "  {rule}\n")
-        }
+        (CliFault::Capture(fault), Source::Vcd) => push_dump_rule(text, bytes, line, fault),
         (CliFault::Capture(fault), Source::Csv) => push_table_fault(
             text, bytes, input, fault, number,
         ),
@@ -154,8 +225,140 @@ pub fn push_fault(
     }
 }
 
+/// Adds what a line of a dump should have that has this fault.
+fn push_dump_rule(
+    text: &mut String,
+    bytes: &[u8],
+    line: &[u8],
+    fault: CaptureFault,
+) -> Result<(), NoMemory> {
+    if let (CaptureFault::BadLevel(_), Some(value)) = (fault, undefined_in(line)) {
+        let value = char::from(value);
+        return write!(
+            text,
+            "  expected level 0, 1, L or H, found {value}, which is undefined: begin the recording after the \
+             reset, or give the signal a start value\n"
+        );
+    }
+    let rule = no_dump_hint(bytes, fault).unwrap_or(rule_of_dumps(fault));
+    write!(text, "  {rule}\n")?;
+    match fault {
+        CaptureFault::NoTimescale(_) | CaptureFault::NoDefinitions(_) if has_mark(bytes) => {
+            write!(text, "  {MARK}\n")
+        }
+        _ => Ok(()),
+    }
+}
+
+/// The first value on a line of a dump that VHDL has for an undefined signal, if one is there.
+fn undefined_in(line: &[u8]) -> Option<u8> {
+    let mut rest = line;
+    while !rest.is_empty() {
+        let (word, more) = split_word(rest);
+        rest = more;
+        let value = undefined_value(word);
+        if value.is_some() {
+            return value;
+        }
+    }
+    None
+}
+
+/// Such a value in one word, which is a level with its signal's code, or has bits.
+fn undefined_value(word: &[u8]) -> Option<u8> {
+    match word {
+        [b'b' | b'B', bits @ ..] => bits.iter().copied().find(|bit| is_undefined(*bit)),
+        [value, _, ..] if is_undefined(*value) => Some(*value),
+        _ => None,
+    }
+}
+
+/// Whether a level is one that VHDL has for an undefined signal, but for x.
+fn is_undefined(level: u8) -> bool {
+    matches!(level, b'U' | b'u' | b'W' | b'w' | b'-')
+}
+
+/// Whether bytes begin with UTF-8's byte order mark.
+fn has_mark(bytes: &[u8]) -> bool {
+    bytes.starts_with(&[239, 187, 191])
+}
+
+/// A line without UTF-8's byte order mark in front.
+fn without_mark(line: &[u8]) -> &[u8] {
+    match line {
+        [239, 187, 191, rest @ ..] => rest,
+        whole => whole,
+    }
+}
+
+/// Whether the line of this number, with this fault, may be the last of a recording that was cut: it has no end, and lacks
+/// something there.
+fn may_be_cut(bytes: &[u8], number: usize, fault: CaptureFault, source: Source) -> bool {
+    let line = line_with(bytes, number);
+    if line.is_empty() || line.ends_with(b"\n") {
+        return false;
+    }
+    match fault {
+        CaptureFault::GoesBack(_) | CaptureFault::BadTime(_) => {
+            source == Source::Vcd || lacks_cells(bytes, line, number)
+        }
+        CaptureFault::NoLevel(_, _) | CaptureFault::BadLevel(_) => {
+            source == Source::Csv && lacks_cells(bytes, line, number)
+        }
+        CaptureFault::BadWord(_) | CaptureFault::NoEnd(_) => true,
+        _ => false,
+    }
+}
+
+/// Whether a row of a table, of this number, has fewer cells than there are names, or nothing behind its last separator.
+fn lacks_cells(bytes: &[u8], row: &[u8], number: usize) -> bool {
+    let Some(names) = names_before(bytes, number) else {
+        return false;
+    };
+    let separator = separator_at(bytes, names, number).unwrap_or(b',');
+    count_in(separator, row) < count_in(separator, names) || row.ends_with(&[separator])
+}
+
+/// How often a byte is there.
+fn count_in(byte: u8, line: &[u8]) -> usize {
+    let mut count: usize = 0;
+    for other in line {
+        if *other == byte {
+            count = count.wrapping_add(1);
+        }
+    }
+    count
+}
+
 /// Adds what the line of a table, of this number, should have that has this fault.
 fn push_table_fault(
+    text: &mut String,
+    bytes: &[u8],
+    input: TraceInput<'_>,
+    fault: CaptureFault,
+    number: usize,
+) -> Result<(), NoMemory> {
+    let Some(heading) = heading_of(bytes) else {
+        return push_table_rule(text, bytes, input, fault, number);
+    };
+    if heading.begins_later(number) && is_of_names(fault) {
+        heading.push_names(text)?;
+    } else if !heading.has_units_at(number) {
+        push_table_rule(text, bytes, input, fault, number)?;
+    }
+    heading.push_units(text, number)
+}
+
+/// Whether a table has this fault in the line that is to have its names.
+fn is_of_names(fault: CaptureFault) -> bool {
+    matches!(
+        fault,
+        CaptureFault::NoSignal(_, _) | CaptureFault::TwoSignals(_, _) | CaptureFault::NoTime(_)
+    )
+}
+
+/// Adds what the line of a table, of this number, should have that has this fault, whatever lines are before its rows.
+fn push_table_rule(
     text: &mut String,
     bytes: &[u8],
     input: TraceInput<'_>,
@@ -175,6 +378,8 @@ fn push_table_fault(
             push_columns(text, line, separator, wire, input.signals)?;
             push_skipped(text, bytes, line)
         }
+        CaptureFault::TwoSignals(_, _) if is_number(first_field(separator.unwrap_or(b','), line)) =>
+            { push_no_names(text, input.signals) }
         CaptureFault::NoTime(_) => match names_before(bytes, number) {
             Some(names) => {
                 let separator = separator_at(bytes, names, number).unwrap_or(b',');
@@ -302,16 +507,25 @@ fn push_columns(
         );
     };
     if is_number(first_field(separator, line)) {
-        return write!(
-            text,
-            "  expected column names such as Time,ATN,CLOCK,DATA before the rows, found a number\n"
-        );
+        return push_no_names(text, signals);
     }
     if has_units(separator, line) {
         return write!(text, "  {UNITS}\n");
     }
     push_unmeant(text, line, separator, wire, signals)?;
     push_table_names(text, separator, line)
+}
+
+/// Adds that a table has no line of names, and that numbers of columns do not count then.
+fn push_no_names(text: &mut String, signals: Signals<'_>) -> Result<(), NoMemory> {
+    write!(
+        text,
+        "  expected column names such as Time,ATN,CLOCK,DATA before the rows, found a number\n"
+    )?;
+    if number_of(signals.atn).is_some() {
+        return write!(text, "  {NUMBERS}\n");
+    }
+    Ok(())
 }
 
 /// Adds which line looks like the names of a table's columns and is a remark, where a row stands in place of the names.
@@ -406,10 +620,14 @@ fn push_text_rule(text: &mut String, line: &[u8]) -> Result<(), NoMemory> {
         "  expected a time in microseconds, a space, and a digit each for ATN, CLOCK and DATA (1 \
          released, 0 pulled), such as 100 001\n"
     )?;
-    match hint_of(line) {
-        Some(hint) => write!(text, "  {hint}\n"),
-        None => Ok(()),
+    let plain = without_mark(line);
+    if let Some(hint) = hint_of(plain) {
+        write!(text, "  {hint}\n")?;
     }
+    if plain.starts_with(b"$") && has_mark(line) {
+        return write!(text, "  {MARK}\n");
+    }
+    Ok(())
 }
 
 /// What a line looks like that is to name the columns of a table, where it is one of a trace text or of a listing.

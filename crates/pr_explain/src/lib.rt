@@ -18,6 +18,7 @@
 //!   first that is not allowed, and `input` reads a trace in any format as `check` reads it ([`read_input`]).
 //! - The words: `trace_text` and `states` of edges; `faults`, `tables` and `names` of a line that cannot be
 //!   read, what it should have, and which signals a recording has, by `declared` those of a dump;
+//!   `preambles` finds what an oscilloscope writes before a table's rows;
 //!   `units` finds the unit that a table's times may be in; `context` and `words` of the
 //!   statement around a place of a script, and of the word that is there. The place's line and its
 //!   lexeme are those of pr_basic's `line_at` and `lexeme_at`. `texts` has times, levels and
@@ -35,6 +36,7 @@ mod input;
 mod lines;
 mod names;
 mod oddities;
+mod preambles;
 mod rows;
 mod scripts;
 mod states;

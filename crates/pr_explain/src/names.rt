@@ -242,7 +242,7 @@ fn is_front(name: &[u8]) -> bool {
 }
 
 /// The number that a name is, if it is one.
-fn number_of(name: &[u8]) -> Option<usize> {
+pub fn number_of(name: &[u8]) -> Option<usize> {
     match str::from_utf8(name) {
         Ok(name) => name.parse().ok(),
         Err(_) => None,
@@ -417,7 +417,7 @@ fn begins_fraction(bytes: &[u8]) -> bool {
 
 /// The first field of a line, and what follows its separator; nothing, where it has none. One between
 /// quotation marks does not end it.
-fn split_field(separator: u8, line: &[u8]) -> (&[u8], &[u8])
+pub fn split_field(separator: u8, line: &[u8]) -> (&[u8], &[u8])
     ensures less { 0 < length line.now → length result.1.now < length line.now }
 {
     let mut is_quoted = false;

@@ -10,7 +10,10 @@ ghost use Rattle.pr_explain.specs.ScriptSteps.{IsNumberedPlace, numbered};
 use crate::Explanation;
 use crate::context::{Problem, advice_at, cut_before, problem_at, takes_item};
 use crate::texts::{Cut, Escaped, without_end};
-use crate::words::{Foreign, foreign_word, is_number, letter_in, typed_instead, word_at};
+use crate::words::{
+    Foreign, ends_string, foreign_word, is_number, letter_in, printer_bytes, typed_instead,
+    wide_letter, word_at,
+};
 use pr_basic::{
     LineAt, ScriptFault, basic_number, faults_tell_their_line, line_at, read_script_at,
 };
@@ -233,7 +236,8 @@ fn push_letter(text: &mut String, rest: &[u8]) -> Result<(), NoMemory> {
         ),
         _ => Ok(()),
     }?;
-    match typed_instead(letter, true) {
+    let instead = typed_instead(letter, !ends_string(rest));
+    match instead.or(wide_letter(rest)) {
         Some(sentence) => write!(text, "  {sentence}\n"),
         None => Ok(()),
     }
@@ -255,6 +259,10 @@ fn push_hints(text: &mut String, line: CutLine<'_>, fault: ScriptFault) -> Resul
     match foreign_word(line.before, line.rest, wants_number) {
         Some(Foreign::Word(word)) => write!(text, "  {word} is not supported\n"),
         Some(Foreign::Sentence(sentence)) => write!(text, "  {sentence}\n"),
+        None => Ok(()),
+    }?;
+    match printer_bytes(line.before, line.rest) {
+        Some(sentence) => write!(text, "  {sentence}\n"),
         None => Ok(()),
     }
 }

@@ -2,7 +2,7 @@
 
 use crate::names::first_field;
 use crate::oddities::has_byte;
-use crate::tables::{is_in_front, is_time_alone, separator_at};
+use crate::tables::{begins_number, is_in_front, is_time_alone, separator_at};
 use pr_basic::cut_line;
 use pr_capture::{Source, TraceInput};
 use pr_wire::NoMemory;
@@ -15,21 +15,31 @@ pub struct TimeUnit {
     pub word: &'static str,
 }
 
-/// The units that are tried, the most likely first.
-const UNITS: [TimeUnit; 3] = [
-    TimeUnit {
-        sign: "us",
-        word: "microseconds",
-    },
-    TimeUnit {
-        sign: "ns",
-        word: "nanoseconds",
-    },
-    TimeUnit {
-        sign: "ps",
-        word: "picoseconds",
-    },
-];
+const MILLI: TimeUnit = TimeUnit {
+    sign: "ms",
+    word: "milliseconds",
+};
+
+const MICRO: TimeUnit = TimeUnit {
+    sign: "us",
+    word: "microseconds",
+};
+
+const NANO: TimeUnit = TimeUnit {
+    sign: "ns",
+    word: "nanoseconds",
+};
+
+const PICO: TimeUnit = TimeUnit {
+    sign: "ps",
+    word: "picoseconds",
+};
+
+/// The units that are tried where all times are whole numbers, the most likely first.
+const WHOLE: [TimeUnit; 3] = [MICRO, NANO, PICO];
+
+/// Those that are tried where some are not.
+const DECIMAL: [TimeUnit; 3] = [MILLI, MICRO, NANO];
 
 /// A table, by the name of its first column.
 #[derive(Clone, Copy)]
@@ -42,7 +52,7 @@ struct Table<'a> {
 }
 
 /// The unit in which a table's times may be: its first column is called by a word for time without a unit, all its times are
-/// whole numbers, and no byte is acknowledged but by times in this unit. Of the table the first lines are enough.
+/// numbers, and no byte is acknowledged but by times in this unit. Of the table the first lines are enough.
 ///
 /// # Errors
 ///
@@ -59,10 +69,13 @@ pub fn unit_meant(
     let Some(table) = table_of(lines) else {
         return Ok(None);
     };
-    if !are_whole(table) || has_byte(alloc, lines, input)? {
+    let Some(units) = units_of(table) else {
+        return Ok(None);
+    };
+    if has_byte(alloc, lines, input)? {
         return Ok(None);
     }
-    for unit in UNITS {
+    for unit in units {
         let tried = in_unit(alloc, table, unit)?;
         if has_byte(alloc, tried.as_slice(), input)? {
             return Ok(Some(unit));
@@ -104,25 +117,42 @@ fn table_of(lines: &[u8]) -> Option<Table<'_>> {
     None
 }
 
-/// Whether each row of a table begins with digits alone.
-fn are_whole(table: Table<'_>) -> bool {
+/// The units that are tried, by the first cells of a table's rows; None where one of these is no number.
+fn units_of(table: Table<'_>) -> Option<[TimeUnit; 3]> {
     let mut rest = table.rest;
     let mut is_row = false;
+    let mut units = WHOLE;
     while !rest.is_empty() {
         let (line, more) = cut_line(rest);
-        if is_row && !is_in_front(line) && !is_whole(first_field(table.separator, line)) {
-            return false;
+        if is_row && !is_in_front(line) {
+            let cell = first_field(table.separator, line);
+            if !is_number(cell) {
+                return None;
+            }
+            if !is_whole(cell) {
+                units = DECIMAL;
+            }
         }
         // (the names come first)
         is_row = true;
         rest = more;
     }
-    true
+    Some(units)
 }
 
 /// Whether a cell is digits alone.
 fn is_whole(cell: &[u8]) -> bool {
-    !cell.is_empty() && cell.iter().all(|byte| byte.is_ascii_digit())
+    cell.iter().all(|byte| byte.is_ascii_digit())
+}
+
+/// Whether a cell is a number, which may have a comma for its point.
+fn is_number(cell: &[u8]) -> bool {
+    begins_number(cell) && cell.iter().all(|byte| is_of_number(*byte))
+}
+
+/// Whether a byte is one of numbers: a digit, a sign, a point, a comma, or the letter of an exponent.
+fn is_of_number(byte: u8) -> bool {
+    byte.is_ascii_digit() || matches!(byte, b'+' | b'-' | b'.' | b',' | b'e' | b'E')
 }
 
 /// A table with this unit in the name of its first column.

@@ -238,7 +238,9 @@ pub fn foreign_word(before: &[u8], rest: &[u8], wants_number: bool) -> Option<Fo
 /// What to say of bytes that are no word.
 fn foreign_sentence(before: &[u8], rest: &[u8]) -> Option<Foreign> {
     let sentence = match rest {
-        [b'#', ..] if parts_print(before) => "write PRINT# without a space before #",
+        [b'#', ..] if parts_print(before) => {
+            "write PRINT# without a space before #; ?# is not PRINT#"
+        }
         [b'\r', ..] => {
             "a carriage return alone does not end a line; save the script with LF or CR LF line ends"
         }
@@ -338,6 +340,7 @@ fn is_four(code: &[u8]) -> bool {
 /// byte of Windows: in a string, or outside of one.
 pub fn typed_instead(letter: &[u8], is_in_string: bool) -> Option<&'static str> {
     let sentence = match letter {
+        [9] => "the byte 9 is a tab; type spaces",
         [12] => "the byte 12 is a form feed; leave it out",
         [127] => "the byte 127 is a delete code; leave it out",
         [0xef, 0xbb, 0xbf] => "this is a byte order mark; save the script without it",
@@ -364,6 +367,43 @@ pub fn typed_instead(letter: &[u8], is_in_string: bool) -> Option<&'static str> 
         _ => return None,
     };
     Some(sentence)
+}
+
+/// What to say of the bytes in a string whose letters have two bytes each, as UTF-16 has them; its first quote is one.
+pub fn wide_letter(rest: &[u8]) -> Option<&'static str> {
+    match rest {
+        [0, b' '..=b'~', 0, ..] => Some(
+            "each letter has two bytes, as in UTF-16: save the listing as plain text, in ASCII or UTF-8",
+        ),
+        _ => None,
+    }
+}
+
+/// Whether a curly quotation mark in front is meant to end the string that it is in: the list goes on after it, or the
+/// statement ends.
+pub fn ends_string(rest: &[u8]) -> bool {
+    let after = match rest {
+        [0xe2, 0x80, 0x9c | 0x9d, after @ ..] | [0x93 | 0x94, after @ ..] => after,
+        _ => return false,
+    };
+    matches!(after_blanks(after), [] | [b';' | b':' | b'\r', ..])
+}
+
+/// What to say where no statement begins, after the bytes `before` of the line, and the line has control codes of the
+/// printer.
+pub fn printer_bytes(before: &[u8], rest: &[u8]) -> Option<&'static str> {
+    match rest {
+        [1, 8, ..] => None,
+        _ if without_label(before).is_empty() && rest.iter().any(|byte| is_printer_code(*byte)) => {
+            Some("if these are a printer's bytes and no script, the command raw prints them")
+        }
+        _ => None,
+    }
+}
+
+/// Whether a byte is a control code that a printer knows and no text has.
+fn is_printer_code(byte: u8) -> bool {
+    matches!(byte, 8 | 14..=18 | 27)
 }
 
 /// The letter in front as UTF-8 has it, or else the byte; nothing at the end.

@@ -1,17 +1,22 @@
 -- Trusted: how a run begins, and how it ends.
-use Rattle.std.specs.Prelude.{ℕ, Bool, true, false, not, List, count_by, Option, Some, None}
+use Rattle.std.specs.Prelude.{ℕ, Bool, true, false, not, List, count_by, length, nat_lt, if◌then◌else◌, Option, Some, None}
 use Rattle.pr_page.specs.declared.paper.Mark.{Mark}
 use Rattle.pr_page.specs.declared.paper.Mark.TheVariants.{Cell, Dots}
+use Rattle.pr_page.specs.declared.paper.Paper.{Paper}
 use Rattle.pr_page.specs.declared.paper.Placed.{Placed}
+use Rattle.pr_dots.specs.Sheets.{sheets_of}
+use Rattle.pr_render.specs.Svg.{all_zero}
 use Rattle.pr_system.specs.declared.outcome.Outcome.{Outcome}
 use Rattle.pr_serial.specs.declared.Present.{Present}
 use Rattle.pr_bus.specs.declared.wires.Delays.{Delays}
 use Rattle.pr_channels.specs.declared.faults.Stop.{Stop}
 use Rattle.pr_basic.specs.declared.session.StatusMode.{StatusMode}
+use Rattle.pr_jobs.specs.Formats.{has_rows}
 use Rattle.pr_jobs.specs.declared.run.Ending.{Ending}
 use Rattle.pr_jobs.specs.declared.run.Ending.TheVariants.{Done, Stopped}
 use Rattle.pr_jobs.specs.declared.run.HeldMarks.{HeldMarks}
 use Rattle.pr_jobs.specs.declared.run.PagesEnd.{PagesEnd}
+use Rattle.pr_jobs.specs.declared.run.PaperEnd.{PaperEnd}
 use Rattle.pr_jobs.specs.declared.run.RunEnd.{RunEnd}
 use Rattle.pr_jobs.specs.declared.run.RunEnd.TheVariants as run
 use Rattle.pr_jobs.specs.declared.run.Start.{Start}
@@ -47,10 +52,21 @@ held_marks marks = record {
   columns = count_by (λ placed. not (is_character placed.mark)) marks;
 }
 
--- how a run ended, and the marks that its printers hold: those of lines that have not ended
+-- how many sheets a paper with a printed row has; without one, none
+abbrev pub printed_sheets : Paper → ℕ
+printed_sheets paper = if has_rows paper then sheets_of paper else 0
+
+-- what is on a paper, and the marks that its printer holds: those of a line that has not ended
+abbrev pub paper_end : Paper → PaperEnd
+paper_end paper = record { sheets = printed_sheets paper; held = held_marks paper.held }
+
+-- how a run ended, what came of its papers, and whether a byte went to the screen, or a statement called a device that did
+-- not answer: its status is not 0
 abbrev pub pages_end : Outcome → PagesEnd
 pages_end outcome = record {
   run = run_end outcome.stop;
-  four = held_marks outcome.paper4.held;
-  five = held_marks outcome.paper5.held;
+  four = paper_end outcome.paper4;
+  five = paper_end outcome.paper5;
+  has_screen = nat_lt 0 (length outcome.screen);
+  has_unanswered = not (all_zero outcome.statuses);
 }

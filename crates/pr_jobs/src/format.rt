@@ -57,7 +57,7 @@ fn left_to(alloc: Global, device: Option<Device>, mut outcome: Outcome) -> Outco
 }
 
 /// Whether a row is printed; marks that are held are none.
-fn has_rows(paper: &Paper) -> bool
+pub fn has_rows(paper: &Paper) -> bool
     ensures { result ≡ has_rows paper.now }
 {
     !paper.rows.is_empty()

@@ -63,6 +63,6 @@ pub use pr_input::{
 pub use raw::{RAW_LIMIT, outcome_with, print_input, raw_over};
 pub use report::{check_as_over, report_input};
 pub use reporter::ReportText;
-pub use run::{Ending, HeldMarks, PagesEnd, RunEnd, Start};
+pub use run::{Ending, HeldMarks, PagesEnd, PaperEnd, RunEnd, Start};
 pub use source_reader::{SourceReader, texts_say_samples};
 pub use text::Text;

@@ -1,12 +1,15 @@
 //! How a run begins, and how it ends.
 
-ghost use Rattle.std.specs.Prelude.{◌≡◌};
-ghost use Rattle.pr_jobs.specs.Runs.{ending_at, held_marks, pages_end, run_end};
+ghost use Rattle.std.specs.Prelude.{◌≡◌, length, nat_lt};
+ghost use Rattle.pr_jobs.specs.Runs.{ending_at, held_marks, pages_end, paper_end, printed_sheets, run_end};
+ghost use Rattle.pr_render.specs.Svg.{all_zero};
 
+use crate::format::has_rows;
 use pr_basic::StatusMode;
 use pr_bus::Delays;
 use pr_channels::Stop;
-use pr_page::{Mark, Placed};
+use pr_dots::sheets_of;
+use pr_page::{Mark, Paper, Placed};
 use pr_serial::Present;
 use pr_system::Outcome;
 
@@ -95,15 +98,61 @@ impl HeldMarks {
     }
 }
 
-/// How a run ended whose pages were written, and what its printers hold that was not printed.
+/// How many sheets of 11 inches a paper with a printed row has; without one, none.
+fn printed_sheets(paper: &Paper) -> u64
+    ensures { result ≡ printed_sheets paper.now }
+{
+    if has_rows(paper) { sheets_of(paper) } else { 0 }
+}
+
+/// What a printer has printed, and what it holds that was not printed.
+#[derive(Clone, Copy, Debug, PartialEq, Eq)]
+pub struct PaperEnd {
+    /// How many sheets of 11 inches it has printed on: 0 where there is no printed row.
+    pub sheets: u64,
+    /// What it holds.
+    pub held: HeldMarks,
+}
+
+impl PaperEnd {
+    /// Returns the end of this paper. It takes no memory.
+    pub fn of(paper: &Paper) -> PaperEnd
+        ensures { result ≡ paper_end paper.now }
+    {
+        PaperEnd {
+            sheets: printed_sheets(paper),
+            held: HeldMarks::of(paper.held.as_slice()),
+        }
+    }
+}
+
+/// Whether each device that statements with these statuses called has answered.
+fn all_zero(statuses: &[u8]) -> bool
+    ensures { result ≡ all_zero statuses.now }
+{
+    statuses.iter().all(|status| *status == 0)
+}
+
+/// Whether a byte went to the screen.
+fn has_screen(outcome: &Outcome) -> bool
+    ensures { result ≡ nat_lt 0 (length outcome.now.screen) }
+{
+    !outcome.screen.is_empty()
+}
+
+/// How a run ended whose pages were written, what its printers have printed and hold, and where else its output went.
 #[derive(Clone, Copy, Debug, PartialEq, Eq)]
 pub struct PagesEnd {
     /// How the run ended.
     pub run: RunEnd,
-    /// What printer 4 holds.
-    pub four: HeldMarks,
-    /// What printer 5 holds.
-    pub five: HeldMarks,
+    /// The paper of printer 4.
+    pub four: PaperEnd,
+    /// The paper of printer 5.
+    pub five: PaperEnd,
+    /// A byte went to the screen.
+    pub has_screen: bool,
+    /// A statement called a device that did not answer.
+    pub has_unanswered: bool,
 }
 
 impl PagesEnd {
@@ -113,8 +162,10 @@ impl PagesEnd {
     {
         PagesEnd {
             run: RunEnd::of(outcome.stop),
-            four: HeldMarks::of(outcome.paper4.held.as_slice()),
-            five: HeldMarks::of(outcome.paper5.held.as_slice()),
+            four: PaperEnd::of(&outcome.paper4),
+            five: PaperEnd::of(&outcome.paper5),
+            has_screen: has_screen(outcome),
+            has_unanswered: !all_zero(outcome.statuses.as_slice()),
         }
     }
 }

@@ -29,17 +29,28 @@ shift-x\nshift-y\nshift-z\nshift-+\ncbm--\nshift--\n$de\ncbm-*\n\
 space\nspaces";
 
 /// The names of bytes in magazines that petcat has not, each in a line: those of COMPUTE!'s Gazette, and
-/// from `crsr dn` on those of RUN.
+/// from `crsr dn` on those of RUN, for which `shft` is the shift key and `comd` the Commodore key.
 pub const MAGAZINE_NAMES: &str = "\
 rvs\nrvs on\noff\nrvs off\nright\nup arrow\nback arrow\npi\n\
 crsr dn\ncrsr up\ncrsr lf\ncrsr rt\nshift clr/home\n\
 ctrl 1\nctrl 2\nctrl 3\nctrl 4\nctrl 5\nctrl 6\nctrl 7\nctrl 8\nctrl 9\nctrl 0\n\
-comd 1\ncomd 2\ncomd 3\ncomd 4\ncomd 5\ncomd 6\ncomd 7\ncomd 8";
+comd 1\ncomd 2\ncomd 3\ncomd 4\ncomd 5\ncomd 6\ncomd 7\ncomd 8\n\
+shft clr\nshft clr/home\nshft space\nshft *\nshft +\nshft -\nshft @\n\
+shft a\nshft b\nshft c\nshft d\nshft e\nshft f\nshft g\nshft h\nshft i\n\
+shft j\nshft k\nshft l\nshft m\nshft n\nshft o\nshft p\nshft q\nshft r\n\
+shft s\nshft t\nshft u\nshft v\nshft w\nshft x\nshft y\nshft z\n\
+comd @\ncomd +\ncomd -\ncomd *\n\
+comd a\ncomd b\ncomd c\ncomd d\ncomd e\ncomd f\ncomd g\ncomd h\ncomd i\n\
+comd j\ncomd k\ncomd l\ncomd m\ncomd n\ncomd o\ncomd p\ncomd q\ncomd r\n\
+comd s\ncomd t\ncomd u\ncomd v\ncomd w\ncomd x\ncomd y\ncomd z";
 
 /// The bytes of [`MAGAZINE_NAMES`], in their order.
-pub const MAGAZINE_BYTES: [u8; 31] = [
+pub const MAGAZINE_BYTES: [u8; 94] = [
     18, 18, 146, 146, 29, 94, 95, 222, 17, 145, 157, 29, 147, 144, 5, 28, 159, 156, 30, 31, 158,
-    18, 146, 129, 149, 150, 151, 152, 153, 154, 155,
+    18, 146, 129, 149, 150, 151, 152, 153, 154, 155, 147, 147, 160, 192, 219, 221, 186, 193, 194,
+    195, 196, 197, 198, 199, 200, 201, 202, 203, 204, 205, 206, 207, 208, 209, 210, 211, 212, 213,
+    214, 215, 216, 217, 218, 164, 166, 220, 223, 176, 191, 188, 172, 177, 187, 165, 180, 162, 181,
+    161, 182, 167, 170, 185, 175, 171, 178, 174, 163, 184, 190, 179, 189, 183, 173,
 ];
 
 /// The most bytes that one name says (profile).

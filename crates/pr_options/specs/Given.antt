@@ -37,16 +37,6 @@ value_by_ending endings name = option_map (λ e. e.1) (find (λ e. has_ending na
 abbrev pub value_by_name : (endings foreign : List (Text × Text)) → Text → Option Text
 value_by_name endings foreign name = option_or (value_by_ending endings name) (value_by_ending foreign name)
 
--- the value that the ending of a file's name gives, where words do not give the option itself
-abbrev pub ending_value : OptionRow → (foreign : List (Text × Text)) → List Row → Option Text
-ending_value option foreign rows = if is_named option.name rows then None
-    else option_and_then (value_by_name option.endings foreign) (first_of option.file rows)
-
--- the value of an option: the one that words give; else the one that a file's name gives; else its default, which
--- serves in a subcommand that does not have the option too
-abbrev pub value_in : Opt → List Row → Text
-value_in o rows = unwrap_or (ending_value (row o) (foreign o) rows) (unwrap_or (first_of (row o).name rows) (row o).default)
-
 -- the name of a file; `-` is none
 abbrev pub named : Text → Option Text
 named name = if bytes_eq name (codes "-") then None else Some name
@@ -54,6 +44,16 @@ named name = if bytes_eq name (codes "-") then None else Some name
 -- the file that words give by this argument; without one, standard input or standard output serves
 abbrev pub file_in : Text → List Row → Option Text
 file_in argument rows = option_and_then named (first_of argument rows)
+
+-- the value that the ending of a file's name gives, where words do not give the option itself
+abbrev pub ending_value : OptionRow → (foreign : List (Text × Text)) → List Row → Option Text
+ending_value option foreign rows = if is_named option.name rows then None
+    else option_and_then (value_by_name option.endings foreign) (file_in option.file rows)
+
+-- the value of an option: the one that words give; else the one that a file's name gives; else its default, which
+-- serves in a subcommand that does not have the option too
+abbrev pub value_in : Opt → List Row → Text
+value_in o rows = unwrap_or (ending_value (row o) (foreign o) rows) (unwrap_or (first_of (row o).name rows) (row o).default)
 
 -- the file of characters that words name, whatever its name
 abbrev pub characters_in : List Row → Option Text

@@ -26,7 +26,7 @@ use Rattle.pr_options.specs.Rows as option
 use Rattle.pr_options.specs.CommandLine.{print1525}
 use Rattle.pr_options.specs.DelayLists.{delays_of}
 use Rattle.pr_options.specs.Given.{characters_in, file_in, is_given, value_in}
-use Rattle.pr_options.specs.Options.{before_of, bounds_of, decode_output_of, device_of, form_of, format_of, from_time_of, glitch_of, inverted_of, listening_of, mode_of, pages_output_of, present_of, rate_of, reading_source_of, report_of, set_of, sheet_of, source_of, threshold_of, trace_format_of, unhearing}
+use Rattle.pr_options.specs.Options.{before_of, bounds_of, decode_output_of, device_of, form_of, format_of, found_source_of, from_time_of, glitch_of, inverted_of, listening_of, mode_of, pages_output_of, present_of, rate_of, report_of, set_of, sheet_of, threshold_of, trace_format_of, unhearing}
 use Rattle.pr_options.specs.SignalNames.{Names, names_of, names_of_signals}
 use Rattle.pr_options.specs.Values.{bad}
 use Rattle.pr_options.specs.declared.command_line.Job.{Job}
@@ -61,7 +61,7 @@ pub record InputView : Type 0 where
 pub data JobView : Type 0 where
   Pages : ListingForm → RunView → PagesOutput → JobView
   Bus : ListingForm → RunView → TraceFormat → JobView
-  Check : InputView → CheckOutput → JobView
+  Check : Bool → InputView → CheckOutput → JobView
   Decode : Bool → InputView → DecodeOutput → JobView
   Raw : Bool → Format → JobView
 
@@ -96,7 +96,7 @@ job_view (job.Pages form present delays mode output) =
     Pages form (view_of_run present delays mode) output
 job_view (job.Bus form present delays mode format) =
     Bus form (view_of_run present delays mode) format
-job_view (job.Check input report) = Check (input_view input) report
+job_view (job.Check is_found input output) = Check is_found (input_view input) output
 job_view (job.Decode is_found input output) = Decode is_found (input_view input) output
 job_view (job.Raw lower format) = Raw lower format
 
@@ -255,23 +255,23 @@ decode_output (reading.Pages format first) lower rows =
     shown format rows >>= λ shown. unmeasured rows >>= λ none.
     wanted_hearing lower rows >>= λ hearing. Ok (reading.Pages shown hearing)
 
--- the jobs of the subcommands; each has its own values of --as
-abbrev pub wanted_check : List Row → Result JobView JobFault
-wanted_check rows =
-    read opt.From source_of rows >>= λ source.
-    wanted_input source rows >>= λ input.
-    read opt.ReportAs report_of rows >>= λ report.
-    Ok (Check input report)
-
 -- a recording whose format is not given is a trace text, or a table where something is given that goes with a
 -- recording alone, if its first bytes do not show another one
 abbrev pub unless_found : List Row → Source
 unless_found rows = if wants_recording rows || wants_table rows then source.Csv else source.Text
 
--- the first part of a job of `decode` says whether the format is to be found in the first bytes, since no option gives it
+-- the jobs of the subcommands; each has its own values of --as. The first part of a job of `check` or `decode` says whether
+-- the format is to be found in the first bytes, since no option gives it
+abbrev pub wanted_check : List Row → Result JobView JobFault
+wanted_check rows =
+    read opt.From found_source_of rows >>= λ source.
+    wanted_input (unwrap_or source (unless_found rows)) rows >>= λ input.
+    read opt.ReportAs report_of rows >>= λ output.
+    Ok (Check (is_none source) input output)
+
 abbrev pub wanted_decode : Bool → List Row → Result JobView JobFault
 wanted_decode lower rows =
-    read opt.ReadingFrom reading_source_of rows >>= λ source.
+    read opt.ReadingFrom found_source_of rows >>= λ source.
     wanted_input (unwrap_or source (unless_found rows)) rows >>= λ input.
     read opt.ReadingAs decode_output_of rows >>= λ plain.
     decode_output plain lower rows >>= λ output.

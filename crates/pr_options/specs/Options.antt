@@ -140,15 +140,14 @@ device_of = meaning_of ((codes "4", device.Four) ∷ (codes "5", device.Five) �
 abbrev pub trace_format_of : Text → Option TraceFormat
 trace_format_of = meaning_of ((codes "text", trace.Text) ∷ (codes "vcd", trace.Vcd) ∷ [])
 
--- the format of a trace that is checked: text, vcd or csv
+-- the format of a trace or a recording: text, vcd or csv
 abbrev pub source_of : Text → Option Source
 source_of = meaning_of (
     (codes "text", source.Text) ∷ (codes "vcd", source.Vcd) ∷ (codes "csv", source.Csv) ∷ [])
 
--- the format of a recording that is decoded: text, vcd or csv, or auto, which names none
-abbrev pub reading_source_of : Text → Option (Option Source)
-reading_source_of = meaning_of ((codes "auto", None) ∷ (codes "text", Some source.Text)
-    ∷ (codes "vcd", Some source.Vcd) ∷ (codes "csv", Some source.Csv) ∷ [])
+-- the same, or auto, which names none: the first bytes show it
+abbrev pub found_source_of : Text → Option (Option Source)
+found_source_of text = if bytes_eq text (codes "auto") then Some None else option_map (λ source. Some source) (source_of text)
 
 -- what `check` writes: frames, story or json
 abbrev pub report_of : Text → Option CheckOutput

@@ -8,7 +8,7 @@ use Rattle.pr_options.specs.declared.options.Opt.{Opt}
 use Rattle.pr_options.specs.declared.options.Opt.TheVariants as opt
 use Rattle.pr_options.specs.declared.options.Subcommand.{Subcommand}
 use Rattle.pr_options.specs.declared.options.Subcommand.TheVariants.{Pages, Bus, Check, Decode, Raw}
-use Rattle.pr_options.specs.declared.options.TheConstants.{BOUNDS_HELP, BOUNDS_VALUES, CHARACTERS_HELP, DELAYS_HELP, DELAYS_VALUES, DEVICE_HELP, DEVICE_VALUES, EXPLAIN_HELP, FROM_HELP, FROM_TIME_HELP, FROM_TIME_VALUES, FROM_VALUES, GLITCH_HELP, GLITCH_VALUES, INTERVALS_HELP, INVERT_HELP, INVERT_VALUES, LISTENING_HELP, LISTENING_VALUES, LISTING_FROM_HELP, LISTING_FROM_VALUES, NAMES_HELP, NAMES_VALUES, PAGE_AS_HELP, PAGE_AS_VALUES, PRESENT_HELP, PRESENT_VALUES, QUIET_HELP, RATE_HELP, RATE_VALUES, RAW_AS_HELP, RAW_AS_VALUES, RAW_DEVICE_HELP, READING_AS_HELP, READING_AS_VALUES, READING_FROM_HELP, READING_FROM_VALUES, REPORT_AS_HELP, REPORT_AS_VALUES, SET_HELP, SET_VALUES, SHEET_HELP, SHEET_VALUES, STATUS_HELP, STATUS_VALUES, STRICT_HELP, THRESHOLD_HELP, THRESHOLD_VALUES, TRACE_AS_HELP, TRACE_AS_VALUES}
+use Rattle.pr_options.specs.declared.options.TheConstants.{BOUNDS_HELP, BOUNDS_VALUES, CHARACTERS_HELP, DELAYS_HELP, DELAYS_VALUES, DEVICE_HELP, DEVICE_VALUES, EXPLAIN_HELP, FROM_HELP, FROM_TIME_HELP, FROM_TIME_VALUES, FROM_VALUES, GLITCH_HELP, GLITCH_VALUES, INTERVALS_HELP, INVERT_HELP, INVERT_VALUES, LISTENING_HELP, LISTENING_VALUES, LISTING_FROM_HELP, LISTING_FROM_VALUES, NAMES_HELP, NAMES_VALUES, PAGE_AS_HELP, PAGE_AS_VALUES, PRESENT_HELP, PRESENT_VALUES, QUIET_HELP, RATE_HELP, RATE_VALUES, RAW_AS_HELP, RAW_AS_VALUES, RAW_DEVICE_HELP, READING_AS_HELP, READING_AS_VALUES, READING_FROM_HELP, REPORT_AS_HELP, REPORT_AS_VALUES, SET_HELP, SET_VALUES, SHEET_HELP, SHEET_VALUES, STATUS_HELP, STATUS_VALUES, STRICT_HELP, THRESHOLD_HELP, THRESHOLD_VALUES, TRACE_AS_HELP, TRACE_AS_VALUES}
 
 -- an option: what follows its name (a value, lines of the bus, nothing, or a file's name); its name; the value where nothing else gives
 -- one; the values that the endings of a file's name give, where the argument `file` names one; and its values, in a few
@@ -48,14 +48,9 @@ abbrev pub listing_endings : List (Text × Text)
 listing_endings = (codes ".prg", codes "prg") ∷ (codes ".p00", codes "prg") ∷ (codes ".t64", codes "prg")
     ∷ (codes ".petcat", codes "petcat") ∷ (codes ".bas", codes "text") ∷ (codes ".txt", codes "text") ∷ []
 
--- what the endings of a recording's name say; the reader of tables refuses archives by name
+-- what the endings of a recording's name say
 abbrev pub recording_endings : List (Text × Text)
-recording_endings = (codes ".vcd", codes "vcd") ∷ (codes ".csv", codes "csv")
-    ∷ (codes ".sr", codes "csv") ∷ (codes ".sal", codes "csv") ∷ (codes ".dsl", codes "csv") ∷ []
-
--- what the endings of the name of any recording say
-abbrev pub reading_from_endings : List (Text × Text)
-reading_from_endings = (codes ".vcd", codes "vcd") ∷ (codes ".csv", codes "csv") ∷ (codes ".trace", codes "text") ∷ []
+recording_endings = (codes ".vcd", codes "vcd") ∷ (codes ".csv", codes "csv") ∷ (codes ".trace", codes "text") ∷ []
 
 -- what the endings of a page's name say
 abbrev pub page_endings : List (Text × Text)
@@ -73,7 +68,8 @@ report_endings = (codes ".json", codes "json") ∷ []
 abbrev pub reading_endings : List (Text × Text)
 reading_endings = (codes ".svg", codes "svg") ∷ (codes ".png", codes "png") ∷ (codes ".pdf", codes "pdf") ∷ (codes ".json", codes "json") ∷ []
 
--- what the endings of files say that are no listing: values that are none
+-- what the endings of files say that are no listing: values that are none; any other name says nothing, so the first bytes
+-- show the form
 abbrev pub foreign_listings : List (Text × Text)
 foreign_listings = (codes ".d64", codes "d64") ∷ (codes ".d71", codes "d71") ∷ (codes ".d80", codes "d80")
     ∷ (codes ".d81", codes "d81") ∷ (codes ".d82", codes "d82") ∷ (codes ".g64", codes "g64")
@@ -82,13 +78,13 @@ foreign_listings = (codes ".d64", codes "d64") ∷ (codes ".d71", codes "d71") �
     ∷ (codes ".xz", codes "xz") ∷ (codes ".zip", codes "zip") ∷ (codes ".7z", codes "7z")
     ∷ (codes ".rar", codes "rar") ∷ (codes ".vcd", codes "vcd") ∷ (codes ".svg", codes "svg")
     ∷ (codes ".png", codes "png") ∷ (codes ".pdf", codes "pdf")
-    ∷ (codes "-", codes "text") ∷ (codes "", codes "auto") ∷ []
+    ∷ (codes "", codes "auto") ∷ []
 
 -- the same of files that are no recording which is read
 abbrev pub foreign_recordings : List (Text × Text)
 foreign_recordings = (codes ".fst", codes "fst") ∷ (codes ".ghw", codes "ghw") ∷ (codes ".lxt", codes "lxt")
     ∷ (codes ".gz", codes "gz") ∷ (codes ".xz", codes "xz") ∷ (codes ".zip", codes "zip")
-    ∷ (codes ".7z", codes "7z") ∷ (codes ".rar", codes "rar") ∷ []
+    ∷ (codes ".7z", codes "7z") ∷ (codes ".rar", codes "rar") ∷ (codes "", codes "auto") ∷ []
 
 -- the same of files that other programs write, or other subcommands
 abbrev pub foreign_outputs : List (Text × Text)
@@ -110,7 +106,7 @@ row opt.ListingFrom =
     by_file input listing_endings (plain (codes "from") (codes "text") LISTING_FROM_VALUES.now LISTING_FROM_HELP.now)
 row opt.From = by_file input recording_endings (plain (codes "from") (codes "text") FROM_VALUES.now FROM_HELP.now)
 row opt.ReadingFrom =
-    by_file input reading_from_endings (plain (codes "from") (codes "auto") READING_FROM_VALUES.now READING_FROM_HELP.now)
+    by_file input recording_endings (plain (codes "from") (codes "auto") FROM_VALUES.now READING_FROM_HELP.now)
 row opt.Present = plain (codes "present") (codes "both") PRESENT_VALUES.now PRESENT_HELP.now
 row opt.Delays = plain (codes "delays") [] DELAYS_VALUES.now DELAYS_HELP.now
 row opt.Status = plain (codes "status") (codes "each") STATUS_VALUES.now STATUS_HELP.now
@@ -140,7 +136,7 @@ row opt.Bounds = plain (codes "bounds") (codes "profile") BOUNDS_VALUES.now BOUN
 row opt.Listening = plain (codes "listening") [] LISTENING_VALUES.now LISTENING_HELP.now
 row opt.Strict = no_value Flag (codes "strict") STRICT_HELP.now
 
--- what the endings of a file's name say that no format has: values that are none of the option
+-- what the endings of a file's name say that no format has: values that are none of the option; or, of any other input, auto
 abbrev pub foreign : Opt → List (Text × Text)
 foreign opt.ListingFrom = foreign_listings
 foreign opt.From = foreign_recordings

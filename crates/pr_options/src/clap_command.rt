@@ -20,7 +20,7 @@ const FILE: &str = "FILE";
 /// The version of the program, and the kit and the program logic in which it is proved.
 const VERSION: &str = "0.1.0 (rattle-kit-13, logic dac8208d650f15bf)";
 
-/// An option. Where its default is the empty text, the help says in words what that means.
+/// An option.
 fn option_argument<'a>(alloc: Global, opt: Opt) -> Arg<'a>
     ensures rule { rule_of result ≡ rule opt }
     ensures local { result.global ≡ false }
@@ -44,7 +44,12 @@ fn value_option<'a>(alloc: Global, row: OptionRow) -> Arg<'a>
         .value_name(row.value)
         .default_value(row.default)
         .help(row.help)
-        .hide_default_value(row.default.is_empty())
+        .hide_default_value(is_told(row))
+}
+
+/// Whether the help of an option says its default in words: it is the empty text, or FILE says another one.
+fn is_told(row: OptionRow) -> bool {
+    row.default.is_empty() || row.file == INPUT.name
 }
 
 /// An option that lines of the bus may follow.

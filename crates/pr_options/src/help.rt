@@ -101,8 +101,9 @@ pub const CHECK: HelpText = HelpText {
 Input: a trace as `print1525 bus` writes it, or a recording of one. Only this
 project's timing profile is lawful; use `print1525 decode` for real hardware.
 A table has a row of names, then a row for each sample: its time, in the unit
-of the column's name or in seconds, and a level, 0 or 1, of each signal. A FILE
-named *.vcd or *.csv is read so without --from.
+of the column's name or in seconds, and a level, 0 or 1, of each signal. Without
+--from the ending of FILE says the format, *.vcd, *.csv or *.trace, or its first
+bytes do, as for `print1525 decode`; standard input is a trace text.
 
 --names, --invert, --from-time and --glitch go with --from vcd or csv, --rate
 and --threshold with csv.

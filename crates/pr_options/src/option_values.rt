@@ -2,7 +2,7 @@
 
 ghost use Rattle.std.specs.Prelude.{[], false, option_map, ◌∷◌, ◌≡◌, IfSome};
 ghost use Rattle.pr_capture.specs.Recording.{alike};
-ghost use Rattle.pr_options.specs.Options.{before_of, bounds_of, decode_output_of, device_of, form_of, format_of, from_time_of, glitch_of, inverted_of, listening_of, mode_of, moment_of, pages_output_of, present_of, rate_of, reading_source_of, report_of, scaled, set_of, sheet_numbered, sheet_of, source_of, start_of, threshold_between, threshold_in, threshold_of, trace_format_of, with_line};
+ghost use Rattle.pr_options.specs.Options.{before_of, bounds_of, decode_output_of, device_of, form_of, format_of, found_source_of, from_time_of, glitch_of, inverted_of, listening_of, mode_of, moment_of, pages_output_of, present_of, rate_of, report_of, scaled, set_of, sheet_numbered, sheet_of, source_of, start_of, threshold_between, threshold_in, threshold_of, trace_format_of, with_line};
 ghost use Rattle.std.specs.Int.{div_ceil};
 ghost use Rattle.pr_options.specs.SignalNames.{are_names, differ, is_clock_twice, is_name, names_of, names_of_signals, three_names};
 
@@ -287,8 +287,8 @@ pub fn read_trace_format(text: &str) -> Option<TraceFormat>
     }
 }
 
-/// The format of a trace that is checked: `text`, `vcd` or `csv` (profile). None for any other text.
-pub fn read_source(text: &str) -> Option<Source>
+/// The format of a trace or a recording: `text`, `vcd` or `csv` (profile). None for any other text.
+fn read_source(text: &str) -> Option<Source>
     ensures { result ≡ source_of text.now }
 {
     match text {
@@ -299,17 +299,17 @@ pub fn read_source(text: &str) -> Option<Source>
     }
 }
 
-/// The format of a recording that is decoded: `text`, `vcd` or `csv`, or `auto`, which names none
+/// The format of a trace or a recording, as [`read_source`] reads it, or `auto`, which names none: its first bytes show it
 /// (profile). None for any other text.
-pub fn read_reading_source(text: &str) -> Option<Option<Source>>
-    ensures { result ≡ reading_source_of text.now }
+pub fn read_found_source(text: &str) -> Option<Option<Source>>
+    ensures { result ≡ found_source_of text.now }
 {
     match text {
         "auto" => Some(None),
-        "text" => Some(Some(Source::Text)),
-        "vcd" => Some(Some(Source::Vcd)),
-        "csv" => Some(Some(Source::Csv)),
-        _ => None,
+        _ => {
+            let source = read_source(text)?;
+            Some(Some(source))
+        }
     }
 }
 

@@ -265,16 +265,7 @@ const LISTING_ENDINGS: &[Ending] = &[
 ];
 
 /// What the endings of a recording's name say.
-const RECORDING_ENDINGS: &[Ending] = &[
-    (".vcd", "vcd"),
-    (".csv", "csv"),
-    (".sr", "csv"),
-    (".sal", "csv"),
-    (".dsl", "csv"),
-];
-
-/// What the endings of the name of any recording say.
-const READING_FROM_ENDINGS: &[Ending] = &[(".vcd", "vcd"), (".csv", "csv"), (".trace", "text")];
+const RECORDING_ENDINGS: &[Ending] = &[(".vcd", "vcd"), (".csv", "csv"), (".trace", "text")];
 
 /// What the endings of a page's name say.
 const PAGE_ENDINGS: &[Ending] = &[
@@ -298,8 +289,8 @@ const READING_ENDINGS: &[Ending] = &[
     (".json", "json"),
 ];
 
-/// The endings of files that are no listing: images of disks and tapes, archives, and recordings. `-` is standard input,
-/// whose text is a script's. Any other name says nothing, so the first bytes show the form.
+/// The endings of files that are no listing: images of disks and tapes, archives, and recordings. Any other name says
+/// nothing, so the first bytes show the form.
 const FOREIGN_LISTINGS: &[Ending] = &[
     (".d64", "d64"),
     (".d71", "d71"),
@@ -324,11 +315,11 @@ const FOREIGN_LISTINGS: &[Ending] = &[
     (".svg", "svg"),
     (".png", "png"),
     (".pdf", "pdf"),
-    ("-", "text"),
     ("", "auto"),
 ];
 
-/// The endings of files that are no recording which is read: dumps in other forms, and archives.
+/// The endings of files that are no recording which is read: dumps in other forms, and archives. Any other name says
+/// nothing, so the first bytes show the format.
 const FOREIGN_RECORDINGS: &[Ending] = &[
     (".fst", "fst"),
     (".ghw", "ghw"),
@@ -338,6 +329,7 @@ const FOREIGN_RECORDINGS: &[Ending] = &[
     (".zip", "zip"),
     (".7z", "7z"),
     (".rar", "rar"),
+    ("", "auto"),
 ];
 
 /// The endings of files of other programs, and of formats that only other subcommands write.
@@ -384,22 +376,24 @@ const NO_ENDINGS: &[Ending] = &[];
 const LISTING_FROM_HELP: &str = "auto (what the first bytes show),\n\
      text, prg (a saved program),\n\
      petcat (petcat's text of a program) or\n\
-     magazine (a magazine's listing)";
+     magazine (a magazine's listing)\n\
+     [default: by FILE; standard input is text]";
 
 const LISTING_FROM_VALUES: &str = "auto, text, prg, petcat or magazine";
 
-const FROM_HELP: &str = "text (a trace as bus writes it),\n\
+const FROM_HELP: &str = "auto (what the first bytes show),\n\
+     text (a trace as bus writes it),\n\
      vcd (a Value Change Dump) or\n\
-     csv (a table of samples)";
-
-const FROM_VALUES: &str = "text, vcd or csv";
+     csv (a table of samples)\n\
+     [default: by FILE; standard input is text]";
 
 const READING_FROM_HELP: &str = "auto (what the first bytes show),\n\
      text (a trace as bus writes it),\n\
      vcd (a Value Change Dump) or\n\
-     csv (a table of samples)";
+     csv (a table of samples)\n\
+     [default: by the ending of FILE, else auto]";
 
-const READING_FROM_VALUES: &str = "auto, text, vcd or csv";
+const FROM_VALUES: &str = "auto, text, vcd or csv";
 
 const PRESENT_HELP: &str = "The printers on the bus:\n\
      none, 4, 5 or both";
@@ -597,15 +591,9 @@ impl Opt {
                 RECORDING_ENDINGS,
             ),
             Opt::ReadingFrom => with_endings(
-                valued(
-                    "from",
-                    "FORMAT",
-                    "auto",
-                    READING_FROM_VALUES,
-                    READING_FROM_HELP,
-                ),
+                valued("from", "FORMAT", "auto", FROM_VALUES, READING_FROM_HELP),
                 INPUT_NAME,
-                READING_FROM_ENDINGS,
+                RECORDING_ENDINGS,
             ),
             Opt::Present => valued("present", "PRINTERS", "both", PRESENT_VALUES, PRESENT_HELP),
             Opt::Delays => valued("delays", "LISTS", "", DELAYS_VALUES, DELAYS_HELP),
@@ -673,7 +661,7 @@ impl Opt {
 
 impl Opt {
     /// What the endings of a file's name say that no format has: values that are none of this option, so that they are
-    /// refused.
+    /// refused; or, of any other input, that its first bytes show the format.
     pub(crate) fn foreign(self) -> &'static [Ending]
         ensures { endings_view result.now ≡ foreign self }
     {

@@ -312,7 +312,14 @@ fn wants_recording(options: &ArgMatches<'_>) -> bool
 pub fn file_in<'a>(options: &ArgMatches<'a>, file: FileArgument) -> Option<&'a str>
     ensures { option_map (λ name. name.now) result ≡ file_in file.name.now (rows_of (found_of options.now)) }
 {
-    match text_in(options, file.name) {
+    file_named(options, file.name)
+}
+
+/// The same by the argument's name.
+fn file_named<'a>(options: &ArgMatches<'a>, argument: &str) -> Option<&'a str>
+    ensures { option_map (λ name. name.now) result ≡ file_in argument.now (rows_of (found_of options.now)) }
+{
+    match text_in(options, argument) {
         Some(name) => named(name),
         None => None,
     }
@@ -369,7 +376,7 @@ fn ending_value(
     if is_named(options, row.name) {
         return None;
     }
-    match text_in(options, row.file) {
+    match file_named(options, row.file) {
         Some(name) => value_by_name(row.endings, foreign, name),
         None => None,
     }

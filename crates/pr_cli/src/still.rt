@@ -1,0 +1,89 @@
+//! What is to be noted of a recording whose lines never change.
+
+use pr_capture::{Threshold, TraceInput, Volts};
+use pr_explain::read_input;
+use std::alloc::{AllocError, Global};
+
+/// What is noted where a shorter time, or none, of each option shows changes.
+const LATE_START: &str = "no line changes after --from-time: give an earlier time";
+
+const LONG_PULSES: &str =
+    "no line changes, since --glitch leaves out every pulse: give a shorter time";
+
+/// What is noted of volts: where the volts of [`HALF`] show changes, and where they do not.
+const BY_HALF: &str = "no line changes by this --threshold, but lines do by --threshold 1.5";
+
+const BY_NONE: &str =
+    "no line changes by this --threshold: give volts between those of a 0 and those of a 1";
+
+/// What is noted of any other recording.
+const NO_CHANGE: &str = "no line changes in this recording: --names chooses other signals";
+
+/// The volts between a 0 and a 1 on a bus of 5 volts that is recorded as it is.
+const HALF: Volts = Volts {
+    is_negative: false,
+    micros: 1_500_000,
+};
+
+/// What is to be noted of a whole recording that is read so, if its lines never change: which option hides the changes, or
+/// which one to try. None of one that cannot be read to its end.
+///
+/// # Errors
+///
+/// [`AllocError`] where memory was refused.
+pub fn still_note(
+    alloc: Global,
+    recording: &[u8],
+    input: TraceInput<'_>,
+) -> Result<Option<&'static str>, AllocError> {
+    if !matches!(edge_count(alloc, recording, input)?, Some(1)) {
+        return Ok(None);
+    }
+    let early = TraceInput { start: 0, ..input };
+    if changes(alloc, recording, early)? {
+        return Ok(Some(LATE_START));
+    }
+    let long = TraceInput { pulse: 0, ..early };
+    if changes(alloc, recording, long)? {
+        return Ok(Some(LONG_PULSES));
+    }
+    if input.signals.probes.threshold.is_none() {
+        return Ok(Some(NO_CHANGE));
+    }
+    if changes(alloc, recording, by_half(long))? {
+        Ok(Some(BY_HALF))
+    } else {
+        Ok(Some(BY_NONE))
+    }
+}
+
+/// The same input, whose volts are compared with [`HALF`].
+fn by_half(input: TraceInput<'_>) -> TraceInput<'_> {
+    let mut signals = input.signals;
+    signals.probes.threshold = Some(Threshold {
+        low: HALF,
+        high: HALF,
+    });
+    TraceInput { signals, ..input }
+}
+
+/// Whether a line changes in a recording that is read so, which can be read to its end.
+fn changes(alloc: Global, recording: &[u8], input: TraceInput<'_>) -> Result<bool, AllocError> {
+    match edge_count(alloc, recording, input)? {
+        None | Some(0 | 1) => Ok(false),
+        Some(_) => Ok(true),
+    }
+}
+
+/// How many edges a recording has that is read so, with the levels at its beginning; None where it cannot be read to its end.
+fn edge_count(
+    alloc: Global,
+    recording: &[u8],
+    input: TraceInput<'_>,
+) -> Result<Option<usize>, AllocError> {
+    let said = read_input(alloc, recording, input)?;
+    match said.fault {
+        None => Ok(Some(said.edges.len())),
+        Some(_) => Ok(None),
+    }
+}
