@@ -9,7 +9,7 @@ const WORDS = [
   [/bad --names .*/, 'three different signals are needed'],
   [/ \(--status kept\)/, ' (the status is kept)'],
   [/name the signals of ATN, CLOCK and DATA with --names, such as --names .*/, 'choose the signals that are ATN, CLOCK and DATA'],
-  [/numbers in --names count the columns below a line of names: put one in front, such as .*/, 'put a line of names above the samples, as of a time and the three signals'],
+  [/numbers in --names count the columns below a line of names: put one in front, such as .*/, 'put a line with the names of the columns in front of the rows'],
   [/add the scopes in --names, such as .*/, 'choose the signals with their scopes'],
   [/or choose others with --names/, 'or choose others'],
   [/--names chooses other signals/, 'choose other signals'],

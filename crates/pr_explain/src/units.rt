@@ -51,8 +51,8 @@ struct Table<'a> {
     separator: u8,
 }
 
-/// The unit in which a table's times may be: its first column is called by a word for time without a unit, all its times are
-/// numbers, and no byte is acknowledged but by times in this unit. Of the table the first lines are enough.
+/// The unit in which a table's times may be: its first column is called by a word for time without a unit, all its
+/// times are numbers, and no byte is acknowledged but by times in this unit. Of the table the first lines are enough.
 ///
 /// # Errors
 ///
