@@ -142,8 +142,7 @@ impl Heading {
         match self.units {
             Some(units) if number <= units => write!(
                 text,
-                "  line {units} has units: delete it, and write that of the times into their name, such as \
-                 Time [s]\n"
+                "  line {units} has units: delete it; the unit of times belongs in their name, such as Time [s]\n"
             ),
             _ => Ok(()),
         }
