@@ -291,8 +291,8 @@ fn without_mark(line: &[u8]) -> &[u8] {
     }
 }
 
-/// Whether the line of this number, with this fault, may be the last of a recording that was cut: it has no end, and lacks
-/// something there.
+/// Whether the line of this number, with this fault, may be the last of a recording that was cut: it has no end, and
+/// lacks something there.
 fn may_be_cut(bytes: &[u8], number: usize, fault: CaptureFault, source: Source) -> bool {
     let line = line_with(bytes, number);
     if line.is_empty() || line.ends_with(b"\n") {
@@ -310,7 +310,8 @@ fn may_be_cut(bytes: &[u8], number: usize, fault: CaptureFault, source: Source) 
     }
 }
 
-/// Whether a row of a table, of this number, has fewer cells than there are names, or nothing behind its last separator.
+/// Whether a row of a table, of this number, has fewer cells than there are names, or nothing behind its last
+/// separator.
 fn lacks_cells(bytes: &[u8], row: &[u8], number: usize) -> bool {
     let Some(names) = names_before(bytes, number) else {
         return false;

@@ -1,5 +1,5 @@
-//! What an oscilloscope writes before the rows of a table: lines before the names of the columns, and one of units behind
-//! them.
+//! What an oscilloscope writes before the rows of a table: lines before the names of the columns, and one of units
+//! behind them.
 
 use crate::names::{first_field, is_level, separator_of, split_field};
 use crate::tables::{begins_number, is_in_front};
@@ -32,8 +32,8 @@ pub struct Heading {
     units: Option<usize>,
 }
 
-/// The lines before the first row of a table; None where there is no row, or no line before it that may have names: the cell
-/// behind the first is then no number, or units follow.
+/// The lines before the first row of a table; None where there is no row, or no line before it that may have names: the
+/// cell behind the first is then no number, or units follow.
 pub fn heading_of(bytes: &[u8]) -> Option<Heading> {
     let mut rest = bytes;
     let mut number: usize = 0;
@@ -142,8 +142,7 @@ impl Heading {
         match self.units {
             Some(units) if number <= units => write!(
                 text,
-                "  line {units} has units: delete it, and write that of the times into their name, such as \
-                 Time [s]\n"
+                "  line {units} has units: delete it; the unit of times belongs in their name, such as Time [s]\n"
             ),
             _ => Ok(()),
         }

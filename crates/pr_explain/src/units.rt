@@ -41,6 +41,15 @@ const WHOLE: [TimeUnit; 3] = [MICRO, NANO, PICO];
 /// Those that are tried where some are not.
 const DECIMAL: [TimeUnit; 3] = [MILLI, MICRO, NANO];
 
+/// How a table's times are written.
+#[derive(Clone, Copy)]
+enum Times {
+    /// As whole numbers.
+    Whole,
+    /// Some of them with decimals.
+    Decimal,
+}
+
 /// A table, by the name of its first column.
 #[derive(Clone, Copy)]
 struct Table<'a> {
@@ -51,8 +60,8 @@ struct Table<'a> {
     separator: u8,
 }
 
-/// The unit in which a table's times may be: its first column is called by a word for time without a unit, all its times are
-/// numbers, and no byte is acknowledged but by times in this unit. Of the table the first lines are enough.
+/// The unit in which a table's times may be: its first column is called by a word for time without a unit, all its
+/// times are numbers, and no byte is acknowledged but by times in this unit. Of the table the first lines are enough.
 ///
 /// # Errors
 ///
@@ -69,12 +78,16 @@ pub fn unit_meant(
     let Some(table) = table_of(lines) else {
         return Ok(None);
     };
-    let Some(units) = units_of(table) else {
+    let Some(times) = times_in(table) else {
         return Ok(None);
     };
     if has_byte(alloc, lines, input)? {
         return Ok(None);
     }
+    let units = match times {
+        Times::Whole => WHOLE,
+        Times::Decimal => DECIMAL,
+    };
     for unit in units {
         let tried = in_unit(alloc, table, unit)?;
         if has_byte(alloc, tried.as_slice(), input)? {
@@ -117,11 +130,11 @@ fn table_of(lines: &[u8]) -> Option<Table<'_>> {
     None
 }
 
-/// The units that are tried, by the first cells of a table's rows; None where one of these is no number.
-fn units_of(table: Table<'_>) -> Option<[TimeUnit; 3]> {
+/// What the first cells of a table's rows are; None where one of these is no number.
+fn times_in(table: Table<'_>) -> Option<Times> {
     let mut rest = table.rest;
     let mut is_row = false;
-    let mut units = WHOLE;
+    let mut times = Times::Whole;
     while !rest.is_empty() {
         let (line, more) = cut_line(rest);
         if is_row && !is_in_front(line) {
@@ -130,14 +143,14 @@ fn units_of(table: Table<'_>) -> Option<[TimeUnit; 3]> {
                 return None;
             }
             if !is_whole(cell) {
-                units = DECIMAL;
+                times = Times::Decimal;
             }
         }
         // (the names come first)
         is_row = true;
         rest = more;
     }
-    Some(units)
+    Some(times)
 }
 
 /// Whether a cell is digits alone.
