@@ -23,7 +23,7 @@
 //! of faults.
 //!
 //! `tools/archive` makes the library for C of this crate and pr_ear, and `web/module` the WebAssembly module. The tests are
-//! a C program, tests/exports.c, since no crate can be built on a static library.
+//! a C program, tests/c/exports.c, since no crate can be built on a static library.
 #![tactic(auto)]
 
 mod answer;

@@ -1,8 +1,8 @@
 //! How many refusals of memory a test may meet.
 //!
 //! Worked tests fail where memory is refused, since they show that calls succeed with ample memory. A run in which
-//! `tests/faults.c` refuses a growth is judged by one test of each crate of tests, which allows as many refusals as that
-//! run makes; so code that refuses everything fails it.
+//! `tests/lib/faults.c` refuses a growth is judged by one test of each crate of tests, which allows as many refusals as
+//! that run makes; so code that refuses everything fails it.
 #![tactic(auto)]
 
 ghost use Rattle.std.specs.Prelude.{◌≤◌};
