@@ -75,7 +75,7 @@ pub fn found_job<'a>(job: Job<'a>, first: &[u8]) -> Job<'a>
 
 /// How to read a recording in the format that its first bytes show.
 fn found_input<'a>(input: TraceInput<'a>, first: &[u8]) -> TraceInput<'a>
-    ensures { result ≡ found_input first.now input }
+    ensures { result ≡ found_input first.now input.entry }
 {
     TraceInput {
         source: found_source(input.source, first),

@@ -1,6 +1,6 @@
 //! What is to be noted of a recording whose lines never change.
 
-use pr_capture::{Threshold, TraceInput, Volts};
+use pr_capture::{Probes, Signals, Threshold, TraceInput, Volts};
 use pr_explain::read_input;
 use std::alloc::{AllocError, Global};
 
@@ -59,12 +59,20 @@ pub fn still_note(
 
 /// The same input, whose volts are compared with [`HALF`].
 fn by_half(input: TraceInput<'_>) -> TraceInput<'_> {
-    let mut signals = input.signals;
-    signals.probes.threshold = Some(Threshold {
-        low: HALF,
-        high: HALF,
-    });
-    TraceInput { signals, ..input }
+    let probes = Probes {
+        threshold: Some(Threshold {
+            low: HALF,
+            high: HALF,
+        }),
+        ..input.signals.probes
+    };
+    TraceInput {
+        signals: Signals {
+            probes,
+            ..input.signals
+        },
+        ..input
+    }
 }
 
 /// Whether a line changes in a recording that is read so, which can be read to its end.
