@@ -101,18 +101,14 @@ pub fn time_of<'r>(table: TimedTable<'_>, row: &'r [u8]) -> &'r [u8] {
 
 /// What a row has before its time, and what behind it.
 pub fn around_time<'r>(table: TimedTable<'_>, row: &'r [u8]) -> (&'r [u8], &'r [u8]) {
-    let len = if table.is_last {
-        row.len()
-            .saturating_sub(last_field(table.separator, row).len())
-    } else {
-        0
-    };
-    let (front, rest) = row.split_at(len);
     if table.is_last {
-        return (front, &[]);
+        let len = row
+            .len()
+            .saturating_sub(last_field(table.separator, row).len());
+        return (&row[..len], &[]);
     }
-    match rest.iter().position(|byte| *byte == table.separator) {
-        Some(end) => (front, &rest[end..]),
-        None => (front, &[]),
+    match row.iter().position(|byte| *byte == table.separator) {
+        Some(end) => (&[], &row[end..]),
+        None => (&[], &[]),
     }
 }

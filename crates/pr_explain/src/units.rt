@@ -44,7 +44,7 @@ const PICO: TimeUnit = TimeUnit {
 /// Microseconds such as 2.173 for 2173.
 const THOUSANDS: TimeUnit = TimeUnit {
     sign: "ms",
-    word: "microseconds, in which a point or a comma separates thousands",
+    word: "milliseconds, or microseconds with a point or a comma between thousands",
 };
 
 /// The units that are tried where all times are whole numbers, the most likely first.
@@ -52,6 +52,9 @@ const WHOLE: [TimeUnit; 3] = [MICRO, NANO, PICO];
 
 /// Those that are tried where some are not.
 const DECIMAL: [TimeUnit; 3] = [MILLI, MICRO, NANO];
+
+/// How many bytes of a table show nearly always that a line changes (profile).
+const FRONT: usize = 1 << 16;
 
 /// How a table's times are written.
 #[derive(Clone, Copy)]
@@ -122,9 +125,13 @@ fn fitting_of(
     Ok(None)
 }
 
-/// Whether no line changes in a recording, which can be read to its end.
-fn is_still(alloc: Global, recording: &[u8], input: TraceInput<'_>) -> Result<bool, NoMemory> {
-    let said = read_input(alloc, recording, input)?;
+/// Whether no line changes in these lines, which can be read to their end. In most recordings one does soon.
+fn is_still(alloc: Global, lines: &[u8], input: TraceInput<'_>) -> Result<bool, NoMemory> {
+    let front = whole_lines(&lines[..lines.len().min(FRONT)]);
+    if read_input(alloc, front, input)?.edges.len() > 1 {
+        return Ok(false);
+    }
+    let said = read_input(alloc, lines, input)?;
     Ok(said.fault.is_none() && said.edges.len() == 1)
 }
 
