@@ -52,8 +52,8 @@ const VOLTS: &str =
 
 /// What a message says of a table whose cells are other numbers than levels.
 const NUMBERED: &str =
-    "expected level 0, 1, L or H: these are other numbers, which --threshold compares: give it one between those of a 0 \
-     and those of a 1";
+    "expected level 0, 1, L or H: these are other numbers, which --threshold compares: give it one that a 1 \
+     reaches and a 0 does not";
 
 /// What a message says of the numbers of samples that sigrok-cli writes where it does not know their rate in time.
 const SAMPLES_OF_META: &str =
