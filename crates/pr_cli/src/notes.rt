@@ -3,7 +3,7 @@
 use crate::lacking::{BOTH, hears, holds};
 use pr_basic::cut_line;
 use pr_capture::{Source, TraceInput};
-use pr_explain::{html_instead, unit_meant};
+use pr_explain::{html_instead, repeated_rows, unit_meant};
 use pr_jobs::{HeldMarks, PagesEnd, PaperEnd, RunEnd, shown_of};
 use pr_listing::{
     ListingForm, has_typed_strings, is_p00, is_t64, looks_like_disk, looks_saved, program_in,
@@ -586,14 +586,33 @@ fn is_other_file(bytes: &[u8]) -> bool {
     false
 }
 
-/// Notes in which unit the times of a table may be, where they are read in another and no byte comes.
-pub fn note_unit(rt: &(impl Eprint + AllocGlobal), table: &[u8], input: TraceInput<'_>) {
-    if let Ok(Some(unit)) = unit_meant(rt.alloc(), table, input) {
-        let (word, sign) = (unit.word, unit.sign);
-        let _ = rt.eprintln(format_args!(
-            "print1525: note: the times may be {word}: name the column Time [{sign}]"
-        ));
-    }
+/// Notes in which unit the times of a table may be, where they are read in another and no byte comes; and gives whether
+/// that is so.
+pub fn note_unit(rt: &(impl Eprint + AllocGlobal), table: &[u8], input: TraceInput<'_>) -> bool {
+    let Ok(Some(unit)) = unit_meant(rt.alloc(), table, input) else {
+        return false;
+    };
+    let (word, sign) = (unit.word, unit.sign);
+    let _ = rt.eprintln(format_args!(
+        "print1525: note: the times may be {word}: name the column Time [{sign}]"
+    ));
+    true
+}
+
+/// Notes how many rows of a table have the time of the row before and other levels, where levels are lost; and gives
+/// whether that is so.
+pub fn note_repeats(rt: &(impl Eprint + AllocGlobal), table: &[u8], input: TraceInput<'_>) -> bool {
+    let count = repeated_rows(rt.alloc(), table, input).unwrap_or(0);
+    let rows = match count {
+        0 => return false,
+        1 => "row has",
+        _ => "rows have",
+    };
+    let _ = rt.eprintln(format_args!(
+        "print1525: note: {count} {rows} the time of the row before and other levels, and only the last of them counts: \
+         save the table with more digits"
+    ));
+    true
 }
 
 /// Whether a listing in this form is a script's text, or may be.

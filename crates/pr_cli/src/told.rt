@@ -1,7 +1,8 @@
 //! What more there is to say of a job's input, on standard error.
 
 use crate::notes::{
-    address_note, is_script, is_typed, listing_text, note_brief, note_bytes, note_script, note_unit,
+    address_note, is_script, is_typed, listing_text, note_brief, note_bytes, note_repeats,
+    note_script, note_unit,
 };
 use crate::still::still_note;
 use pr_basic::{ScriptFault, StatusMode, cut_line};
@@ -196,8 +197,9 @@ pub fn tell_notes(
         Subject::Script(job) => note_script(rt, bytes, job.form),
         Subject::Bytes => note_bytes(rt, bytes),
         Subject::Trace(input) | Subject::Recording(input) => {
-            note_unit(rt, bytes, input);
-            if is_whole {
+            let has_unit = note_unit(rt, bytes, input);
+            let has_repeats = note_repeats(rt, bytes, input);
+            if is_whole && !has_unit && !has_repeats {
                 if let Ok(note) = still_note(rt.alloc(), bytes, input) {
                     show_note(rt, note);
                 }

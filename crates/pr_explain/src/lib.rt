@@ -19,7 +19,8 @@
 //! - The words: `trace_text` and `states` of edges; `faults`, `tables` and `names` of a line that cannot be
 //!   read, what it should have, and which signals a recording has, by `declared` those of a dump;
 //!   `preambles` finds what an oscilloscope writes before a table's rows;
-//!   `units` finds the unit that a table's times may be in; `context` and `words` of the
+//!   `units` finds the unit that a table's times may be in, and `repeats` rows that lose levels, in a table whose
+//!   column of times `timed` finds by its name (`time_names`); `context` and `words` of the
 //!   statement around a place of a script, and of the word that is there. The place's line and its
 //!   lexeme are those of pr_basic's `line_at` and `lexeme_at`. `texts` has times, levels and
 //!   escaped bytes.
@@ -37,12 +38,15 @@ mod lines;
 mod names;
 mod oddities;
 mod preambles;
+mod repeats;
 mod rows;
 mod scripts;
 mod states;
 mod stops;
 mod tables;
 mod texts;
+mod time_names;
+mod timed;
 mod trace_text;
 mod traces;
 mod units;
@@ -52,6 +56,7 @@ pub use edges::EdgePlace;
 pub use input::read_input;
 pub use lines::{FirstLine, first_line};
 pub use oddities::{Remarks, remark_on};
+pub use repeats::{repeated_rows, rows_change};
 pub use rows::{Miss, Row, rows_behind, rows_from};
 pub use scripts::{ScriptPlace, explain_letter, explain_line, explain_script};
 pub use stops::{StopCause, StopPlace, explain_stop};
