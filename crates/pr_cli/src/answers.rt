@@ -12,7 +12,7 @@ use crate::characters::{shapes_for, shapes_given};
 use crate::jobs::{Answer, do_job, found_job};
 use crate::lacking::strict_of;
 use crate::notes::{
-    ListingNote, View, has_no_statement, note_listing, note_overheard, note_pages, note_reprinted,
+    ListingNote, View, blank_reason, note_listing, note_overheard, note_pages, note_reprinted,
     note_stop, petcat_note, program_note, view_of,
 };
 use crate::outside::Outside;
@@ -607,7 +607,7 @@ fn answer_over<R: Read + Drop, W: Write + Drop>(
     if aside.is_advised {
         advise_on(rt, answer, end);
     }
-    let is_empty = tell_read(
+    let reason = tell_read(
         rt,
         input.into_inner(),
         listing,
@@ -616,7 +616,7 @@ fn answer_over<R: Read + Drop, W: Write + Drop>(
         answer,
         aside,
     );
-    tell_lacking(rt, view, answer, aside, is_empty);
+    tell_lacking(rt, view, answer, aside, reason);
     (end, output.into_inner())
 }
 
@@ -627,10 +627,10 @@ fn tell_lacking(
     view: View,
     answer: Result<Answer, CliFault>,
     aside: Aside<'_>,
-    is_empty: bool,
+    reason: Option<&'static str>,
 ) {
     match answer {
-        Ok(Answer::Printed(pages)) if aside.is_noted => note_pages(rt, pages, view, is_empty),
+        Ok(Answer::Printed(pages)) if aside.is_noted => note_pages(rt, pages, view, reason),
         Ok(Answer::Reprinted(said)) if !aside.is_quiet => note_reprinted(rt, said, view),
         Ok(Answer::Overheard(said)) if !aside.is_quiet => note_overheard(rt, said, view),
         _ => {}
@@ -649,7 +649,7 @@ fn advise_on(rt: &(impl Eprint + AllocGlobal), answer: Result<Answer, CliFault>,
 }
 
 /// Says what more there is to say of what a job has read, where that is asked for, and what is to be noted of it. Gives
-/// whether it was read for notes and has no statement of a script.
+/// what it shows of a blank page, where it was read for notes.
 fn tell_read<R: Read + Drop>(
     rt: &(impl Outside + Eprint + AllocGlobal),
     kept: TeeReader<R>,
@@ -658,10 +658,10 @@ fn tell_read<R: Read + Drop>(
     names: Names<'_>,
     answer: Result<Answer, CliFault>,
     aside: Aside<'_>,
-) -> bool {
+) -> Option<&'static str> {
     let is_noted = aside.is_noted && has_answer(subject, answer);
     if !aside.is_explained && !is_noted {
-        return false;
+        return None;
     }
     let count = if aside.is_explained || has_notes(subject) {
         aside.count.get()
@@ -672,19 +672,18 @@ fn tell_read<R: Read + Drop>(
         Some(name) if aside.is_file => rt.again(name, count),
         _ => kept.into_bytes(),
     };
-    let Some(bytes) = bytes else {
-        return false;
-    };
+    let bytes = bytes?;
     if aside.is_explained {
         let end = run_end_of(answer);
         tell_more(rt, bytes.as_slice(), listing, subject, end);
     }
-    if is_noted {
-        note_listing(rt, aside.note);
-        let is_whole = aside.is_explained || aside.count.get() <= NOTED;
-        tell_notes(rt, bytes.as_slice(), is_whole, subject);
+    if !is_noted {
+        return None;
     }
-    is_noted && has_no_statement(bytes.as_slice())
+    note_listing(rt, aside.note);
+    let is_whole = aside.is_explained || aside.count.get() <= NOTED;
+    tell_notes(rt, bytes.as_slice(), is_whole, subject);
+    blank_reason(bytes.as_slice())
 }
 
 /// Whether a job was done, or refused with a fault of which there may be notes.

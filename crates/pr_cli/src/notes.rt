@@ -184,6 +184,10 @@ const NOTHING_PRINTS: &str =
 const NO_STATEMENT: &str =
     "the page is blank: the input has no statement; see whether it is the one that was meant";
 
+/// The same where the first line is a remark with others behind it.
+const JOINED: &str =
+    "the page is blank: the remark in line 1 seems to have other lines in it; give each line of the program one of its own";
+
 /// What is said of a blank page of a printer's bytes.
 const NO_PRINTED_BYTE: &str = "the page is blank: the input has no byte that prints";
 
@@ -403,10 +407,10 @@ fn whole_view(drawn: Present) -> View {
 }
 
 /// Writes what is to be noted of pages that were written: marks that a printer holds, that the page is blank, and which
-/// sheets there are beside the one that is drawn. Of a script it has to be known whether it has no statement.
-pub fn note_pages(rt: &impl Eprint, pages: PagesEnd, view: View, is_empty: bool) {
+/// sheets there are beside the one that is drawn. Of a script its text may say why nothing prints.
+pub fn note_pages(rt: &impl Eprint, pages: PagesEnd, view: View, reason: Option<&'static str>) {
     note_held(rt, pages, view.drawn);
-    if let Some(text) = blank_text(pages, view, is_empty) {
+    if let Some(text) = blank_text(pages, view, reason) {
         note(rt, text);
     }
     note_others(rt, pages, view);
@@ -414,7 +418,7 @@ pub fn note_pages(rt: &impl Eprint, pages: PagesEnd, view: View, is_empty: bool)
 
 /// What is to be noted of a page on which nothing is, if it is one. Where a BASIC error stopped the run, that is the reason,
 /// and is noted.
-fn blank_text(pages: PagesEnd, view: View, is_empty: bool) -> Option<&'static str> {
+fn blank_text(pages: PagesEnd, view: View, reason: Option<&'static str>) -> Option<&'static str> {
     let drawn = view.drawn;
     let (four, five) = (has_marks(pages.four), has_marks(pages.five));
     if !(drawn.four || drawn.five) || (drawn.four && four) || (drawn.five && five) {
@@ -431,15 +435,35 @@ fn blank_text(pages: PagesEnd, view: View, is_empty: bool) -> Option<&'static st
         Some(UNANSWERED)
     } else if pages.has_screen {
         Some(ON_SCREEN)
-    } else if is_empty {
-        Some(NO_STATEMENT)
     } else {
-        Some(NOTHING_PRINTS)
+        Some(reason.unwrap_or(NOTHING_PRINTS))
     }
 }
 
+/// What is to be noted of a blank page by the text of a script that has run, if that shows why no statement prints.
+pub fn blank_reason(script: &[u8]) -> Option<&'static str> {
+    let (first, _) = cut_line(script);
+    if has_no_statement(script) {
+        Some(NO_STATEMENT)
+    } else if has_line_behind_blank(remark_of(first)) {
+        Some(JOINED)
+    } else {
+        None
+    }
+}
+
+/// Whether a remark has a line with a number in it, behind a blank.
+fn has_line_behind_blank(remark: &[u8]) -> bool {
+    for i in 0..remark.len() {
+        if remark[i] == b' ' && is_numbered_line(&remark[i..]) {
+            return true;
+        }
+    }
+    false
+}
+
 /// Whether a script that has run has no statement: blanks, colons, line ends and numbers of lines alone.
-pub fn has_no_statement(script: &[u8]) -> bool {
+fn has_no_statement(script: &[u8]) -> bool {
     script.iter().all(|byte| matches!(*byte, b' ' | b'\t' | b'\r' | b'\n' | b':' | b'0'..=b'9'))
 }
 
