@@ -23,6 +23,7 @@ const WORDS = [
   [/; cells with levels need no --threshold/, ''],
   [/; --glitch 1us leaves .*/, ''],
   [/; --as list shows (where|what the recording has)/, ''],
+  [/the page is blank: the input has no statement; .*/, ''],
   [/, whose page --device [45] draws/, ''],
   [/: --device 5 draws its sheets/, ''],
   [/; --sheet 2 draws the next, and --as pdf has all/, ''],

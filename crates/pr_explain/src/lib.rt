@@ -6,7 +6,7 @@
 //! by how much the interval was missed. [`explain_reading`] gives where a recording cannot be read
 //! further, [`explain_script`] the line and the column of a script's first fault ([`explain_letter`] what
 //! a letter of a listing is that the C64 does not have, [`html_instead`] what HTML's name for a character
-//! is), and [`explain_stop`]
+//! is, [`begins_listing`] whether a line begins as one of a listing does), and [`explain_stop`]
 //! the line and the device of a statement at which a BASIC error stopped a run. [`rows_from`] gives
 //! the rows of the table of lawful traces at a place: an edge is taken there exactly if one of them
 //! has its levels and its time. [`rows_behind`] gives those that an edge after the last one can
@@ -62,7 +62,7 @@ pub use scripts::{ScriptPlace, explain_letter, explain_line, explain_script};
 pub use stops::{StopCause, StopPlace, explain_stop};
 pub use traces::{ReadingPlace, TracePlace, explain_reading, explain_trace};
 pub use units::{TimeUnit, unit_meant};
-pub use words::html_instead;
+pub use words::{begins_listing, html_instead};
 
 /// What there is to say of a refusal, or of an error. Where nothing is refused the place is none
 /// and the text empty, instead of an `Option` around both.
