@@ -186,7 +186,8 @@ const NO_STATEMENT: &str =
 
 /// The same where the first line is a remark with others behind it.
 const JOINED: &str =
-    "the page is blank: the remark in line 1 seems to have other lines in it; give each line of the program one of its own";
+    "the page is blank: the remark in line 1 seems to have other lines in it; give each line of the program \
+     one of its own";
 
 /// What is said of a blank page of a printer's bytes.
 const NO_PRINTED_BYTE: &str = "the page is blank: the input has no byte that prints";
