@@ -5,6 +5,7 @@
 # make help         these lines, and the parts of the three, each of which runs alone: make test-cases, make docs-trust
 #
 # make run          proves and builds the program (once) and prints the page of examples/hello.bas
+# make build        proves and builds the program, crates/print1525/out/print1525
 # make try          prints that page within a minute or two, by a build of which nothing is proved
 # make lib          proves and builds libprint1525.a and libprint1525.so, the library for C programs (docs/C.md)
 # make web          makes web/print1525.html, the page in a browser, with its WebAssembly module of proved crates (web/README.md says
