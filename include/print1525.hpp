@@ -53,6 +53,11 @@ struct settings : print1525_settings {
         sheet = one_sheet;
         return *this;
     }
+    // How many lines the first row is below the upper edge of the paper.
+    settings &lowers(std::uint8_t lines) {
+        top = lines;
+        return *this;
+    }
     settings &reads(print1525_recording format) {
         recording = static_cast<std::uint8_t>(format);
         return *this;

@@ -44,7 +44,8 @@ struct RawSettings {
     intervals: u8,
     bounds: u8,
     inverted: u8,
-    reserved: [u8; 4],
+    top: u8,
+    reserved: [u8; 3],
     sheet: u64,
     start: u64,
     rate: u64,
@@ -356,6 +357,8 @@ pub struct Settings<'a> {
     /// The part of the pages that is shown: one printer, and one sheet from 1; 0 for all.
     pub printer: Device,
     pub sheet: u64,
+    /// How many lines the first row is below the upper edge of the paper; 3 if none are given.
+    pub top: Option<u8>,
     /// What a recording is: its format, the names of ATN, CLOCK and DATA (empty: the usual ones), whether levels are
     /// inverted, the microsecond at which it starts, and samples in a second, or 0.
     pub recording: Recording,
@@ -389,7 +392,8 @@ impl Settings<'_> {
             intervals: u8::from(self.intervals),
             bounds: self.bounds as u8,
             inverted: u8::from(self.inverted),
-            reserved: [0; 4],
+            top: self.top.unwrap_or(3),
+            reserved: [0; 3],
             sheet: self.sheet,
             start: self.start,
             rate: self.rate,

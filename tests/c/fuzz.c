@@ -132,6 +132,7 @@ static print1525_settings made_settings(uint8_t *memories[4]) {
         made.bounds = (uint8_t)below(2);
         made.inverted = (uint8_t)below(2);
         made.sheet = below(4) ? 0 : below(3);
+        made.top = (uint8_t)(below(8) ? below(66) : drawn());
         made.start = below(4) ? 0 : below(2000);
         made.rate = below(4) ? 0 : drawn() >> below(64);
         made.present = (uint8_t)below(4);

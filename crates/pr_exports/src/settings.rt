@@ -2,7 +2,7 @@
 
 ghost use Rattle.std.specs.Prelude.{◌≡◌, take};
 ghost use Rattle.pr_capture.specs.Found.{found_source};
-ghost use Rattle.pr_exports.specs.Settings.{AsksShapes, IsInput, check_of, detail_of, device_of, form_of, format_of, mode_of, presence, rate_of, sheet_of, shown_of, source_of, stop_of, wording_of};
+ghost use Rattle.pr_exports.specs.Settings.{AsksShapes, IsInput, check_of, detail_of, device_of, form_of, format_of, layout_of, mode_of, presence, rate_of, sheet_of, shown_of, source_of, stop_of, wording_of};
 
 use pr_basic::StatusMode;
 use pr_capture::{Probes, Signals, Source, TraceInput, found_source};
@@ -12,7 +12,7 @@ use pr_dots::Shapes;
 use pr_listing::ListingForm;
 use pr_options::CheckOutput;
 use pr_recording::Wording;
-use pr_render::{Device, Format, Part};
+use pr_render::{Device, Format, Layout, Part};
 use pr_report::{Bounds, Detail, Report};
 use pr_serial::Present;
 
@@ -118,7 +118,7 @@ fn format_for(number: u8) -> Option<Format>
         1 => Some(Format::Lines),
         2 => Some(Format::Svg(Part::whole())),
         3 => Some(Format::Png(Part::whole())),
-        4 => Some(Format::Pdf(None)),
+        4 => Some(Format::Pdf(None, Layout::usual())),
         _ => None,
     }
 }
@@ -145,10 +145,21 @@ fn sheet_for(number: u64) -> Option<u64>
     }
 }
 
-/// The format of pages and what of them it shows: one printer or all (0), one sheet or all (0). `None` where a number
-/// means no such setting, or the format cannot show this part.
-pub fn shown_for(format: u8, device: u8, sheet: u64) -> Option<Format>
-    ensures { result ≡ shown_of format device sheet }
+/// How the pages lie on their paper: this many lines above the first row; `None` where a sheet has no more.
+fn layout_for(number: u8) -> Option<Layout>
+    ensures { result ≡ layout_of number }
+{
+    if number < 66 {
+        Some(Layout { top: number })
+    } else {
+        None
+    }
+}
+
+/// The format of pages, what of them it shows: one printer or all (0), one sheet or all (0), and the lines above the first
+/// row. `None` where a number means no such setting, or the format cannot show this part.
+pub fn shown_for(format: u8, device: u8, sheet: u64, top: u8) -> Option<Format>
+    ensures { result ≡ shown_of format device sheet top }
 {
     let Some(format) = format_for(format) else {
         return None;
@@ -156,9 +167,13 @@ pub fn shown_for(format: u8, device: u8, sheet: u64) -> Option<Format>
     let Some(device) = device_for(device) else {
         return None;
     };
+    let Some(layout) = layout_for(top) else {
+        return None;
+    };
     format.showing(Part {
         device,
         sheet: sheet_for(sheet),
+        layout,
     })
 }
 

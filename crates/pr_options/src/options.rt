@@ -62,6 +62,7 @@ impl Subcommand {
                 Opt::Quiet,
                 Opt::Device,
                 Opt::Sheet,
+                Opt::Top,
                 Opt::Characters,
             ],
             Subcommand::Bus => &[
@@ -98,6 +99,7 @@ impl Subcommand {
                 Opt::Quiet,
                 Opt::Device,
                 Opt::Sheet,
+                Opt::Top,
                 Opt::Characters,
                 Opt::Intervals,
                 Opt::Bounds,
@@ -112,6 +114,7 @@ impl Subcommand {
                 Opt::Quiet,
                 Opt::RawDevice,
                 Opt::Sheet,
+                Opt::Top,
                 Opt::Characters,
             ],
         }
@@ -168,6 +171,8 @@ pub enum Opt {
     RawDevice,
     /// The sheet that a picture shows.
     Sheet,
+    /// The lines above the first row of a picture's paper.
+    Top,
     /// The file of the shapes of the characters that a picture draws.
     Characters,
     /// A flag: each byte's intervals outside the bounds are written.
@@ -504,6 +509,11 @@ const SHEET_HELP: &str = "The sheet of 11 inches that svg and png draw,\n\
 
 const SHEET_VALUES: &str = "a whole number from 1";
 
+const TOP_HELP: &str = "The lines of 1/6 inch from the upper edge of the\n\
+     paper to the first row of svg, png and pdf";
+
+const TOP_VALUES: &str = "a whole number from 0 to 65";
+
 const CHARACTERS_HELP: &str = "A file with the shapes of characters that svg,\n\
      png and pdf draw\n\
      [default: this project's own]";
@@ -644,6 +654,7 @@ impl Opt {
             Opt::Device => valued("device", "PRINTER", "", DEVICE_VALUES, DEVICE_HELP),
             Opt::RawDevice => valued("device", "PRINTER", "", DEVICE_VALUES, RAW_DEVICE_HELP),
             Opt::Sheet => valued("sheet", "NUMBER", "", SHEET_VALUES, SHEET_HELP),
+            Opt::Top => valued("top", "LINES", "3", TOP_VALUES, TOP_HELP),
             Opt::Characters => bare(Kind::File, "characters", "FILE", CHARACTERS_HELP),
             Opt::Intervals => bare(Kind::Flag, "intervals", "", INTERVALS_HELP),
             Opt::Bounds => valued("bounds", "BOUNDS", "profile", BOUNDS_VALUES, BOUNDS_HELP),

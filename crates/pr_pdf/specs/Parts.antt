@@ -3,7 +3,7 @@ use Rattle.std.specs.Prelude.{◌++◌, ℕ, List, codes}
 
 -- the first line
 unfoldable pub header : List ℕ
-header = codes "%PDF-1.4\n"
+header = codes "%PDF-1.6\n"
 
 -- after an object's number
 unfoldable pub object_begin : List ℕ
@@ -41,9 +41,9 @@ stream_bytes = codes " >>\nstream\n"
 unfoldable pub stream_end : List ℕ
 stream_end = codes "\nendstream"
 
--- the object that begins the document, up to the one that has its sheets
+-- the object that begins the document, up to the one that has its sheets: viewers are not to scale them for printing
 unfoldable pub catalog_begin : List ℕ
-catalog_begin = codes "<< /Type /Catalog /Pages "
+catalog_begin = codes "<< /Type /Catalog /ViewerPreferences << /PrintScaling /None >> /Pages "
 
 -- the fonts by their names
 unfoldable pub fonts_begin : List ℕ
@@ -68,7 +68,7 @@ characters_end = codes "]\nendbfrange\nendcmap\nCMapName currentdict /CMap defin
 -- a font, up to its widths: its box holds the discs of all glyphs
 unfoldable pub font_begin : List ℕ
 font_begin =
-    codes "<< /Type /Font /Subtype /Type3 /FontBBox [-1 -22 505 262] /FontMatrix [1 0 0 1 0 0] "
+    codes "<< /Type /Font /Subtype /Type3 /FontBBox [-8 -29 512 269] /FontMatrix [1 0 0 1 0 0] "
     ++ codes "/FirstChar 0 /LastChar 255 /Encoding 3 0 R /Resources << >> /Widths "
 
 -- up to its codes' characters
@@ -81,11 +81,12 @@ font_glyphs = codes " 0 R /CharProcs << "
 
 -- after a glyph's width: the box that holds its discs, up to its right edge
 unfoldable pub glyph_box : List ℕ
-glyph_box = codes " 0 -1 -22 "
+glyph_box = codes " 0 -8 -29 "
 
--- the box is as high as seven dots; strokes are a little wider than a dot column, with round ends
+-- the box is as high as seven dots; strokes are 58 units wide, as far as the place of a dot, 42 by 40, reaches from corner to corner,
+-- with round ends
 unfoldable pub glyph_strokes : List ℕ
-glyph_strokes = codes " 262 d1\n44 w 1 J\n"
+glyph_strokes = codes " 269 d1\n58 w 1 J\n"
 
 -- a sheet, up to the object that has the sheets
 unfoldable pub page_begin : List ℕ

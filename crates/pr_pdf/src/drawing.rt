@@ -2,7 +2,7 @@
 
 ghost use Rattle.std.specs.Prelude.{◌≡◌, ◌+◌, ◌*◌, ◌^◌, ◌≤◌, ◌<◌, true, ◌∷◌, ◌++◌, [], flat_map, length, map, IfErr, IfOk, OnOk};
 ghost use Rattle.pr_pdf.specs.Fonts.{encoding_pdf, font_pdf, glyph_object, resources_pdf, used_among, used_of, widths_pdf, characters_pdf};
-ghost use Rattle.pr_dots.specs.Sheets.{sheet_count};
+ghost use Rattle.pr_dots.specs.Sheets.{lowered, lowered_rows, sheet_count};
 ghost use Rattle.pr_pdf.specs.Sheets.{sheet_pdf, sheet_texts};
 ghost use Rattle.pr_pdf.specs.Pdf.{catalog_pdf, file_limit, first_bodies, glyph_body, kid_pdf, marks_of, or_empty, page_pdf, pages_pdf, pdf_of, rows_if, rows_pdf, sheet_bodies, stream_pdf};
 ghost use Rattle.pr_pdf.specs.Words.{numbers_from};
@@ -18,9 +18,9 @@ use crate::parts::{
     catalog_begin, list_end, page_begin, page_content, pages_begin, pages_kids, reference,
     reference_end,
 };
-use crate::sheets::{are_ascending, push_sheet, rows_from, sheet_count, skip_before};
+use crate::sheets::{are_ascending, push_sheet, rows_from, skip_before};
 use crate::used::{GLYPHS, Used};
-use pr_dots::Shapes;
+use pr_dots::{Shapes, sheet_count};
 use pr_page::{Paper, Row};
 use pr_render::push_small;
 use pr_serial::Present;
@@ -185,16 +185,17 @@ fn add_sheet_of(
     alloc: Global,
     pages: u64,
     number: u64,
+    top: u8,
     sheet: u64,
     rows: &[Row],
     ascending: bool,
 ) -> Result<(), AllocError>
     requires number { number < 18446744073709551615 }
     requires ascending { ascending ≡ true → ascend 0 rows.now ≡ true }
-    ensures { OnOk result (Adds (sheet_bodies pages number (sheet_pdf rows.now sheet ∷ [])) document.old document.new) }
+    ensures { OnOk result (Adds (sheet_bodies pages number (sheet_pdf (lowered_rows top rows.now) sheet ∷ [])) document.old document.new) }
 {
     let mut text = Vec::new(alloc);
-    push_sheet(&mut text, sheet, rows, ascending)?;
+    push_sheet(&mut text, top, sheet, rows, ascending)?;
     add_sheet(document, alloc, pages, number, &text)
 }
 
@@ -204,20 +205,21 @@ fn add_sheets(
     alloc: Global,
     pages: u64,
     first: u64,
+    top: u8,
     rows: &[Row],
 ) -> Result<u64, AllocError>
     requires { first < 2 ^ 60 }
-    ensures sheets { OnOk result (Adds (sheet_bodies pages first (sheet_texts rows.now)) document.old document.new) }
-    ensures next { IfOk result (λ next. next ≡ first + 2 * sheet_count rows.now) }
+    ensures sheets { OnOk result (Adds (sheet_bodies pages first (sheet_texts (lowered_rows top rows.now))) document.old document.new) }
+    ensures next { IfOk result (λ next. next ≡ first + 2 * sheet_count (lowered_rows top rows.now)) }
     ensures within { IfOk result (λ next. next ≤ first + 2 ^ 55) }
 {
     let ascending = are_ascending(rows);
     let mut number = first;
     let mut before = 0;
-    for sheet in 0..sheet_count(rows) {
-        before = skip_before(rows, before, sheet);
+    for sheet in 0..sheet_count(top, rows) {
+        before = skip_before(rows, top, before, sheet);
         let rest = rows_from(rows, before);
-        add_sheet_of(document, alloc, pages, number, sheet, rest, ascending)?;
+        add_sheet_of(document, alloc, pages, number, top, sheet, rest, ascending)?;
         number += 2;
     }
     Ok(number)
@@ -281,41 +283,48 @@ fn add_all_sheets(
     alloc: Global,
     pages: u64,
     first: u64,
+    top: u8,
     rows4: &[Row],
     rows5: &[Row],
 ) -> Result<(), AllocError>
     requires { first < 2 ^ 50 }
-    ensures { OnOk result (Adds (sheet_bodies pages first (or_empty (sheet_texts rows4.now ++ sheet_texts rows5.now))) document.old document.new) }
+    ensures { OnOk result (Adds (sheet_bodies pages first (or_empty (sheet_texts (lowered_rows top rows4.now) ++ sheet_texts (lowered_rows top rows5.now)))) document.old document.new) }
 {
-    let second = add_sheets(document, alloc, pages, first, rows4)?;
-    let end = add_sheets(document, alloc, pages, second, rows5)?;
+    let second = add_sheets(document, alloc, pages, first, top, rows4)?;
+    let end = add_sheets(document, alloc, pages, second, top, rows5)?;
     if end == first {
-        add_sheet_of(document, alloc, pages, first, 0, &[], true)?;
+        add_sheet_of(document, alloc, pages, first, top, 0, &[], true)?;
     }
     Ok(())
 }
 
 /// How many sheets the rows of both printers take, or 1 for an empty one.
 #[tactic(auto, using(crate::proofs::SheetBySheet::count_none, crate::proofs::SheetBySheet::count_some))]
-fn all_sheet_count(rows4: &[Row], rows5: &[Row]) -> u64
-    ensures count { result ≡ length (or_empty (sheet_texts rows4.now ++ sheet_texts rows5.now)) }
+fn all_sheet_count(top: u8, rows4: &[Row], rows5: &[Row]) -> u64
+    ensures count { result ≡ length (or_empty (sheet_texts (lowered_rows top rows4.now) ++ sheet_texts (lowered_rows top rows5.now))) }
     ensures within { result ≤ 2 ^ 55 }
 {
-    let drawn = sheet_count(rows4) + sheet_count(rows5);
+    let drawn = sheet_count(top, rows4) + sheet_count(top, rows5);
     if drawn == 0 { 1 } else { drawn }
 }
 
 /// The document of rows of both printers.
-fn draw(alloc: Global, shapes: &Shapes, rows4: &[Row], rows5: &[Row]) -> Result<Vec<u8>, AllocError>
-    ensures { IfOk result (λ file. file.items ≡ rows_pdf shapes.now rows4.now rows5.now) }
+fn draw(
+    alloc: Global,
+    shapes: &Shapes,
+    top: u8,
+    rows4: &[Row],
+    rows5: &[Row],
+) -> Result<Vec<u8>, AllocError>
+    ensures { IfOk result (λ file. file.items ≡ rows_pdf shapes.now (lowered_rows top rows4.now) (lowered_rows top rows5.now)) }
 {
     let used = used_by(alloc, rows4, rows5)?;
-    let count = all_sheet_count(rows4, rows5);
+    let count = all_sheet_count(top, rows4, rows5);
     let glyphs = used.before(GLYPHS);
     let first = FIRST_GLYPH + glyphs;
     let pages = first + 2 * count;
     let mut document = begun(alloc, shapes, &used, pages)?;
-    add_all_sheets(&mut document, alloc, pages, first, rows4, rows5)?;
+    add_all_sheets(&mut document, alloc, pages, first, top, rows4, rows5)?;
     add_pages(&mut document, alloc, first, count)?;
     let file = document.finish()?;
     Ok(file)
@@ -331,29 +340,30 @@ fn rows_if(drawn: bool, paper: &Paper) -> &[Row]
 /// The papers of the printers that are drawn, printed in these shapes, as a PDF document. Printer 4's sheets come first, then
 /// printer 5's; if neither printed, there is one empty sheet.
 ///
-/// A sheet is 9.5 by 11 inches, with the 480 dot columns in the middle. Each dot is a disc at its
-/// place, and a row that straddles a fold is on both sheets. Characters can be found and copied as
+/// A sheet is 9.5 by 11 inches, with the 480 dot columns in the middle, and the first row is `top` lines of 1/6 inch below the
+/// upper edge of the first. Each dot is a disc at its place, and a row that straddles a fold is on both sheets. Characters can be found and copied as
 /// text. Marks that are held are left out. Equal papers make equal documents (ISO 32000-1).
 ///
 /// # Errors
 ///
 /// - [`PdfFault::TooLarge`]: the document has more than [`LIMIT`] bytes.
 /// - [`PdfFault::NoMemory`]: memory was refused.
-#[tactic(auto, unfolding(crate::specs::Pdf::pdf_of))]
+#[tactic(auto, unfolding(crate::specs::Pdf::pdf_of), using(crate::proofs::Sheeted::rows_lowered))]
 pub fn pdf(
     alloc: Global,
     shapes: &Shapes,
     paper4: &Paper,
     paper5: &Paper,
+    top: u8,
     drawn: Present,
 ) -> Result<Vec<u8>, PdfFault>
-    ensures file { IfOk result (λ file. file.items ≡ pdf_of shapes.now paper4.now paper5.now drawn) }
+    ensures file { IfOk result (λ file. file.items ≡ pdf_of shapes.now (lowered top paper4.now) (lowered top paper5.now) drawn) }
     ensures within { IfOk result (λ file. length file.items ≤ file_limit) }
-    ensures too_large { IfErr result (λ fault. fault ≡ PdfFault.TooLarge → file_limit < length (pdf_of shapes.now paper4.now paper5.now drawn)) }
+    ensures too_large { IfErr result (λ fault. fault ≡ PdfFault.TooLarge → file_limit < length (pdf_of shapes.now (lowered top paper4.now) (lowered top paper5.now) drawn)) }
 {
     let rows4 = rows_if(drawn.four, paper4);
     let rows5 = rows_if(drawn.five, paper5);
-    let file = draw(alloc, shapes, rows4, rows5)?;
+    let file = draw(alloc, shapes, top, rows4, rows5)?;
     if LIMIT < file.len() as u64 {
         return Err(PdfFault::TooLarge);
     }

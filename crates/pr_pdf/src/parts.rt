@@ -8,7 +8,7 @@ ghost use Rattle.pr_pdf.specs.Parts.{header, object_begin, object_end, reference
 pub fn header() -> &'static [u8]
     ensures { result.now ≡ header }
 {
-    b"%PDF-1.4\n"
+    b"%PDF-1.6\n"
 }
 
 /// After an object's number.
@@ -83,12 +83,12 @@ pub fn stream_end() -> &'static [u8]
     b"\nendstream"
 }
 
-/// The object that begins the document, up to the one that has its sheets.
+/// The object that begins the document, up to the one that has its sheets: viewers are not to scale them for printing.
 #[tactic(auto, unfolding(crate::specs::Parts::catalog_begin))]
 pub fn catalog_begin() -> &'static [u8]
     ensures { result.now ≡ catalog_begin }
 {
-    b"<< /Type /Catalog /Pages "
+    b"<< /Type /Catalog /ViewerPreferences << /PrintScaling /None >> /Pages "
 }
 
 /// The fonts by their names.
@@ -128,7 +128,7 @@ pub fn characters_end() -> &'static [u8]
 pub fn font_begin() -> &'static [u8]
     ensures { result.now ≡ font_begin }
 {
-    b"<< /Type /Font /Subtype /Type3 /FontBBox [-1 -22 505 262] /FontMatrix [1 0 0 1 0 0] /FirstChar 0 /LastChar 255 /Encoding 3 0 R /Resources << >> /Widths "
+    b"<< /Type /Font /Subtype /Type3 /FontBBox [-8 -29 512 269] /FontMatrix [1 0 0 1 0 0] /FirstChar 0 /LastChar 255 /Encoding 3 0 R /Resources << >> /Widths "
 }
 
 /// Up to its codes' characters.
@@ -152,15 +152,16 @@ pub fn font_glyphs() -> &'static [u8]
 pub fn glyph_box() -> &'static [u8]
     ensures { result.now ≡ glyph_box }
 {
-    b" 0 -1 -22 "
+    b" 0 -8 -29 "
 }
 
-/// The box is as high as seven dots; strokes are a little wider than a dot column, with round ends.
+/// The box is as high as seven dots; strokes are 58 units wide, as far as the place of a dot, 42 by 40, reaches from corner to corner,
+/// with round ends.
 #[tactic(auto, unfolding(crate::specs::Parts::glyph_strokes))]
 pub fn glyph_strokes() -> &'static [u8]
     ensures { result.now ≡ glyph_strokes }
 {
-    b" 262 d1\n44 w 1 J\n"
+    b" 269 d1\n58 w 1 J\n"
 }
 
 /// A sheet, up to the object that has the sheets.

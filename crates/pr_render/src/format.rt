@@ -1,7 +1,7 @@
 //! The formats of pages.
 
 ghost use Rattle.std.specs.Prelude.{◌≡◌};
-ghost use Rattle.pr_render.specs.Showing.{showing, whole};
+ghost use Rattle.pr_render.specs.Showing.{showing, top_of, usual, whole};
 
 /// One of the two printers.
 #[derive(Clone, Copy, Debug, PartialEq, Eq)]
@@ -12,13 +12,22 @@ pub enum Device {
     Five,
 }
 
-/// What of the pages a picture shows.
+/// How the pages lie on their paper.
+#[derive(Clone, Copy, Debug, PartialEq, Eq)]
+pub struct Layout {
+    /// How many lines of 1/6 inch the first row is below the upper edge of the paper.
+    pub top: u8,
+}
+
+/// What of the pages a picture shows, and how they lie on their paper.
 #[derive(Clone, Copy, Debug, PartialEq, Eq)]
 pub struct Part {
     /// The one printer whose pages are shown.
     pub device: Option<Device>,
     /// The one sheet of 11 inches that is shown, from 1.
     pub sheet: Option<u64>,
+    /// How the pages lie on their paper.
+    pub layout: Layout,
 }
 
 /// How pages are written, and what of them (profile).
@@ -33,24 +42,46 @@ pub enum Format {
     /// One sheet as a bitmap: sheet 1 where none is named.
     Png(Part),
     /// The sheets of all printers, or of one, as a PDF document.
-    Pdf(Option<Device>),
+    Pdf(Option<Device>, Layout),
+}
+
+impl Layout {
+    /// The first row is 3 lines, half an inch, below the upper edge, as people put their paper in (profile).
+    pub fn usual() -> Layout
+        ensures { result ≡ usual }
+    {
+        Layout { top: 3 }
+    }
 }
 
 impl Part {
-    /// All of the pages.
+    /// All of the pages, on paper as people put it in.
     pub fn whole() -> Part
         ensures { result ≡ whole }
     {
         Part {
             device: None,
             sheet: None,
+            layout: Layout::usual(),
         }
     }
 }
 
 impl Format {
+    /// How many lines of 1/6 inch the first row is below the upper edge of the paper: 0 for the list and the lines, which show
+    /// no paper.
+    pub fn top(self) -> u8
+        ensures { result ≡ top_of self }
+    {
+        match self {
+            Format::List | Format::Lines => 0,
+            Format::Svg(part) | Format::Png(part) => part.layout.top,
+            Format::Pdf(_, layout) => layout.top,
+        }
+    }
+
     /// The same format of this part of the pages, or `None` where the format has no such part: the list and the lines show
-    /// all pages, and a PDF document has no single sheet.
+    /// all pages, without their paper, and a PDF document has no single sheet.
     pub fn showing(self, part: Part) -> Option<Format>
         ensures { result ≡ showing self part }
     {
@@ -59,7 +90,7 @@ impl Format {
             (Format::Lines, None, None) => Some(Format::Lines),
             (Format::Svg(_), _, _) => Some(Format::Svg(part)),
             (Format::Png(_), _, _) => Some(Format::Png(part)),
-            (Format::Pdf(_), device, None) => Some(Format::Pdf(device)),
+            (Format::Pdf(_, _), device, None) => Some(Format::Pdf(device, part.layout)),
             _ => None,
         }
     }

@@ -56,15 +56,15 @@ const NEXT_COLUMN: Placed = Placed {
 
 /// How a document of one sheet with a `T` begins.
 const BEGIN: &str =
-    "%PDF-1.4\n1 0 obj\n<< /Type /Catalog /Pages 22 0 R >>\nendobj\n2 0 obj\n<< /Font << /U 10 0 R /UW 11 0 R ";
+    "%PDF-1.6\n1 0 obj\n<< /Type /Catalog /ViewerPreferences << /PrintScaling /None >> /Pages 22 0 R >>\nendobj\n2 0 obj\n<< /Font << /U 10 0 R /UW 11 0 R ";
 
 /// The fonts that have a glyph, and the first that has none.
 const FONTS: &str =
-    "10 0 obj\n<< /Type /Font /Subtype /Type3 /FontBBox [-1 -22 505 262] /FontMatrix [1 0 0 1 0 0] /FirstChar 0 /LastChar 255 /Encoding 3 0 R /Resources << >> /Widths 4 0 R /ToUnicode 7 0 R /CharProcs << /c84 19 0 R >> >>\nendobj\n11 0 obj\n<< /Type /Font /Subtype /Type3 /FontBBox [-1 -22 505 262] /FontMatrix [1 0 0 1 0 0] /FirstChar 0 /LastChar 255 /Encoding 3 0 R /Resources << >> /Widths 5 0 R /ToUnicode 7 0 R /CharProcs << >> >>\nendobj\n";
+    "10 0 obj\n<< /Type /Font /Subtype /Type3 /FontBBox [-8 -29 512 269] /FontMatrix [1 0 0 1 0 0] /FirstChar 0 /LastChar 255 /Encoding 3 0 R /Resources << >> /Widths 4 0 R /ToUnicode 7 0 R /CharProcs << /c84 19 0 R >> >>\nendobj\n11 0 obj\n<< /Type /Font /Subtype /Type3 /FontBBox [-8 -29 512 269] /FontMatrix [1 0 0 1 0 0] /FirstChar 0 /LastChar 255 /Encoding 3 0 R /Resources << >> /Widths 5 0 R /ToUnicode 7 0 R /CharProcs << >> >>\nendobj\n";
 
 /// The glyph of a `T`, its sheet, the sheets, and where the table of places begins.
 const SHEET: &str =
-    "\n19 0 obj\n<< /Length 263 >>\nstream\n252 0 -1 -22 253 262 d1\n44 w 1 J\n21 240 m 21 240 l S\n63 240 m 63 240 l S\n105 240 m 105 240 l S\n105 200 m 105 200 l S\n105 160 m 105 160 l S\n105 120 m 105 120 l S\n105 80 m 105 80 l S\n105 40 m 105 40 l S\n105 0 m 105 0 l S\n147 240 m 147 240 l S\n189 240 m 189 240 l S\n\nendstream\nendobj\n20 0 obj\n<< /Type /Page /Parent 22 0 R /Contents 21 0 R >>\nendobj\n21 0 obj\n<< /Length 80 >>\nstream\n.0285714286 0 0 .0285714285 54 -8 cm\nBT\n/U 1 Tf 1 0 0 1 252 27320 Tm <54> Tj\nET\n\nendstream\nendobj\n22 0 obj\n<< /Type /Pages /MediaBox [0 0 684 792] /Resources 2 0 R /Count 1 /Kids [ 20 0 R ] >>\nendobj\nxref\n0 23\n0000000000 65535 f \n0000000009 00000 n \n";
+    "\n19 0 obj\n<< /Length 263 >>\nstream\n252 0 -8 -29 260 269 d1\n58 w 1 J\n21 240 m 21 240 l S\n63 240 m 63 240 l S\n105 240 m 105 240 l S\n105 200 m 105 200 l S\n105 160 m 105 160 l S\n105 120 m 105 120 l S\n105 80 m 105 80 l S\n105 40 m 105 40 l S\n105 0 m 105 0 l S\n147 240 m 147 240 l S\n189 240 m 189 240 l S\n\nendstream\nendobj\n20 0 obj\n<< /Type /Page /Parent 22 0 R /Contents 21 0 R >>\nendobj\n21 0 obj\n<< /Length 80 >>\nstream\n.0285714286 0 0 .0285714285 54 -8 cm\nBT\n/U 1 Tf 1 0 0 1 252 27320 Tm <54> Tj\nET\n\nendstream\nendobj\n22 0 obj\n<< /Type /Pages /MediaBox [0 0 684 792] /Resources 2 0 R /Count 1 /Kids [ 20 0 R ] >>\nendobj\nxref\n0 23\n0000000000 65535 f \n0000000009 00000 n \n";
 
 /// A row over the fold, as a string for each font and each place: on the first sheet and on the second.
 const FOLD: &str =
@@ -84,7 +84,7 @@ fn has_parts(
     drawn: Present,
     parts: &[&str],
 ) {
-    let document = pdf(rt.alloc(), &Shapes::own(), four, five, drawn).expect(rt, "memory");
+    let document = pdf(rt.alloc(), &Shapes::own(), four, five, 0, drawn).expect(rt, "memory");
     let text = str::from_utf8(document.as_slice()).expect(rt, "text");
     for part in parts {
         assert!(rt; text.contains(*part), "{part}");
