@@ -58,6 +58,11 @@ struct settings : print1525_settings {
         top = lines;
         return *this;
     }
+    // The paper of a document.
+    settings &prints_on(print1525_paper sheets) {
+        paper = static_cast<std::uint8_t>(sheets);
+        return *this;
+    }
     settings &reads(print1525_recording format) {
         recording = static_cast<std::uint8_t>(format);
         return *this;

@@ -40,6 +40,7 @@ NAMES = {
     "intervals": ("no", "yes"),
     "bounds": ("profile", "guide"),
     "inverted": ("no", "yes"),
+    "paper": ("continuous", "holes", "a4", "letter"),
 }
 NUMBERS = ("sheet", "start", "rate")
 SIGNALS = ("atn", "clock", "data")
@@ -62,7 +63,7 @@ class Name(Structure):
 class Settings(Structure):
     _fields_ = [("size", c_size_t)]
     _fields_ += [(name, c_uint8) for name in NAMES]
-    _fields_ += [("top", c_uint8), ("reserved", c_uint8 * 3)]
+    _fields_ += [("top", c_uint8), ("reserved", c_uint8 * 2)]
     _fields_ += [(name, c_uint64) for name in NUMBERS]
     _fields_ += [(f"{party}_delays", Delays) for party in ("computer", "printer4", "printer5")]
     _fields_ += [(name, Name) for name in SIGNALS]

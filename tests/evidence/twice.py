@@ -18,6 +18,7 @@ OPTIONS = {
     "recording": ("FROM", ("found", "found-or-csv"), ("auto",)),
     "words": ("REPORT_AS", ("list",), ("frames",)),
     "bounds": ("BOUNDS", (), ()),
+    "paper": ("PAPER", ("holes",), ()),
 }
 # The lists of their values elsewhere: what they are called there.
 PAGE = {"PRESENT": "present", "STATUS": "mode", "SETS": "set", "SOURCES": "recording", "FORMS": "from"}

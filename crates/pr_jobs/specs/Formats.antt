@@ -15,6 +15,7 @@ use Rattle.pr_jobs.specs.PageText.{page_text}
 use Rattle.pr_render.specs.declared.format.Device.{Device}
 use Rattle.pr_render.specs.declared.format.Device.TheVariants.{Four, Five}
 use Rattle.pr_render.specs.declared.format.Format.{Format}
+use Rattle.pr_render.specs.declared.format.Layout.{Layout}
 use Rattle.pr_render.specs.declared.format.Format.TheVariants as format
 use Rattle.pr_jobs.specs.declared.fault.PictureFault.{PictureFault}
 use Rattle.pr_jobs.specs.declared.fault.PictureFault.TheVariants.{NoSuchSheet, TooLarge}
@@ -80,9 +81,9 @@ abbrev pub if_short : List ℕ → Result (List ℕ) PictureFault
 if_short file = if nat_le (length file) file_limit then Ok file else Err TooLarge
 
 -- the sheets of the printers that the picture draws, as one document
-abbrev pub pdf_part : Shapes → (top : ℕ) → Present → Outcome → Result (List ℕ) PictureFault
-pdf_part shapes top present outcome =
-    if_short (pdf_of shapes (lowered top outcome.paper4) (lowered top outcome.paper5) (drawn_of outcome present))
+abbrev pub pdf_part : Shapes → Layout → Present → Outcome → Result (List ℕ) PictureFault
+pdf_part shapes layout present outcome =
+    if_short (pdf_of shapes layout.size layout.holes (lowered layout.top outcome.paper4) (lowered layout.top outcome.paper5) (drawn_of outcome present))
 
 -- the page text, lines of 80 columns, or a picture: all but the first show the sheets of the printers that are present
 abbrev pub text_in : Shapes → Format → Present → Outcome → Result (List ℕ) PictureFault
@@ -93,4 +94,4 @@ text_in shapes (format.Svg part) present outcome =
 text_in shapes (format.Png part) present outcome =
     png_part shapes part.layout.top part.sheet (shown_of part.device present) (left_to part.device outcome)
 text_in shapes (format.Pdf device layout) present outcome =
-    pdf_part shapes layout.top (shown_of device present) (left_to device outcome)
+    pdf_part shapes layout (shown_of device present) (left_to device outcome)

@@ -13,7 +13,7 @@ use pr_dots::{Shapes, sheets_of};
 use pr_page::{Paper, Sequence};
 use pr_pdf::{PdfFault, pdf};
 use pr_png::png;
-use pr_render::{Device, Format, drawn_of, sheet_svg, svg_blocks};
+use pr_render::{Device, Format, Layout, drawn_of, sheet_svg, svg_blocks};
 use pr_serial::Present;
 use pr_system::Outcome;
 use std::alloc::Global;
@@ -142,14 +142,21 @@ fn png_part(
 fn pdf_part(
     alloc: Global,
     shapes: &Shapes,
-    top: u8,
+    layout: Layout,
     present: Present,
     outcome: &Outcome,
 ) -> Result<Text, CliFault>
-    ensures { GivesShown (pdf_part shapes.now top present outcome.now) result }
+    ensures { GivesShown (pdf_part shapes.now layout present outcome.now) result }
 {
     let drawn = drawn_of(outcome, present);
-    match pdf(alloc, shapes, &outcome.paper4, &outcome.paper5, top, drawn) {
+    match pdf(
+        alloc,
+        shapes,
+        &outcome.paper4,
+        &outcome.paper5,
+        layout,
+        drawn,
+    ) {
         Ok(file) => Ok(Text::from_vec(alloc, file)),
         Err(PdfFault::TooLarge) => Err(CliFault::Picture(PictureFault::TooLarge)),
         Err(PdfFault::NoMemory) => Err(CliFault::NoMemory),
@@ -213,7 +220,7 @@ pub fn text_in_format(
         }
         Format::Pdf(device, layout) => {
             let shown = left_to(alloc, device, outcome);
-            pdf_part(alloc, shapes, layout.top, shown_of(device, present), &shown)
+            pdf_part(alloc, shapes, layout, shown_of(device, present), &shown)
         }
     }
 }

@@ -21,6 +21,8 @@ use Rattle.pr_render.specs.declared.format.Format.TheVariants as format
 use Rattle.pr_render.specs.Showing.{usual, whole}
 use Rattle.pr_render.specs.declared.format.Device.{Device}
 use Rattle.pr_render.specs.declared.format.Device.TheVariants as device
+use Rattle.pr_render.specs.declared.format.Size.{Size}
+use Rattle.pr_render.specs.declared.format.Size.TheVariants as size
 use Rattle.pr_capture.specs.declared.format.TraceFormat.{TraceFormat}
 use Rattle.pr_capture.specs.declared.format.TraceFormat.TheVariants as trace
 use Rattle.pr_capture.specs.declared.format.Source.{Source}
@@ -208,3 +210,7 @@ top_numbered n = if nat_lt n 66 then Some n else None
 -- how many lines the first row is below the upper edge of the paper: decimal digits that spell a number below 66
 abbrev pub top_of : Text → Option ℕ
 top_of text = option_and_then top_numbered (start_of text)
+
+-- the paper of a document: continuous, a4 or letter
+abbrev pub paper_of : Text → Option Size
+paper_of = meaning_of ((codes "continuous", size.Continuous) ∷ (codes "a4", size.A4) ∷ (codes "letter", size.Letter) ∷ [])

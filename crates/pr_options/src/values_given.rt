@@ -4,22 +4,23 @@ ghost use Rattle.std.specs.Prelude.{◌≡◌, IfErr, find, option_map, unwrap_o
 ghost use Rattle.std.specs.Str.{str_eq_ignore_ascii_case};
 ghost use Rattle.clap.specs.Words.{first_of, found_of, rows_of};
 ghost use Rattle.pr_options.specs.Given.{characters_in, ending_value, file_in, has_ending, is_given, is_named, is_of_words, named, value_by_ending, value_by_name, value_in};
-ghost use Rattle.pr_options.specs.Jobs.{decode_output, drawn, fitting, heard, hearing, is_picture, pages_output, read, read_if_given, shown, unless_found, unmeasured, unprinted, wanted_detail, wanted_hearing, wanted_part, wants_picture, wants_printers, wants_readings, wants_recording, wants_table};
-ghost use Rattle.pr_options.specs.Options.{bounds_of, device_of, listening_of, sheet_of, top_of};
+ghost use Rattle.pr_options.specs.Jobs.{decode_output, drawn, fitting, heard, hearing, is_continuous, is_document, is_picture, pages_output, printed, read, read_if_given, shown, unless_found, unmeasured, unprinted, wanted_detail, wanted_hearing, wanted_layout, wanted_part, wants_document, wants_picture, wants_printers, wants_readings, wants_recording, wants_table};
+ghost use Rattle.pr_options.specs.Options.{bounds_of, device_of, listening_of, paper_of, sheet_of, top_of};
 ghost use Rattle.pr_options.specs.SignalNames.{names_of};
 ghost use Rattle.pr_options.specs.Steps.{IsOwn, signals_result};
 ghost use Rattle.pr_options.specs.Subcommands.{endings_view, row_view};
 
 use crate::command_line::JobFault;
 use crate::option_values::{
-    UNHEARING, read_bounds, read_device, read_listening, read_sheet, read_signals, read_top,
+    UNHEARING, read_bounds, read_device, read_listening, read_paper, read_sheet, read_signals,
+    read_top,
 };
 use crate::options::{Ending, FileArgument, Opt, OptionRow};
 use crate::outputs::{DecodeOutput, Hearing, PagesOutput};
 use clap::ArgMatches;
 use clap::parser::ValueSource;
 use pr_capture::{Signals, Source};
-use pr_render::{Device, Format, Layout, Part};
+use pr_render::{Device, Format, Layout, Part, Size};
 use pr_report::{Bounds, Detail};
 use pr_serial::Present;
 
@@ -74,6 +75,9 @@ fn heard_in(options: &ArgMatches<'_>) -> Result<Device, JobFault>
     if wants_picture(options) {
         return Err(JobFault::NoPicture);
     }
+    if wants_document(options) {
+        return Err(JobFault::NoDocument);
+    }
     Ok(part.device.unwrap_or(Device::Four))
 }
 
@@ -93,10 +97,39 @@ fn drawn_in(format: Format, options: &ArgMatches<'_>) -> Result<Format, JobFault
     ensures own { IfErr result IsOwn }
 {
     if is_picture(format) || !wants_picture(options) {
-        Ok(format)
+        printed_in(format, options)
     } else {
         Err(JobFault::NoPicture)
     }
+}
+
+/// The format, where it is a document or no option of documents is given.
+fn printed_in(format: Format, options: &ArgMatches<'_>) -> Result<Format, JobFault>
+    ensures value { result ≡ printed format (rows_of (found_of options.now)) }
+    ensures own { IfErr result IsOwn }
+{
+    if is_document(format) || !wants_document(options) {
+        Ok(format)
+    } else {
+        Err(JobFault::NoDocument)
+    }
+}
+
+/// Whether pages in this format are a document.
+fn is_document(format: Format) -> bool
+    ensures { result ≡ is_document format }
+{
+    match format {
+        Format::List | Format::Lines | Format::Svg(_) | Format::Png(_) => false,
+        Format::Pdf(_, _) => true,
+    }
+}
+
+/// Whether anything is given that goes with documents alone.
+fn wants_document(options: &ArgMatches<'_>) -> bool
+    ensures { result ≡ wants_document (rows_of (found_of options.now)) }
+{
+    is_given(options, Opt::Paper) || is_given(options, Opt::Holes)
 }
 
 /// Whether anything is given that goes with pictures alone.
@@ -123,12 +156,45 @@ fn part_in(options: &ArgMatches<'_>) -> Result<Part, JobFault>
 {
     let device = device_in(options)?;
     let sheet = sheet_in(options)?;
-    let top = top_in(options)?;
+    let layout = layout_in(options)?;
     Ok(Part {
         device,
         sheet,
-        layout: Layout { top },
+        layout,
     })
+}
+
+/// How the pages lie on their paper. Holes go with continuous paper alone.
+fn layout_in(options: &ArgMatches<'_>) -> Result<Layout, JobFault>
+    ensures value { result ≡ wanted_layout (rows_of (found_of options.now)) }
+    ensures own { IfErr result IsOwn }
+{
+    let top = top_in(options)?;
+    let size = paper_in(options)?;
+    let holes = is_given(options, Opt::Holes);
+    if holes && !is_continuous(size) {
+        return Err(JobFault::NoStrips);
+    }
+    Ok(Layout { top, size, holes })
+}
+
+/// Whether this is continuous paper.
+fn is_continuous(size: Size) -> bool
+    ensures { result ≡ is_continuous size }
+{
+    match size {
+        Size::Continuous => true,
+        Size::A4 | Size::Letter => false,
+    }
+}
+
+/// The paper of a document.
+fn paper_in(options: &ArgMatches<'_>) -> Result<Size, JobFault>
+    ensures value { result ≡ read Opt.Paper paper_of (rows_of (found_of options.now)) }
+    ensures own { IfErr result IsOwn }
+{
+    let size = read_paper(value_in(options, Opt::Paper)).ok_or(Opt::Paper)?;
+    Ok(size)
 }
 
 /// The lines from the upper edge of the paper to the first row.

@@ -1,14 +1,16 @@
 -- Trusted: which formats show a part of the pages.
-use Rattle.std.specs.Prelude.{ℕ, Option, Some, None}
+use Rattle.std.specs.Prelude.{ℕ, false, Option, Some, None}
 use Rattle.pr_render.specs.declared.format.Device.{Device}
 use Rattle.pr_render.specs.declared.format.Layout.{Layout}
 use Rattle.pr_render.specs.declared.format.Part.{Part}
+use Rattle.pr_render.specs.declared.format.Size.TheVariants.{Continuous}
 use Rattle.pr_render.specs.declared.format.Format.{Format}
 use Rattle.pr_render.specs.declared.format.Format.TheVariants.{List, Lines, Svg, Png, Pdf}
 
--- the paper as people put it in: the first row is 3 lines of 1/6 inch below its upper edge
+-- the paper as people put it in: the first row is 3 lines of 1/6 inch below its upper edge; a document has continuous paper
+-- without its holes
 abbrev pub usual : Layout
-usual = record { top = 3 }
+usual = record { top = 3; size = Continuous; holes = false }
 
 -- all of the pages
 abbrev pub whole : Part

@@ -12,11 +12,26 @@ pub enum Device {
     Five,
 }
 
-/// How the pages lie on their paper.
+/// The paper of a document.
+#[derive(Clone, Copy, Debug, PartialEq, Eq)]
+pub enum Size {
+    /// Continuous paper, 9.5 by 11 inches.
+    Continuous,
+    /// A4, with a sheet in true size in its middle.
+    A4,
+    /// Letter, with a sheet at 95 % in its middle.
+    Letter,
+}
+
+/// How the pages lie on their paper, and which paper it is.
 #[derive(Clone, Copy, Debug, PartialEq, Eq)]
 pub struct Layout {
     /// How many lines of 1/6 inch the first row is below the upper edge of the paper.
     pub top: u8,
+    /// The paper of a document.
+    pub size: Size,
+    /// A document has the strips with holes, and the lines at which paper tears off.
+    pub holes: bool,
 }
 
 /// What of the pages a picture shows, and how they lie on their paper.
@@ -46,11 +61,16 @@ pub enum Format {
 }
 
 impl Layout {
-    /// The first row is 3 lines, half an inch, below the upper edge, as people put their paper in (profile).
+    /// The first row is 3 lines, half an inch, below the upper edge, as people put their paper in, and a document has
+    /// continuous paper without its holes (profile).
     pub fn usual() -> Layout
         ensures { result ≡ usual }
     {
-        Layout { top: 3 }
+        Layout {
+            top: 3,
+            size: Size::Continuous,
+            holes: false,
+        }
     }
 }
 

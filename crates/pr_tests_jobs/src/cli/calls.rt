@@ -11,7 +11,7 @@ use pr_jobs::{
     CliFault, Ending, Start, Watched, bus_as_over, bus_over, check_as_over, check_over,
     pages_as_over, pages_over, raw_over,
 };
-use pr_render::{Format, Layout, Part};
+use pr_render::{Format, Layout, Part, Size};
 use pr_report::Report;
 use pr_serial::Present;
 use pr_wire::Choices;
@@ -24,11 +24,18 @@ pub const BOTH: Present = Present {
     five: true,
 };
 
+/// Paper as people put it in.
+pub const LAYOUT: Layout = Layout {
+    top: 3,
+    size: Size::Continuous,
+    holes: false,
+};
+
 /// The picture of all pages.
 const SVG: Format = Format::Svg(Part {
     device: None,
     sheet: None,
-    layout: Layout { top: 3 },
+    layout: LAYOUT,
 });
 
 /// A script that prints two letters.
