@@ -104,7 +104,11 @@ impl HeldMarks {
 fn printed_sheets(top: u8, paper: &Paper) -> u64
     ensures { result ≡ printed_sheets top paper.now }
 {
-    if has_rows(paper) { sheets_of(top, paper) } else { 0 }
+    if has_rows(paper) {
+        sheets_of(top, paper)
+    } else {
+        0
+    }
 }
 
 /// What a printer has printed, and what it holds that was not printed.
