@@ -12,8 +12,8 @@ use crate::characters::{shapes_for, shapes_given};
 use crate::jobs::{Answer, do_job, found_job};
 use crate::lacking::strict_of;
 use crate::notes::{
-    ListingNote, View, note_listing, note_overheard, note_pages, note_reprinted, note_stop,
-    petcat_note, program_note, view_of,
+    ListingNote, View, blank_reason, note_listing, note_overheard, note_pages, note_reprinted,
+    note_stop, petcat_note, program_note, view_of,
 };
 use crate::outside::Outside;
 use crate::progress::{Progress, clear};
@@ -607,7 +607,7 @@ fn answer_over<R: Read + Drop, W: Write + Drop>(
     if aside.is_advised {
         advise_on(rt, answer, end);
     }
-    tell_read(
+    let reason = tell_read(
         rt,
         input.into_inner(),
         listing,
@@ -616,15 +616,21 @@ fn answer_over<R: Read + Drop, W: Write + Drop>(
         answer,
         aside,
     );
-    tell_lacking(rt, view, answer, aside);
+    tell_lacking(rt, view, answer, aside, reason);
     (end, output.into_inner())
 }
 
 /// Notes what pages that were drawn have not, or a printer's bytes: of a run's, and of bytes given, what the printers hold,
 /// other sheets, and why they are blank, if notes are written; of a recording's, all that is left out, unless it is quiet.
-fn tell_lacking(rt: &impl Eprint, view: View, answer: Result<Answer, CliFault>, aside: Aside<'_>) {
+fn tell_lacking(
+    rt: &impl Eprint,
+    view: View,
+    answer: Result<Answer, CliFault>,
+    aside: Aside<'_>,
+    reason: Option<&'static str>,
+) {
     match answer {
-        Ok(Answer::Printed(pages)) if aside.is_noted => note_pages(rt, pages, view),
+        Ok(Answer::Printed(pages)) if aside.is_noted => note_pages(rt, pages, view, reason),
         Ok(Answer::Reprinted(said)) if !aside.is_quiet => note_reprinted(rt, said, view),
         Ok(Answer::Overheard(said)) if !aside.is_quiet => note_overheard(rt, said, view),
         _ => {}
@@ -642,7 +648,8 @@ fn advise_on(rt: &(impl Eprint + AllocGlobal), answer: Result<Answer, CliFault>,
     }
 }
 
-/// Says what more there is to say of what a job has read, where that is asked for, and what is to be noted of it.
+/// Says what more there is to say of what a job has read, where that is asked for, and what is to be noted of it. Gives
+/// what it shows of a blank page, where it was read for notes.
 fn tell_read<R: Read + Drop>(
     rt: &(impl Outside + Eprint + AllocGlobal),
     kept: TeeReader<R>,
@@ -651,10 +658,10 @@ fn tell_read<R: Read + Drop>(
     names: Names<'_>,
     answer: Result<Answer, CliFault>,
     aside: Aside<'_>,
-) {
+) -> Option<&'static str> {
     let is_noted = aside.is_noted && has_answer(subject, answer);
     if !aside.is_explained && !is_noted {
-        return;
+        return None;
     }
     let count = if aside.is_explained || has_notes(subject) {
         aside.count.get()
@@ -665,17 +672,18 @@ fn tell_read<R: Read + Drop>(
         Some(name) if aside.is_file => rt.again(name, count),
         _ => kept.into_bytes(),
     };
-    if let Some(bytes) = bytes {
-        if aside.is_explained {
-            let end = run_end_of(answer);
-            tell_more(rt, bytes.as_slice(), listing, subject, end);
-        }
-        if is_noted {
-            note_listing(rt, aside.note);
-            let is_whole = aside.is_explained || aside.count.get() <= NOTED;
-            tell_notes(rt, bytes.as_slice(), is_whole, subject);
-        }
+    let bytes = bytes?;
+    if aside.is_explained {
+        let end = run_end_of(answer);
+        tell_more(rt, bytes.as_slice(), listing, subject, end);
     }
+    if !is_noted {
+        return None;
+    }
+    note_listing(rt, aside.note);
+    let is_whole = aside.is_explained || aside.count.get() <= NOTED;
+    tell_notes(rt, bytes.as_slice(), is_whole, subject);
+    blank_reason(bytes.as_slice())
 }
 
 /// Whether a job was done, or refused with a fault of which there may be notes.

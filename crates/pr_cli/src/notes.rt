@@ -3,7 +3,7 @@
 use crate::lacking::{BOTH, hears, holds};
 use pr_basic::cut_line;
 use pr_capture::{Source, TraceInput};
-use pr_explain::{html_instead, unit_meant};
+use pr_explain::{begins_listing, html_instead, repeated_rows, unit_meant};
 use pr_jobs::{HeldMarks, PagesEnd, PaperEnd, RunEnd, shown_of};
 use pr_listing::{
     ListingForm, has_typed_strings, is_p00, is_t64, looks_like_disk, looks_saved, program_in,
@@ -175,6 +175,19 @@ const UNANSWERED: &str =
 const ON_SCREEN: &str =
     "the page is blank: the output went to the screen; PRINT# prints on paper, and so does PRINT after CMD, \
      as in OPEN 4,4:CMD 4";
+
+/// What is said of one where no statement prints.
+const NOTHING_PRINTS: &str =
+    "the page is blank: no statement prints; a line on paper is printed by OPEN 4,4 and then PRINT#4,\"TEXT\"";
+
+/// The same where there is no statement.
+const NO_STATEMENT: &str =
+    "the page is blank: the input has no statement; see whether it is the one that was meant";
+
+/// The same where the first line is a remark with others behind it.
+const JOINED: &str =
+    "the page is blank: the remark in line 1 seems to have other lines in it; give each line of the program \
+     one of its own";
 
 /// What is said of a blank page of a printer's bytes.
 const NO_PRINTED_BYTE: &str = "the page is blank: the input has no byte that prints";
@@ -395,18 +408,18 @@ fn whole_view(drawn: Present) -> View {
 }
 
 /// Writes what is to be noted of pages that were written: marks that a printer holds, that the page is blank, and which
-/// sheets there are beside the one that is drawn.
-pub fn note_pages(rt: &impl Eprint, pages: PagesEnd, view: View) {
+/// sheets there are beside the one that is drawn. Of a script its text may say why nothing prints.
+pub fn note_pages(rt: &impl Eprint, pages: PagesEnd, view: View, reason: Option<&'static str>) {
     note_held(rt, pages, view.drawn);
-    if let Some(text) = blank_text(pages, view) {
+    if let Some(text) = blank_text(pages, view, reason) {
         note(rt, text);
     }
     note_others(rt, pages, view);
 }
 
-/// What is to be noted of a page on which nothing is, if it is one and the reason is known. Where a BASIC error stopped the
-/// run, that is the reason, and is noted.
-fn blank_text(pages: PagesEnd, view: View) -> Option<&'static str> {
+/// What is to be noted of a page on which nothing is, if it is one. Where a BASIC error stopped the run, that is the reason,
+/// and is noted.
+fn blank_text(pages: PagesEnd, view: View, reason: Option<&'static str>) -> Option<&'static str> {
     let drawn = view.drawn;
     let (four, five) = (has_marks(pages.four), has_marks(pages.five));
     if !(drawn.four || drawn.five) || (drawn.four && four) || (drawn.five && five) {
@@ -424,8 +437,35 @@ fn blank_text(pages: PagesEnd, view: View) -> Option<&'static str> {
     } else if pages.has_screen {
         Some(ON_SCREEN)
     } else {
+        Some(reason.unwrap_or(NOTHING_PRINTS))
+    }
+}
+
+/// What is to be noted of a blank page by the text of a script that has run, if that shows why no statement prints.
+pub fn blank_reason(script: &[u8]) -> Option<&'static str> {
+    let (first, _) = cut_line(script);
+    if has_no_statement(script) {
+        Some(NO_STATEMENT)
+    } else if has_line_behind_blank(remark_of(first)) {
+        Some(JOINED)
+    } else {
         None
     }
+}
+
+/// Whether a remark has a line with a number in it, behind a blank.
+fn has_line_behind_blank(remark: &[u8]) -> bool {
+    for i in 0..remark.len() {
+        if remark[i] == b' ' && is_numbered_line(&remark[i..]) {
+            return true;
+        }
+    }
+    false
+}
+
+/// Whether a script that has run has no statement: blanks, colons, line ends and numbers of lines alone.
+fn has_no_statement(script: &[u8]) -> bool {
+    script.iter().all(|byte| matches!(*byte, b' ' | b'\t' | b'\r' | b'\n' | b':' | b'0'..=b'9'))
 }
 
 /// Whether a printer has printed a row, or holds marks.
@@ -586,14 +626,33 @@ fn is_other_file(bytes: &[u8]) -> bool {
     false
 }
 
-/// Notes in which unit the times of a table may be, where they are read in another and no byte comes.
-pub fn note_unit(rt: &(impl Eprint + AllocGlobal), table: &[u8], input: TraceInput<'_>) {
-    if let Ok(Some(unit)) = unit_meant(rt.alloc(), table, input) {
-        let (word, sign) = (unit.word, unit.sign);
-        let _ = rt.eprintln(format_args!(
-            "print1525: note: the times may be {word}: name the column Time [{sign}]"
-        ));
-    }
+/// Notes in which unit the times of a table may be, where they are read in another and no byte comes; and gives whether
+/// that is so.
+pub fn note_unit(rt: &(impl Eprint + AllocGlobal), table: &[u8], input: TraceInput<'_>) -> bool {
+    let Ok(Some(unit)) = unit_meant(rt.alloc(), table, input) else {
+        return false;
+    };
+    let (word, sign) = (unit.word, unit.sign);
+    let _ = rt.eprintln(format_args!(
+        "print1525: note: the times may be {word}: name the column Time [{sign}]"
+    ));
+    true
+}
+
+/// Notes how many rows of a table have the time of the row before and other levels, where levels are lost; and gives
+/// whether that is so.
+pub fn note_repeats(rt: &(impl Eprint + AllocGlobal), table: &[u8], input: TraceInput<'_>) -> bool {
+    let count = repeated_rows(rt.alloc(), table, input).unwrap_or(0);
+    let rows = match count {
+        0 => return false,
+        1 => "row has",
+        _ => "rows have",
+    };
+    let _ = rt.eprintln(format_args!(
+        "print1525: note: {count} {rows} the time of the row before and other levels, and only the last of them counts: \
+         save the table with more digits"
+    ));
+    true
 }
 
 /// Whether a listing in this form is a script's text, or may be.
@@ -631,6 +690,17 @@ fn line_with_return(script: &[u8]) -> Option<usize> {
     None
 }
 
+/// Whether a line ends within a string, and not in a remark.
+pub fn ends_in_string(line: &[u8]) -> bool {
+    let mut is_quoted = false;
+    for byte in &line[..line.len().saturating_sub(remark_of(line).len())] {
+        if *byte == b'"' {
+            is_quoted = !is_quoted;
+        }
+    }
+    is_quoted
+}
+
 /// The remark of a line; empty where it has none.
 fn remark_of(line: &[u8]) -> &[u8] {
     let mut is_quoted = false;
@@ -650,11 +720,16 @@ fn begins_remark(bytes: &[u8]) -> bool {
 }
 
 /// Whether a line end that is none here has what a line begins with behind it, maybe after blanks: a digit, a letter or
-/// `?`. Such ends are the bytes 11 to 13, and UTF-8's next line and line separator.
+/// `?`. Such ends are the bytes 11 to 13, and UTF-8's next line and line separator; others are signs that text may have
+/// for itself, so behind those it is a line's number and a word of BASIC.
 fn has_line_behind_return(remark: &[u8]) -> bool {
     let mut is_behind = false;
     for i in 0..remark.len() {
-        match &remark[i..] {
+        let at = &remark[i..];
+        if is_numbered_line(after_end_sign(at)) {
+            return true;
+        }
+        match at {
             [11..=13, ..] | [0xc2, 0x85, ..] | [0xe2, 0x80, 0xa8, ..] => is_behind = true,
             [b' ' | b'\t' | 0x80..=0xbf, ..] => {}
             [byte, ..] if is_behind && (byte.is_ascii_alphanumeric() || *byte == b'?') =>
@@ -663,6 +738,24 @@ fn has_line_behind_return(remark: &[u8]) -> bool {
         }
     }
     false
+}
+
+/// What is behind a sign in front that ends a line for other systems, or in the text of a program or a web page: shifted
+/// return, ATASCII's end of a line, `\n` or `<br>`; nothing where there is none.
+fn after_end_sign(bytes: &[u8]) -> &[u8] {
+    match bytes {
+        [0x8d | 0x9b, after @ ..]
+        | [b'\\', b'n' | b'r', after @ ..]
+        | [b'<', b'B' | b'b', b'R' | b'r', b'>', after @ ..]
+        | [b'<', b'B' | b'b', b'R' | b'r', b'/', b'>', after @ ..]
+        | [b'<', b'B' | b'b', b'R' | b'r', b' ', b'/', b'>', after @ ..] => after,
+        _ => &[],
+    }
+}
+
+/// Whether bytes begin as a line with a number does, maybe after blanks.
+fn is_numbered_line(bytes: &[u8]) -> bool {
+    label_of(bytes).is_some() && begins_listing(bytes)
 }
 
 /// Whether a heading of petcat's text has another line end with a line behind it, as it seems.

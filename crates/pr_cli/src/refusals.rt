@@ -22,11 +22,11 @@ const OUTPUT_USAGE: &str =
     "One file is read; -o names the file that is written, as in `print1525 pages FILE -o OUTPUT`.";
 
 /// How a program comes out of an image of a disk.
-const DISK: &str = "this is an image of a disk: VICE's c1541 takes a program out of it, as in \
+pub const DISK: &str = "this is an image of a disk: VICE's c1541 takes a program out of it, as in \
      c1541 -attach IMAGE -read NAME name.prg";
 
 /// The same of a tape.
-const TAPE: &str =
+pub const TAPE: &str =
     "this is an image of a tape: an emulator loads the program, and saves it as name.prg";
 
 /// What is said of a sequential file behind a header, and of others.
@@ -40,7 +40,7 @@ const RELATIVE: &str =
     "this is a relative file, which has data and no program, behind a header of 26 bytes";
 
 /// The same of a cartridge.
-const CARTRIDGE: &str = "this is an image of a cartridge, which has no listing";
+pub const CARTRIDGE: &str = "this is an image of a cartridge, which has no listing";
 
 /// What is done with an archive.
 const ARCHIVE: &str = "unpack the file first";

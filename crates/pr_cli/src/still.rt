@@ -1,7 +1,7 @@
 //! What is to be noted of a recording whose lines never change.
 
 use pr_capture::{Probes, Signals, Threshold, TraceInput, Volts};
-use pr_explain::read_input;
+use pr_explain::{read_input, rows_change};
 use std::alloc::{AllocError, Global};
 
 /// What is noted where a shorter time, or none, of each option shows changes.
@@ -18,6 +18,10 @@ const BY_NONE: &str =
 
 /// What is noted of any other recording.
 const NO_CHANGE: &str = "no line changes in this recording: --names chooses other signals";
+
+/// What is noted of a table where levels change within one microsecond alone.
+const ONE_MOMENT: &str =
+    "lines change within one microsecond alone, whose last row counts: the times may be in a longer unit, such as Time [s]";
 
 /// The volts between a 0 and a 1 on a bus of 5 volts that is recorded as it is.
 const HALF: Volts = Volts {
@@ -46,6 +50,9 @@ pub fn still_note(
     let long = TraceInput { pulse: 0, ..early };
     if changes(alloc, recording, long)? {
         return Ok(Some(LONG_PULSES));
+    }
+    if rows_change(alloc, recording, input)? {
+        return Ok(Some(ONE_MOMENT));
     }
     if input.signals.probes.threshold.is_none() {
         return Ok(Some(NO_CHANGE));

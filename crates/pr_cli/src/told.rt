@@ -1,14 +1,16 @@
 //! What more there is to say of a job's input, on standard error.
 
+use crate::kinds::other_kind;
 use crate::notes::{
-    address_note, is_script, is_typed, listing_text, note_brief, note_bytes, note_script, note_unit,
+    address_note, ends_in_string, is_script, is_typed, listing_text, note_brief, note_bytes,
+    note_repeats, note_script, note_unit,
 };
 use crate::still::still_note;
 use pr_basic::{ScriptFault, StatusMode, cut_line};
 use pr_capture::{Source, TraceFormat, TraceInput};
 use pr_explain::{
-    Explanation, ScriptPlace, explain_letter, explain_line, explain_reading, explain_script,
-    explain_stop, explain_trace, html_instead, remark_on,
+    Explanation, ScriptPlace, begins_listing, explain_letter, explain_line, explain_reading,
+    explain_script, explain_stop, explain_trace, html_instead, remark_on,
 };
 use pr_jobs::{CliFault, PictureFault, RunEnd};
 use pr_listing::{
@@ -37,6 +39,10 @@ const WIDE_SCRIPT: &str = "this is text in UTF-16; save it as ASCII or UTF-8";
 
 /// What is said of a refused script with a byte 26 at the end of the refused line.
 const END_MARK: &str = "the byte 26 is an end mark of old systems; save the listing without it";
+
+/// What is said of a refused script whose line before the refused one ends within a string.
+const WRAPPED: &str =
+    "the line before ends within a string: if an editor has wrapped a longer line there, join the two";
 
 /// What is said of a saved program without its load address, or that ends within a line.
 const PROGRAM_FORM: &str = "a saved program is a load address of two bytes, then lines: \
@@ -196,8 +202,9 @@ pub fn tell_notes(
         Subject::Script(job) => note_script(rt, bytes, job.form),
         Subject::Bytes => note_bytes(rt, bytes),
         Subject::Trace(input) | Subject::Recording(input) => {
-            note_unit(rt, bytes, input);
-            if is_whole {
+            let has_unit = note_unit(rt, bytes, input);
+            let has_repeats = note_repeats(rt, bytes, input);
+            if is_whole && !has_unit && !has_repeats {
                 if let Ok(note) = still_note(rt.alloc(), bytes, input) {
                     show_note(rt, note);
                 }
@@ -336,12 +343,12 @@ fn script_hint(
     let Err(CliFault::Script(fault)) = answer else {
         return None;
     };
-    let file = match listing {
-        Some(listing) => listing.bytes,
-        None => script,
-    };
+    let file = file_of(script, listing);
+    let kind = other_kind(file);
     let address = listing_text(address_note(file));
-    if found_form(script) == ListingForm::Program {
+    if kind.is_some() {
+        kind
+    } else if found_form(script) == ListingForm::Program {
         Some(SAVED_PROGRAM)
     } else if address.is_some() {
         address
@@ -354,9 +361,32 @@ fn script_hint(
         && !is_letter(script, fault)
     {
         Some(PETCAT_TEXT)
+    } else if is_wrapped(script, fault) {
+        Some(WRAPPED)
     } else {
         None
     }
+}
+
+/// The file of a script's text, which may be made of a listing.
+fn file_of<'a>(script: &'a [u8], listing: Option<Listing<'a>>) -> &'a [u8] {
+    match listing {
+        Some(listing) => listing.bytes,
+        None => script,
+    }
+}
+
+/// Whether a script is refused for a line that seems to be the rest of the one before it: that ends within a string, and
+/// this one begins with no number and no statement.
+fn is_wrapped(script: &[u8], fault: ScriptFault) -> bool {
+    let ScriptFault::UnknownWord(number) = fault else {
+        return false;
+    };
+    let line = line_numbered(script, number);
+    number > 1
+        && !matches!(line, [] | [b'0'..=b'9', ..])
+        && !begins_listing(line)
+        && ends_in_string(line_numbered(script, number.saturating_sub(1)))
 }
 
 /// Whether a script has two bytes a letter: a mark says so in front, or two letters do.
@@ -405,7 +435,9 @@ pub fn tell_listing(
     fault: TextFault,
 ) {
     let form = plain_form(form, bytes);
+    let kind = other_kind(bytes);
     match fault {
+        TextFault::Listing(_) if kind.is_some() => show_hint(rt, kind),
         TextFault::Listing(
             ListingFault::NoAddress | ListingFault::CutOff(_) | ListingFault::NoLine,
         ) => {
@@ -489,7 +521,7 @@ pub fn show_hint(rt: &impl Eprint, hint: Option<&'static str>) {
     }
 }
 
-/// What more there is to say of a run of a script.
+/// What more there is to say of a run of a script. The lines of a file of another kind say nothing.
 fn run_told(
     rt: &impl AllocGlobal,
     script: &[u8],
@@ -502,7 +534,9 @@ fn run_told(
             let told = explain_stop(rt.alloc(), script, job.mode, stop, statement, job.present)?;
             Ok(told.text)
         }
-        Err(CliFault::Script(fault)) => script_told(rt.alloc(), script, listing, fault),
+        Err(CliFault::Script(fault)) if other_kind(file_of(script, listing)).is_none() => {
+            script_told(rt.alloc(), script, listing, fault)
+        }
         Ok(RunEnd::Done) | Err(_) => Ok(String::new(rt.alloc())),
     }
 }

@@ -221,6 +221,6 @@ pub fn without_label(part: &[u8]) -> &[u8] {
 }
 
 /// Whether bytes begin with a word, whichever of its letters are capitals.
-fn begins(bytes: &[u8], word: &[u8]) -> bool {
+pub fn begins(bytes: &[u8], word: &[u8]) -> bool {
     bytes.len() >= word.len() && bytes[..word.len()].eq_ignore_ascii_case(word)
 }

@@ -6,15 +6,17 @@ ghost use Rattle.pr_explain.specs.TracePlaces.{capture_line, fault_line};
 
 use crate::declared::split_word;
 use crate::names::{
-    first_field, has_column, has_signal, has_units, has_volts, is_number, is_signal, is_volts,
-    number_of, push_dump_names, push_same_names, push_table_names, separator_of,
+    begins_with, first_field, has_column, has_number_of_signal, has_signal, has_units, has_volts,
+    is_number, is_signal, is_volts, number_of, push_dump_names, push_same_names, push_table_names,
+    separator_of,
 };
 use crate::preambles::heading_of;
 use crate::tables::{
-    begins_number, names_before, other_said, push_other_said, push_row_rule, push_times_rule,
-    separator_at,
+    begins_number, has_meta, names_before, other_said, push_other_said, push_row_rule,
+    push_times_rule, separator_at,
 };
 use crate::texts::{Cut, line_with, without_end};
+use crate::timed::has_times_last;
 use crate::words::begins_listing;
 use pr_base::digit_count;
 use pr_basic::cut_line;
@@ -48,9 +50,15 @@ const VOLTS: &str =
     "expected level 0, 1, L or H: these look like volts, which --threshold compares: with --threshold 1.5 a line \
      is 1 from 1.5 volts on";
 
-/// What a message says of a table whose lines have byte 13 alone at their ends.
-const RETURNS: &str =
-    "CR alone ends no line here, so this is one line: save the table with LF or CR LF line ends";
+/// What a message says of a table whose cells are other numbers than levels.
+const NUMBERED: &str =
+    "expected level 0, 1, L or H: these are other numbers, which --threshold compares: give it one that a 1 \
+     reaches and a 0 does not";
+
+/// What a message says of the numbers of samples that sigrok-cli writes where it does not know their rate in time.
+const SAMPLES_OF_META: &str =
+    "behind its line META samplerate sigrok-cli numbers all samples 0, so none counts: save the recording as a .sr \
+     file, and write the table from that";
 
 /// What a cell has where volts are compared with a threshold.
 const NO_VOLTS: &str =
@@ -58,9 +66,6 @@ const NO_VOLTS: &str =
 
 /// What a message says of text of 16 bits a letter.
 const WIDE: &str = "this is UTF-16 text: save the recording as UTF-8 text";
-
-/// What a message says of a dump with a byte order mark.
-const MARK: &str = "a byte order mark is in front: save the dump as UTF-8 without one";
 
 /// What a message says of a line at the end of a recording that may have more.
 const CUT: &str =
@@ -189,12 +194,31 @@ pub fn push_fault(
         return Ok(());
     }
     push_rule(alloc, text, bytes, input, fault, number)?;
-    match fault {
-        CliFault::Capture(fault) if may_be_cut(bytes, number, fault, input.source) => {
-            write!(text, "  {CUT}\n")
-        }
-        _ => Ok(()),
+    let is_cut = match fault {
+        CliFault::Capture(fault) => may_be_cut(bytes, number, fault, input.source),
+        _ => number > 1 && begins_trace(line),
+    };
+    if is_cut {
+        write!(text, "  {CUT}\n")
+    } else {
+        Ok(())
     }
+}
+
+/// Adds that lines end with byte 13 alone, in a file of this kind.
+fn push_returns(text: &mut String, kind: &str) -> Result<(), NoMemory> {
+    write!(
+        text,
+        "  CR alone ends no line here, so this is one line: save the {kind} with LF or CR LF line ends\n"
+    )
+}
+
+/// Adds that a byte order mark is in front of a file of this kind.
+fn push_mark(text: &mut String, kind: &str) -> Result<(), NoMemory> {
+    write!(
+        text,
+        "  a byte order mark is in front: save the {kind} as UTF-8 without one\n"
+    )
 }
 
 /// Adds what the line of an input, of this number, should have that has this fault.
@@ -244,7 +268,7 @@ fn push_dump_rule(
     write!(text, "  {rule}\n")?;
     match fault {
         CaptureFault::NoTimescale(_) | CaptureFault::NoDefinitions(_) if has_mark(bytes) => {
-            write!(text, "  {MARK}\n")
+            push_mark(text, "dump")
         }
         _ => Ok(()),
     }
@@ -300,7 +324,9 @@ fn may_be_cut(bytes: &[u8], number: usize, fault: CaptureFault, source: Source) 
     }
     match fault {
         CaptureFault::GoesBack(_) | CaptureFault::BadTime(_) => {
-            source == Source::Vcd || lacks_cells(bytes, line, number)
+            source == Source::Vcd
+                || lacks_cells(bytes, line, number)
+                || ends_with_time(bytes, number)
         }
         CaptureFault::NoLevel(_, _) | CaptureFault::BadLevel(_) => {
             source == Source::Csv && lacks_cells(bytes, line, number)
@@ -318,6 +344,15 @@ fn lacks_cells(bytes: &[u8], row: &[u8], number: usize) -> bool {
     };
     let separator = separator_at(bytes, names, number).unwrap_or(b',');
     count_in(separator, row) < count_in(separator, names) || row.ends_with(&[separator])
+}
+
+/// Whether the rows of a table, such as that of this number, end with their times.
+fn ends_with_time(bytes: &[u8], number: usize) -> bool {
+    let Some(names) = names_before(bytes, number) else {
+        return false;
+    };
+    let separator = separator_at(bytes, names, number).unwrap_or(b',');
+    has_times_last(separator, names)
 }
 
 /// How often a byte is there.
@@ -342,12 +377,18 @@ fn push_table_fault(
     let Some(heading) = heading_of(bytes) else {
         return push_table_rule(text, bytes, input, fault, number);
     };
+    let unit = heading.unit_in(bytes);
     if heading.begins_later(number) && is_of_names(fault) {
         heading.push_names(text)?;
-    } else if !heading.has_units_at(number) {
+    } else if !heading.has_units_at(number) && !(unit.is_some() && is_untimed(fault)) {
         push_table_rule(text, bytes, input, fault, number)?;
     }
-    heading.push_units(text, number)
+    heading.push_units(text, number, unit.unwrap_or("s"))
+}
+
+/// Whether a table has this fault since no name is one of times.
+fn is_untimed(fault: CaptureFault) -> bool {
+    matches!(fault, CaptureFault::NoTime(_))
 }
 
 /// Whether a table has this fault in the line that is to have its names.
@@ -371,12 +412,15 @@ fn push_table_rule(
     match fault {
         CaptureFault::NoSignal(_, wire) => {
             if has_return(line) || has_return(line_with(bytes, 1)) {
-                return write!(text, "  {RETURNS}\n");
+                return push_returns(text, "table");
             }
             if let Some(said) = other_said(bytes, line, number) {
                 return push_other_said(text, said);
             }
             push_columns(text, line, separator, wire, input.signals)?;
+            if numbers_by_meta(bytes, number, line, separator) {
+                return write!(text, "  {SAMPLES_OF_META}\n");
+            }
             push_skipped(text, bytes, line)
         }
         CaptureFault::TwoSignals(_, _) if is_number(first_field(separator.unwrap_or(b','), line)) =>
@@ -386,6 +430,9 @@ fn push_table_rule(
                 let separator = separator_at(bytes, names, number).unwrap_or(b',');
                 push_row_rule(text, names, line, separator, input)
             }
+            None if numbers_by_meta(bytes, number, line, separator) => {
+                write!(text, "  {SAMPLES_OF_META}\n")
+            }
             None => push_times_rule(text, bytes, number, line, separator.unwrap_or(b','), input),
         },
         CaptureFault::BadLevel(_) if input.signals.probes.threshold.is_some() => {
@@ -393,6 +440,9 @@ fn push_table_rule(
         }
         CaptureFault::BadLevel(_) if may_be_volts(bytes, line, number, input.signals) => {
             write!(text, "  {VOLTS}\n")
+        }
+        CaptureFault::BadLevel(_) if may_be_numbers(bytes, line, number, input.signals) => {
+            write!(text, "  {NUMBERED}\n")
         }
         _ => write!(text, "  {}\n", rule_of_tables(fault)),
     }
@@ -405,6 +455,19 @@ fn may_be_volts(bytes: &[u8], row: &[u8], number: usize, signals: Signals<'_>) -
     has_volts(separator, row)
         || (is_signal(first_field(separator, names), signals)
             && is_volts(first_field(separator, row)))
+}
+
+/// Whether a row of a table, of this number, has a whole number of two digits or more in a column of a signal.
+fn may_be_numbers(bytes: &[u8], row: &[u8], number: usize, signals: Signals<'_>) -> bool {
+    let names = names_before(bytes, number).unwrap_or(row);
+    let separator = separator_at(bytes, names, number).unwrap_or(b',');
+    has_number_of_signal(separator, names, row, signals)
+}
+
+/// Whether the line of this number, with the names of a table, has the numbers of samples that sigrok-cli writes behind its
+/// line of a rate.
+fn numbers_by_meta(bytes: &[u8], number: usize, line: &[u8], separator: Option<u8>) -> bool {
+    begins_with(first_field(separator.unwrap_or(b','), line), b"sample") && has_meta(bytes, number)
 }
 
 /// Whether a line has byte 13 elsewhere than at its end.
@@ -568,7 +631,7 @@ fn rule_of_dumps(fault: CaptureFault) -> &'static str {
         CaptureFault::NoEnd(_) => "the section that begins here has no $end",
         CaptureFault::NoDefinitions(_) => {
             "expected $enddefinitions $end after the header; for a table use --from csv, for a trace text \
-             no --from"
+             --from text"
         }
         CaptureFault::NoTimescale(_) | CaptureFault::BadTimescale(_) => {
             "expected a timescale in the header, such as $timescale 1 us $end: 1, 10 or 100 of s, ms, us, \
@@ -625,10 +688,37 @@ fn push_text_rule(text: &mut String, line: &[u8]) -> Result<(), NoMemory> {
     if let Some(hint) = hint_of(plain) {
         write!(text, "  {hint}\n")?;
     }
-    if plain.starts_with(b"$") && has_mark(line) {
-        return write!(text, "  {MARK}\n");
+    let first = first_by_return(plain);
+    if is_of_trace(first) && has_return(plain) {
+        return push_returns(text, "trace");
     }
-    Ok(())
+    if !has_mark(line) {
+        Ok(())
+    } else if plain.starts_with(b"$") {
+        push_mark(text, "dump")
+    } else if is_of_trace(plain) {
+        push_mark(text, "trace")
+    } else {
+        Ok(())
+    }
+}
+
+/// What a line has before its first byte 13.
+fn first_by_return(line: &[u8]) -> &[u8] {
+    match line.iter().position(|byte| *byte == b'\r') {
+        Some(end) => &line[..end],
+        None => line,
+    }
+}
+
+/// Whether a line has no end, and may be a line of a trace text that was cut.
+fn begins_trace(line: &[u8]) -> bool {
+    let time = digit_count(line);
+    time > 0
+        && matches!(
+            &line[time..],
+            [] | [b' '] | [b' ', b'0' | b'1'] | [b' ', b'0' | b'1', b'0' | b'1']
+        )
 }
 
 /// What a line looks like that is to name the columns of a table, where it is one of a trace text or of a listing.

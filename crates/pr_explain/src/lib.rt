@@ -6,7 +6,7 @@
 //! by how much the interval was missed. [`explain_reading`] gives where a recording cannot be read
 //! further, [`explain_script`] the line and the column of a script's first fault ([`explain_letter`] what
 //! a letter of a listing is that the C64 does not have, [`html_instead`] what HTML's name for a character
-//! is), and [`explain_stop`]
+//! is, [`begins_listing`] whether a line begins as one of a listing does), and [`explain_stop`]
 //! the line and the device of a statement at which a BASIC error stopped a run. [`rows_from`] gives
 //! the rows of the table of lawful traces at a place: an edge is taken there exactly if one of them
 //! has its levels and its time. [`rows_behind`] gives those that an edge after the last one can
@@ -19,7 +19,8 @@
 //! - The words: `trace_text` and `states` of edges; `faults`, `tables` and `names` of a line that cannot be
 //!   read, what it should have, and which signals a recording has, by `declared` those of a dump;
 //!   `preambles` finds what an oscilloscope writes before a table's rows;
-//!   `units` finds the unit that a table's times may be in; `context` and `words` of the
+//!   `units` finds the unit that a table's times may be in, and `repeats` rows that lose levels, in a table whose
+//!   column of times `timed` finds by its name (`time_names`); `context` and `words` of the
 //!   statement around a place of a script, and of the word that is there. The place's line and its
 //!   lexeme are those of pr_basic's `line_at` and `lexeme_at`. `texts` has times, levels and
 //!   escaped bytes.
@@ -37,12 +38,15 @@ mod lines;
 mod names;
 mod oddities;
 mod preambles;
+mod repeats;
 mod rows;
 mod scripts;
 mod states;
 mod stops;
 mod tables;
 mod texts;
+mod time_names;
+mod timed;
 mod trace_text;
 mod traces;
 mod units;
@@ -52,12 +56,13 @@ pub use edges::EdgePlace;
 pub use input::read_input;
 pub use lines::{FirstLine, first_line};
 pub use oddities::{Remarks, remark_on};
+pub use repeats::{repeated_rows, rows_change};
 pub use rows::{Miss, Row, rows_behind, rows_from};
 pub use scripts::{ScriptPlace, explain_letter, explain_line, explain_script};
 pub use stops::{StopCause, StopPlace, explain_stop};
 pub use traces::{ReadingPlace, TracePlace, explain_reading, explain_trace};
 pub use units::{TimeUnit, unit_meant};
-pub use words::html_instead;
+pub use words::{begins_listing, html_instead};
 
 /// What there is to say of a refusal, or of an error. Where nothing is refused the place is none
 /// and the text empty, instead of an `Option` around both.

@@ -395,6 +395,28 @@ pub fn has_volts(separator: u8, line: &[u8]) -> bool {
     false
 }
 
+/// Whether a row has a whole number of two digits or more in a column that is called as one of the signals, by the line of
+/// the names.
+pub fn has_number_of_signal(separator: u8, names: &[u8], row: &[u8], signals: Signals<'_>) -> bool {
+    let mut names = names;
+    let mut rest = row;
+    while !rest.is_empty() {
+        let (name, later) = split_field(separator, names);
+        let (cell, more) = split_field(separator, rest);
+        names = later;
+        rest = more;
+        if is_signal(unframed(name), signals) && is_large(unframed(cell)) {
+            return true;
+        }
+    }
+    false
+}
+
+/// Whether a cell is two digits or more.
+fn is_large(cell: &[u8]) -> bool {
+    cell.len() > 1 && cell.iter().all(|byte| byte.is_ascii_digit())
+}
+
 /// Whether a cell is 5, or has a point between digits, as volts have.
 pub fn is_volts(cell: &[u8]) -> bool {
     cell == b"5".as_slice() || has_fraction(cell)

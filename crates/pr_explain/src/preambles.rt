@@ -1,9 +1,9 @@
 //! What an oscilloscope writes before the rows of a table: lines before the names of the columns, and one of units
 //! behind them.
 
-use crate::names::{first_field, is_level, separator_of, split_field};
+use crate::names::{begins_with, first_field, is_level, separator_of, split_field};
 use crate::tables::{begins_number, is_in_front};
-use crate::texts::unframed;
+use crate::texts::{line_with, unframed};
 use pr_basic::cut_line;
 use pr_wire::NoMemory;
 
@@ -102,13 +102,34 @@ fn has_units(line: &[u8]) -> bool {
     count > 1
 }
 
-/// Whether a cell is a unit, with brackets around it or without.
-fn is_unit(cell: &[u8]) -> bool {
-    let name = match cell {
+/// A unit without the brackets around it.
+fn without_brackets(cell: &[u8]) -> &[u8] {
+    match cell {
         [b'(', inner @ .., b')'] => inner,
         [b'[', inner @ .., b']'] => inner,
         whole => whole,
-    };
+    }
+}
+
+/// The sign of a unit of times.
+fn sign_of(cell: &[u8]) -> Option<&'static str> {
+    let name = without_brackets(cell);
+    if name.eq_ignore_ascii_case(b"ms") {
+        Some("ms")
+    } else if name.eq_ignore_ascii_case(b"us") {
+        Some("us")
+    } else if name.eq_ignore_ascii_case(b"ns") {
+        Some("ns")
+    } else if name.eq_ignore_ascii_case(b"s") || begins_with(name, b"sec") {
+        Some("s")
+    } else {
+        None
+    }
+}
+
+/// Whether a cell is a unit, with brackets around it or without.
+fn is_unit(cell: &[u8]) -> bool {
+    let name = without_brackets(cell);
     for unit in UNITS {
         if name.eq_ignore_ascii_case(unit) {
             return true;
@@ -137,12 +158,19 @@ impl Heading {
         )
     }
 
-    /// Adds which line has units, if one has that is not before that of this number.
-    pub fn push_units(self, text: &mut String, number: usize) -> Result<(), NoMemory> {
+    /// The sign of the unit of times with which the line of units begins, if it does.
+    pub fn unit_in(self, bytes: &[u8]) -> Option<&'static str> {
+        let line = line_with(bytes, self.units?);
+        let cell = first_field(separator_of(line)?, line);
+        sign_of(cell)
+    }
+
+    /// Adds which line has units, if one has that is not before that of this number, and the sign of a unit of times.
+    pub fn push_units(self, text: &mut String, number: usize, sign: &str) -> Result<(), NoMemory> {
         match self.units {
             Some(units) if number <= units => write!(
                 text,
-                "  line {units} has units: delete it; the unit of times belongs in their name, such as Time [s]\n"
+                "  line {units} has units: delete it; the unit of times belongs in their name, such as Time [{sign}]\n"
             ),
             _ => Ok(()),
         }

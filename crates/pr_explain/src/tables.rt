@@ -5,6 +5,7 @@ use crate::names::{
     push_later_columns, push_later_numbers, separator_of,
 };
 use crate::texts::unframed;
+use crate::time_names::{behind_letters, is_time_alone};
 use pr_capture::{TraceInput, read_rate};
 use pr_wire::NoMemory;
 
@@ -99,6 +100,26 @@ fn has_rate_remark(bytes: &[u8], number: usize) -> bool {
     false
 }
 
+/// Whether a line before that of this number is the one with a rate that sigrok-cli writes in front.
+pub fn has_meta(bytes: &[u8], number: usize) -> bool {
+    let mut at: usize = 0;
+    for line in bytes.split(|byte| *byte == b'\n') {
+        at = at.wrapping_add(1);
+        if at >= number {
+            break;
+        }
+        if is_meta(line) {
+            return true;
+        }
+    }
+    false
+}
+
+/// Whether a line is that line.
+fn is_meta(line: &[u8]) -> bool {
+    begins_with(line, b"META samplerate")
+}
+
 /// Whether a line has the word rate in it, or a longer one, and then a digit.
 fn has_word_of_rates(line: &[u8]) -> bool {
     for i in 0..line.len() {
@@ -138,7 +159,7 @@ pub fn names_before(bytes: &[u8], number: usize) -> Option<&[u8]> {
 /// Whether a line comes before that of the names.
 pub fn is_in_front(line: &[u8]) -> bool {
     matches!(unframed(line), [] | [b';' | b'#', ..])
-        || begins_with(line, b"META samplerate")
+        || is_meta(line)
         || separator_in(line).is_some()
 }
 
@@ -193,23 +214,6 @@ fn behind_rate_word(line: &[u8]) -> Option<&[u8]> {
         Some(rest) => Some(rest),
         None => behind_letters(line, b"samplerate"),
     }
-}
-
-/// What follows a word of letters with which a line begins, but for signs and blanks.
-fn behind_letters<'l>(line: &'l [u8], word: &[u8]) -> Option<&'l [u8]> {
-    let mut count: usize = 0;
-    for (i, byte) in line.iter().enumerate() {
-        if byte.is_ascii_alphanumeric() {
-            if count >= word.len() || !byte.eq_ignore_ascii_case(&word[count]) {
-                return None;
-            }
-            count = count.wrapping_add(1);
-            if count >= word.len() {
-                return Some(&line[i + 1..]);
-            }
-        }
-    }
-    None
 }
 
 /// The rate that a remark gives behind its words.
@@ -287,11 +291,4 @@ fn rule_of_times(separator: u8, line: &[u8], name: &[u8]) -> &'static str {
 /// Whether a cell begins as a number does, and a name hardly.
 pub fn begins_number(cell: &[u8]) -> bool {
     matches!(cell, [b'0'..=b'9' | b'+' | b'-' | b'.', ..])
-}
-
-/// Whether a column has a word for time as its name, without a unit.
-pub fn is_time_alone(name: &[u8]) -> bool {
-    name.eq_ignore_ascii_case(b"time")
-        || name.eq_ignore_ascii_case(b"timestamp")
-        || name.eq_ignore_ascii_case(b"t")
 }

@@ -2,7 +2,7 @@
 
 ghost use Rattle.std.specs.Prelude.{◌≤◌, ◌+◌, length, IfSome};
 
-use crate::context::{last_of, without_label};
+use crate::context::{begins, last_of, without_label};
 use pr_base::digit_count;
 use pr_basic::lexeme_at;
 
@@ -201,6 +201,31 @@ const KEY_OUTSIDE: &str =
 const CHECKSUM: &str =
     "letters or numbers of a checksum program before or after the lines are no BASIC: leave them out";
 
+/// What a message says of a word processor's or a web page's text.
+const TAG: &str = "this is a tag of HTML: save the listing as plain text";
+
+/// Names of HTML's tags around a listing.
+const TAGS: [&[u8]; 15] = [
+    b"html", b"head", b"body", b"title", b"meta", b"pre", b"code", b"tt", b"p", b"br", b"div",
+    b"span", b"font", b"table", b"td",
+];
+
+/// What a message says of mail's sign of a line that it quotes.
+const QUOTED: &str = "mail puts > before the lines that it quotes: delete it";
+
+/// What a message says of the C64's prompt.
+const READY: &str = "READY. is the C64's prompt and no line of a program: delete it";
+
+/// What a message says of a word with a digit in it that looks like a letter.
+const ZERO: &str = "this word has a zero in the place of the letter O";
+
+/// What a message says of a number with a letter in it that looks like a digit.
+const NO_DIGIT: &str = "a number has digits alone, and this letter only looks like one";
+
+/// What a message says of what ends a line for other systems.
+const OTHER_END: &str =
+    "this ends a line elsewhere and not here; give the lines LF or CR LF line ends";
+
 /// Names of keys that are as long as such letters between square brackets.
 const SHORT_KEYS: [&[u8]; 3] = [b"HOME", b"DOWN", b"LEFT"];
 
@@ -219,6 +244,11 @@ pub enum Foreign {
 pub fn foreign_word(before: &[u8], rest: &[u8], wants_number: bool) -> Option<Foreign> {
     let sentence = match rest {
         _ if is_checksum(before, rest) => CHECKSUM,
+        _ if is_tag(rest) => TAG,
+        [b'>', ..] if last_of(before).is_none() => QUOTED,
+        _ if last_of(before).is_none() && begins(rest, b"READY.") => READY,
+        _ if begins(rest, b"0PEN") || begins(rest, b"CL0SE") => ZERO,
+        _ if is_no_digit(before, rest) => NO_DIGIT,
         [b'?', after @ ..] if matches!(after_blanks(after), [b'#', ..]) => {
             "BASIC does not read ?# as PRINT#; write PRINT#"
         }
@@ -244,12 +274,46 @@ fn foreign_sentence(before: &[u8], rest: &[u8]) -> Option<Foreign> {
         [b'\r', ..] => {
             "a carriage return alone does not end a line; save the script with LF or CR LF line ends"
         }
+        [11 | 0x8d | 0x9b, ..] | [0xc2, 0x85, ..] | [0xe2, 0x80, 0xa8, ..] | [b'\\', b'n', ..] =>
+            OTHER_END,
         [1, 8, ..] if before.is_empty() => "this is a tokenised program",
         [b'{', ..] | [b'[', b'<' | b'A'..=b'Z' | b'a'..=b'z', ..] => KEY_OUTSIDE,
         [b'&', ..] => html_instead(rest)?,
         _ => typed_instead(letter_in(rest), false)?,
     };
     Some(Foreign::Sentence(sentence))
+}
+
+/// Whether a tag of HTML is in front.
+fn is_tag(rest: &[u8]) -> bool {
+    let name = match rest {
+        [b'<', b'!', ..] => return true,
+        [b'<', b'/', name @ ..] => name,
+        [b'<', name @ ..] => name,
+        _ => return false,
+    };
+    let (name, after) = name.split_at(letter_count(name));
+    if !matches!(after, [b'>' | b'/' | b' ', ..]) {
+        return false;
+    }
+    for tag in TAGS {
+        if name.eq_ignore_ascii_case(tag) {
+            return true;
+        }
+    }
+    false
+}
+
+/// Whether the letter in front, after the bytes `before` of its line, looks like a digit and is in a number: behind a digit,
+/// or at the front of a line's number.
+fn is_no_digit(before: &[u8], rest: &[u8]) -> bool {
+    match (before, rest) {
+        ([.., b'0'..=b'9'], [b'O' | b'o' | b'l' | b'I', b' ' | b'0'..=b'9', ..]) => true,
+        ([], [b'O' | b'o' | b'l' | b'I', number @ ..]) => {
+            matches!(number, [b'0'..=b'9', ..]) && begins_listing(number)
+        }
+        _ => false,
+    }
 }
 
 /// What to say of HTML's name for a character in front.
