@@ -24,21 +24,29 @@ const PDF: &str = "this is a PDF document: save the listing in it as plain text"
 /// What is said of a picture.
 const PICTURE: &str = "this is a picture, which has no listing as text";
 
+/// How files of other kinds begin.
+const BEGINNINGS: [(&[u8], &str); 10] = [
+    (b"\x1f\x8b", GZIP),
+    (b"\xfd7zXZ\0", XZ),
+    (b"BZh", BZIP2),
+    (b"\x28\xb5\x2f\xfd", ZSTD),
+    (b"PK\x03\x04", ZIP),
+    (b"\xd0\xcf\x11\xe0", DOCUMENT),
+    (b"{\\rtf", DOCUMENT),
+    (b"%PDF", PDF),
+    (b"\x89PNG", PICTURE),
+    (b"\xff\xd8\xff", PICTURE),
+];
+
 /// What is said of a file of another kind that is given for a listing; nothing where it may be one. Only a listing that is
 /// refused is asked so.
 pub fn other_kind(bytes: &[u8]) -> Option<&'static str> {
-    let text = match bytes {
-        [0x1f, 0x8b, ..] => GZIP,
-        [0xfd, b'7', b'z', b'X', b'Z', 0, ..] => XZ,
-        [b'B', b'Z', b'h', b'1'..=b'9', ..] => BZIP2,
-        [0x28, 0xb5, 0x2f, 0xfd, ..] => ZSTD,
-        [b'P', b'K', 3, 4, ..] => ZIP,
-        [0xd0, 0xcf, 0x11, 0xe0, ..] | [b'{', b'\\', b'r', b't', b'f', ..] => DOCUMENT,
-        [b'%', b'P', b'D', b'F', ..] => PDF,
-        [0x89, b'P', b'N', b'G', ..] | [0xff, 0xd8, 0xff, ..] => PICTURE,
-        _ => return image_kind(bytes),
-    };
-    Some(text)
+    for (beginning, text) in BEGINNINGS {
+        if bytes.starts_with(beginning) {
+            return Some(text);
+        }
+    }
+    image_kind(bytes)
 }
 
 /// The same of an image of a disk, a tape or a cartridge.

@@ -740,17 +740,20 @@ fn has_line_behind_return(remark: &[u8]) -> bool {
     false
 }
 
+/// Such signs.
+const END_SIGNS: [&[u8]; 7] = [
+    b"\x8d", b"\x9b", b"\\n", b"\\r", b"<br>", b"<br/>", b"<br />",
+];
+
 /// What is behind a sign in front that ends a line for other systems, or in the text of a program or a web page: shifted
 /// return, ATASCII's end of a line, `\n` or `<br>`; nothing where there is none.
 fn after_end_sign(bytes: &[u8]) -> &[u8] {
-    match bytes {
-        [0x8d | 0x9b, after @ ..]
-        | [b'\\', b'n' | b'r', after @ ..]
-        | [b'<', b'B' | b'b', b'R' | b'r', b'>', after @ ..]
-        | [b'<', b'B' | b'b', b'R' | b'r', b'/', b'>', after @ ..]
-        | [b'<', b'B' | b'b', b'R' | b'r', b' ', b'/', b'>', after @ ..] => after,
-        _ => &[],
+    for sign in END_SIGNS {
+        if bytes.len() >= sign.len() && bytes[..sign.len()].eq_ignore_ascii_case(sign) {
+            return &bytes[sign.len()..];
+        }
     }
+    &[]
 }
 
 /// Whether bytes begin as a line with a number does, maybe after blanks.

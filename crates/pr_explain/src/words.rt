@@ -226,6 +226,17 @@ const NO_DIGIT: &str = "a number has digits alone, and this letter only looks li
 const OTHER_END: &str =
     "this ends a line elsewhere and not here; give the lines LF or CR LF line ends";
 
+/// What ends a line for other systems, and in the text of a program: a vertical tab, shifted return, ATASCII's end, UTF-8's
+/// next line and line separator, and `\n`.
+const OTHER_ENDS: [&[u8]; 6] = [
+    b"\x0b",
+    b"\x8d",
+    b"\x9b",
+    b"\xc2\x85",
+    b"\xe2\x80\xa8",
+    b"\\n",
+];
+
 /// Names of keys that are as long as such letters between square brackets.
 const SHORT_KEYS: [&[u8]; 3] = [b"HOME", b"DOWN", b"LEFT"];
 
@@ -242,13 +253,10 @@ pub enum Foreign {
 /// not have it. Where a number is wanted, letters are a variable. `rest` is without the line's end:
 /// byte 10, and byte 13 directly before it or before the text's end.
 pub fn foreign_word(before: &[u8], rest: &[u8], wants_number: bool) -> Option<Foreign> {
+    if let Some(sentence) = marked_instead(before, rest) {
+        return Some(Foreign::Sentence(sentence));
+    }
     let sentence = match rest {
-        _ if is_checksum(before, rest) => CHECKSUM,
-        _ if is_tag(rest) => TAG,
-        [b'>', ..] if last_of(before).is_none() => QUOTED,
-        _ if last_of(before).is_none() && begins(rest, b"READY.") => READY,
-        _ if begins(rest, b"0PEN") || begins(rest, b"CL0SE") => ZERO,
-        _ if is_no_digit(before, rest) => NO_DIGIT,
         [b'?', after @ ..] if matches!(after_blanks(after), [b'#', ..]) => {
             "BASIC does not read ?# as PRINT#; write PRINT#"
         }
@@ -274,14 +282,52 @@ fn foreign_sentence(before: &[u8], rest: &[u8]) -> Option<Foreign> {
         [b'\r', ..] => {
             "a carriage return alone does not end a line; save the script with LF or CR LF line ends"
         }
-        [11 | 0x8d | 0x9b, ..] | [0xc2, 0x85, ..] | [0xe2, 0x80, 0xa8, ..] | [b'\\', b'n', ..] =>
-            OTHER_END,
         [1, 8, ..] if before.is_empty() => "this is a tokenised program",
         [b'{', ..] | [b'[', b'<' | b'A'..=b'Z' | b'a'..=b'z', ..] => KEY_OUTSIDE,
         [b'&', ..] => html_instead(rest)?,
         _ => typed_instead(letter_in(rest), false)?,
     };
     Some(Foreign::Sentence(sentence))
+}
+
+/// What to say of what other programs, or a reader's eyes, put into a listing.
+fn marked_instead(before: &[u8], rest: &[u8]) -> Option<&'static str> {
+    if is_checksum(before, rest) {
+        Some(CHECKSUM)
+    } else if is_tag(rest) {
+        Some(TAG)
+    } else if begins(rest, b"0PEN") || begins(rest, b"CL0SE") {
+        Some(ZERO)
+    } else if is_no_digit(before, rest) {
+        Some(NO_DIGIT)
+    } else if begins_with_end(rest) {
+        Some(OTHER_END)
+    } else if last_of(before).is_none() {
+        first_instead(rest)
+    } else {
+        None
+    }
+}
+
+/// What to say of such at the front of a line.
+fn first_instead(rest: &[u8]) -> Option<&'static str> {
+    if rest.starts_with(b">") {
+        Some(QUOTED)
+    } else if begins(rest, b"READY.") {
+        Some(READY)
+    } else {
+        None
+    }
+}
+
+/// Whether what is in front ends a line for other systems.
+fn begins_with_end(rest: &[u8]) -> bool {
+    for end in OTHER_ENDS {
+        if rest.starts_with(end) {
+            return true;
+        }
+    }
+    false
 }
 
 /// Whether a tag of HTML is in front.
@@ -292,12 +338,14 @@ fn is_tag(rest: &[u8]) -> bool {
         [b'<', name @ ..] => name,
         _ => return false,
     };
-    let (name, after) = name.split_at(letter_count(name));
-    if !matches!(after, [b'>' | b'/' | b' ', ..]) {
-        return false;
-    }
+    let count = letter_count(name);
+    matches!(&name[count..], [b'>' | b'/' | b' ', ..]) && is_name_of_tag(&name[..count])
+}
+
+/// Whether a word is the name of a tag around a listing.
+fn is_name_of_tag(word: &[u8]) -> bool {
     for tag in TAGS {
-        if name.eq_ignore_ascii_case(tag) {
+        if word.eq_ignore_ascii_case(tag) {
             return true;
         }
     }
@@ -307,12 +355,13 @@ fn is_tag(rest: &[u8]) -> bool {
 /// Whether the letter in front, after the bytes `before` of its line, looks like a digit and is in a number: behind a digit,
 /// or at the front of a line's number.
 fn is_no_digit(before: &[u8], rest: &[u8]) -> bool {
-    match (before, rest) {
-        ([.., b'0'..=b'9'], [b'O' | b'o' | b'l' | b'I', b' ' | b'0'..=b'9', ..]) => true,
-        ([], [b'O' | b'o' | b'l' | b'I', number @ ..]) => {
-            matches!(number, [b'0'..=b'9', ..]) && begins_listing(number)
-        }
-        _ => false,
+    let [b'O' | b'o' | b'l' | b'I', number @ ..] = rest else {
+        return false;
+    };
+    match before {
+        [] => digit_count(number) > 0 && begins_listing(number),
+        [.., digit] => digit.is_ascii_digit()
+            && (number.starts_with(b" ") || digit_count(number) > 0),
     }
 }
 
