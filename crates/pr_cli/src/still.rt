@@ -1,7 +1,8 @@
-//! What is to be noted of a recording whose lines never change.
+//! What is to be noted of a recording in which a line never changes.
 
 use pr_capture::{Probes, Signals, Threshold, TraceInput, Volts};
 use pr_explain::{read_input, rows_change};
+use pr_wire::Edge;
 use std::alloc::{AllocError, Global};
 
 /// What is noted where a shorter time, or none, of each option shows changes.
@@ -16,6 +17,16 @@ const BY_HALF: &str = "no line changes by this --threshold, but lines do by --th
 const BY_NONE: &str =
     "no line changes by this --threshold: give volts between those of a 0 and those of a 1";
 
+/// What is noted of volts where one line stays as it is, and others change.
+const ATN_STAYS: &str =
+    "ATN never changes by this --threshold: compare it with that line's volts, and see whether --names chooses its signal";
+
+const CLOCK_STAYS: &str =
+    "CLOCK never changes by this --threshold: compare it with that line's volts, and see whether --names chooses its signal";
+
+const DATA_STAYS: &str =
+    "DATA never changes by this --threshold: compare it with that line's volts, and see whether --names chooses its signal";
+
 /// What is noted of any other recording.
 const NO_CHANGE: &str = "no line changes in this recording: --names chooses other signals";
 
@@ -29,8 +40,8 @@ const HALF: Volts = Volts {
     micros: 1_500_000,
 };
 
-/// What is to be noted of a whole recording that is read so, if its lines never change: which option hides the changes, or
-/// which one to try. None of one that cannot be read to its end.
+/// What is to be noted of a whole recording that is read so, if its lines never change, or by a threshold one of them: which
+/// option hides the changes, or which one to try. None of one that cannot be read to its end.
 ///
 /// # Errors
 ///
@@ -40,9 +51,40 @@ pub fn still_note(
     recording: &[u8],
     input: TraceInput<'_>,
 ) -> Result<Option<&'static str>, AllocError> {
-    if !matches!(edge_count(alloc, recording, input)?, Some(1)) {
+    let said = read_input(alloc, recording, input)?;
+    if said.fault.is_some() {
         return Ok(None);
     }
+    match said.edges.as_slice() {
+        [] => Ok(None),
+        [_] => unchanged_note(alloc, recording, input),
+        [first, rest @ ..] if input.signals.probes.threshold.is_some() => Ok(line_note(
+            *first, rest,
+        )),
+        _ => Ok(None),
+    }
+}
+
+/// What is to be noted of edges by a threshold, if a line has the same level in all of them.
+fn line_note(first: Edge, rest: &[Edge]) -> Option<&'static str> {
+    let start = first.levels;
+    if rest.iter().all(|edge| edge.levels.atn == start.atn) {
+        Some(ATN_STAYS)
+    } else if rest.iter().all(|edge| edge.levels.clock == start.clock) {
+        Some(CLOCK_STAYS)
+    } else if rest.iter().all(|edge| edge.levels.line == start.line) {
+        Some(DATA_STAYS)
+    } else {
+        None
+    }
+}
+
+/// What is to be noted of a recording in which no line changes.
+fn unchanged_note(
+    alloc: Global,
+    recording: &[u8],
+    input: TraceInput<'_>,
+) -> Result<Option<&'static str>, AllocError> {
     let early = TraceInput { start: 0, ..input };
     if changes(alloc, recording, early)? {
         return Ok(Some(LATE_START));
