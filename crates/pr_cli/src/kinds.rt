@@ -24,8 +24,14 @@ const PDF: &str = "this is a PDF document: save the listing in it as plain text"
 /// What is said of a picture.
 const PICTURE: &str = "this is a picture, which has no listing as text";
 
+/// What is said of a program of another computer.
+const GW_BASIC: &str =
+    "this may be a saved program of GW-BASIC, of a PC: save it as text there, as in SAVE \"NAME\",A";
+
+const BBC_BASIC: &str = "this may be a saved program of BBC BASIC: save it as text there";
+
 /// How files of other kinds begin.
-const BEGINNINGS: [(&[u8], &str); 10] = [
+const BEGINNINGS: [(&[u8], &str); 12] = [
     (b"\x1f\x8b", GZIP),
     (b"\xfd7zXZ\0", XZ),
     (b"BZh", BZIP2),
@@ -36,6 +42,8 @@ const BEGINNINGS: [(&[u8], &str); 10] = [
     (b"%PDF", PDF),
     (b"\x89PNG", PICTURE),
     (b"\xff\xd8\xff", PICTURE),
+    (b"\xff", GW_BASIC),
+    (b"\r\0", BBC_BASIC),
 ];
 
 /// What is said of a file of another kind that is given for a listing; nothing where it may be one. Only a listing that is

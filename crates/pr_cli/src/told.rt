@@ -2,15 +2,16 @@
 
 use crate::kinds::other_kind;
 use crate::notes::{
-    address_note, ends_in_string, is_script, is_typed, listing_text, note_brief, note_bytes,
-    note_repeats, note_script, note_unit,
+    address_note, is_script, is_typed, listing_text, note_brief, note_bytes, note_repeats,
+    note_script, note_unit,
 };
+use crate::script_lines::is_continued;
 use crate::still::still_note;
 use pr_basic::{ScriptFault, StatusMode, cut_line};
 use pr_capture::{Source, TraceFormat, TraceInput};
 use pr_explain::{
-    Explanation, ScriptPlace, begins_listing, explain_letter, explain_line, explain_reading,
-    explain_script, explain_stop, explain_trace, html_instead, remark_on,
+    Explanation, ScriptPlace, explain_letter, explain_line, explain_reading, explain_script,
+    explain_stop, explain_trace, html_instead, remark_on,
 };
 use pr_jobs::{CliFault, PictureFault, RunEnd};
 use pr_listing::{
@@ -376,17 +377,15 @@ fn file_of<'a>(script: &'a [u8], listing: Option<Listing<'a>>) -> &'a [u8] {
     }
 }
 
-/// Whether a script is refused for a line that seems to be the rest of the one before it: that ends within a string, and
-/// this one begins with no number and no statement.
+/// Whether a script is refused for a line that seems to be the rest of the one before it.
 fn is_wrapped(script: &[u8], fault: ScriptFault) -> bool {
-    let ScriptFault::UnknownWord(number) = fault else {
-        return false;
-    };
-    let line = line_numbered(script, number);
-    number > 1
-        && !matches!(line, [] | [b'0'..=b'9', ..])
-        && !begins_listing(line)
-        && ends_in_string(line_numbered(script, number.saturating_sub(1)))
+    match line_number(fault) {
+        Some(number) if number > 1 => {
+            let before = line_numbered(script, number.saturating_sub(1));
+            is_continued(before, line_numbered(script, number))
+        }
+        _ => false,
+    }
 }
 
 /// Whether a script has two bytes a letter: a mark says so in front, or two letters do.
