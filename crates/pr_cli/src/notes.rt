@@ -8,8 +8,8 @@ use crate::script_lines::{
 };
 use crate::strings::{Noting, noted_in_strings};
 use pr_basic::cut_line;
-use pr_capture::{Source, TraceInput};
-use pr_explain::{repeated_rows, unit_meant};
+use pr_capture::{Source, Threshold, TraceInput};
+use pr_explain::{Misread, misread_line, repeated_rows, unit_meant};
 use pr_jobs::{HeldMarks, PagesEnd, PaperEnd, RunEnd, shown_of};
 use pr_listing::{
     ListingForm, has_typed_strings, is_p00, is_t64, looks_like_disk, looks_saved, program_in,
@@ -56,6 +56,9 @@ const BASIC_START: usize = 0x0801;
 
 /// How many bytes a line of a saved program has beside its own: a link, a number and a 0.
 const LINE_FRAME: usize = 5;
+
+/// A volt in microvolts.
+const VOLT: u64 = 1_000_000;
 
 /// What is said of a script that ends within a string, and without a line end.
 const CUT_OFF: &str =
@@ -614,6 +617,69 @@ pub fn note_repeats(rt: &(impl Eprint + AllocGlobal), table: &[u8], input: Trace
          save the table with more digits"
     ));
     true
+}
+
+/// Notes a line of a table that is probably not meant as it is read; and gives whether there is one.
+pub fn note_misread(rt: &impl Eprint, table: &[u8], input: TraceInput<'_>) -> bool {
+    let Some(misread) = misread_line(table, input) else {
+        return false;
+    };
+    let (number, said) = misread_text(misread);
+    let _ = rt.eprintln(format_args!("print1525: note: line {number} {said}"));
+    true
+}
+
+/// The number of such a line, and what is noted of it.
+fn misread_text(misread: Misread) -> (usize, &'static str) {
+    match misread {
+        Misread::Names(number) => (
+            number,
+            "is read as the names of the columns, and looks like a row: put a line of names in front",
+        ),
+        Misread::Millivolts(number) => (
+            number,
+            "has mV, and --threshold compares the numbers as they are written: give it in that unit, such as 1500",
+        ),
+        Misread::Rate(number) => (
+            number,
+            "has a rate behind the names, which counts for nothing: make what follows it a recording of its own",
+        ),
+        Misread::Remark(number) => (
+            number,
+            "is left out as a remark, since it begins with ; or #, and has as many cells as the names: write its first cell",
+        ),
+        Misread::Blank(number) => (
+            number,
+            "is blank, and counts for no sample: delete it, or fill it in",
+        ),
+        Misread::Surplus(number) => (
+            number,
+            "has more cells than there are names, and those are left out: see whether a comma in a number separates it",
+        ),
+        Misread::Instant(number) => (
+            number,
+            "has another month or another offset from UTC than the row before, and neither is read",
+        ),
+    }
+}
+
+/// Notes what two voltages mean that look like one with a decimal comma.
+pub fn note_threshold(rt: &impl Eprint, threshold: Option<Threshold>) {
+    let Some(Threshold { low, high }) = threshold else {
+        return;
+    };
+    if low.is_negative
+        || low.micros == high.micros
+        || low.micros % VOLT != 0
+        || high.micros % VOLT != 0
+    {
+        return;
+    }
+    let (low, high) = (low.micros / VOLT, high.micros / VOLT);
+    let _ = rt.eprintln(format_args!(
+        "print1525: note: --threshold {low},{high} is two voltages: 0 below {low} V and 1 from {high} V on; \
+         a decimal is written with a point, as in {low}.{high}"
+    ));
 }
 
 /// Whether a listing in this form is a script's text, or may be.

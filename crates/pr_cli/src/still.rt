@@ -32,7 +32,7 @@ const NO_CHANGE: &str = "no line changes in this recording: --names chooses othe
 
 /// What is noted of a table where levels change within one microsecond alone.
 const ONE_MOMENT: &str =
-    "lines change within one microsecond alone, whose last row counts: the times may be in a longer unit, such as Time [s]";
+    "lines change within one microsecond alone, whose last row counts: the times may be in a longer unit than the one by which they are read";
 
 /// The volts between a 0 and a 1 on a bus of 5 volts that is recorded as it is.
 const HALF: Volts = Volts {

@@ -2,8 +2,8 @@
 
 use crate::kinds::other_kind;
 use crate::notes::{
-    address_note, is_script, is_typed, listing_text, note_brief, note_bytes, note_repeats,
-    note_script, note_unit,
+    address_note, is_script, is_typed, listing_text, note_brief, note_bytes, note_misread,
+    note_repeats, note_script, note_threshold, note_unit,
 };
 use crate::script_lines::is_continued;
 use crate::still::still_note;
@@ -203,9 +203,11 @@ pub fn tell_notes(
         Subject::Script(job) => note_script(rt, bytes, job.form),
         Subject::Bytes => note_bytes(rt, bytes),
         Subject::Trace(input) | Subject::Recording(input) => {
+            note_threshold(rt, input.signals.probes.threshold);
             let has_unit = note_unit(rt, bytes, input);
             let has_repeats = note_repeats(rt, bytes, input);
-            if is_whole && !has_unit && !has_repeats {
+            let is_misread = note_misread(rt, bytes, input);
+            if is_whole && !has_unit && !has_repeats && !is_misread {
                 if let Ok(note) = still_note(rt.alloc(), bytes, input) {
                     show_note(rt, note);
                 }
