@@ -383,6 +383,9 @@ fn push_table_fault(
     } else if !heading.has_units_at(number) && !(unit.is_some() && is_untimed(fault)) {
         push_table_rule(text, bytes, input, fault, number)?;
     }
+    if heading.counts_samples(bytes) {
+        return heading.push_samples(text, number);
+    }
     heading.push_units(text, number, unit.unwrap_or("s"))
 }
 
