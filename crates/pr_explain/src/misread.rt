@@ -11,7 +11,7 @@ use pr_capture::{Source, TraceInput};
 pub enum Misread {
     /// The line of the names has levels alone.
     Names(usize),
-    /// It has mV, where volts are compared.
+    /// It has mV, where a threshold is one of volts.
     Millivolts(usize),
     /// A remark behind the names has a rate.
     Rate(usize),
@@ -24,6 +24,9 @@ pub enum Misread {
     /// An instant has another month or another offset from UTC than the one before it.
     Instant(usize),
 }
+
+/// Microvolts from which on a threshold is hardly one of volts: 50 V.
+const MILLIVOLTS: u64 = 50_000_000;
 
 /// What is known of a table at one of its rows.
 #[derive(Clone, Copy)]
@@ -80,16 +83,12 @@ fn misread_names(
     number: usize,
     input: TraceInput<'_>,
 ) -> Option<Misread> {
-    if input.signals.probes.threshold.is_some() {
-        if has_millivolts(line) {
+    match input.signals.probes.threshold {
+        Some(threshold) if threshold.high.micros < MILLIVOLTS && has_millivolts(line) => {
             Some(Misread::Millivolts(number))
-        } else {
-            None
         }
-    } else if are_levels(separator, line) {
-        Some(Misread::Names(number))
-    } else {
-        None
+        None if are_levels(separator, line) => Some(Misread::Names(number)),
+        _ => None,
     }
 }
 
