@@ -31,7 +31,7 @@ const GW_BASIC: &str =
 const BBC_BASIC: &str = "this may be a saved program of BBC BASIC: save it as text there";
 
 /// How files of other kinds begin.
-const BEGINNINGS: [(&[u8], &str); 12] = [
+const BEGINNINGS: [(&[u8], &str); 11] = [
     (b"\x1f\x8b", GZIP),
     (b"\xfd7zXZ\0", XZ),
     (b"BZh", BZIP2),
@@ -42,7 +42,6 @@ const BEGINNINGS: [(&[u8], &str); 12] = [
     (b"%PDF", PDF),
     (b"\x89PNG", PICTURE),
     (b"\xff\xd8\xff", PICTURE),
-    (b"\xff", GW_BASIC),
     (b"\r\0", BBC_BASIC),
 ];
 
@@ -57,10 +56,12 @@ pub fn other_kind(bytes: &[u8]) -> Option<&'static str> {
     image_kind(bytes)
 }
 
-/// The same of an image of a disk, a tape or a cartridge.
+/// The same of an image of a disk, a tape or a cartridge, and of a byte 255, which is no mark of UTF-16.
 fn image_kind(bytes: &[u8]) -> Option<&'static str> {
     if looks_like_disk(bytes) && !looks_like_text(bytes) {
         Some(DISK)
+    } else if bytes.starts_with(b"\xff") && !bytes.starts_with(b"\xff\xfe") {
+        Some(GW_BASIC)
     } else if bytes.starts_with(b"C64-TAPE-RAW") {
         Some(TAPE)
     } else if bytes.starts_with(b"C64 CARTRIDGE") {
