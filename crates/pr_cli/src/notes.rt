@@ -198,8 +198,8 @@ fn note_returns(rt: &impl Eprint, script: &[u8]) {
 fn note_lines(rt: &impl Eprint, script: &[u8]) {
     if let Some(line) = wrapped_line(script) {
         let _ = rt.eprintln(format_args!(
-            "print1525: note: line {line} ends within a string, and the next one may be its rest: if an editor has \
-             wrapped a longer line there, join the two"
+            "print1525: note: line {line} ends within a string, and the next one may be its rest: join the two \
+             where an editor has cut a long line"
         ));
         return;
     }

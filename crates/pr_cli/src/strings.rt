@@ -99,7 +99,7 @@ const HTML_TAGS: &str = "<br> and </ are HTML's: save the listing as plain text"
 
 /// What is said of one with the signs of mail.
 const MAIL: &str =
-    "=3D, and =20 or = at the end of a line, are mail's quoted-printable text: save the listing as plain text";
+    "=3D, and =20 or = at the end of a line, are signs of mail (quoted-printable): save the listing as plain text";
 
 /// How mail writes `=`, and letters that UTF-8 has in two bytes or three.
 const MAIL_SIGNS: [&str; 3] = ["=3D", "=C3=", "=E2="];
