@@ -3,7 +3,7 @@
 use crate::lacking::{BOTH, hears, holds};
 use crate::order::note_order;
 use crate::script_lines::{
-    has_line_behind_blank, has_line_in_heading, is_cut_off, line_with_return, remark_of,
+    has_line_behind_blank, has_line_in_heading, is_cut_off, label_of, line_with_return, remark_of,
     wrapped_line,
 };
 use crate::strings::{Noting, noted_in_strings};
@@ -56,6 +56,13 @@ const BASIC_START: usize = 0x0801;
 
 /// How many bytes a line of a saved program has beside its own: a link, a number and a 0.
 const LINE_FRAME: usize = 5;
+
+/// What is said of times that rise by 1 from row to row, and give no byte.
+const COUNTED: &str =
+    "the times rise by 1 from row to row, as numbers of samples do: if they are, name the column Sample, and give --rate";
+
+/// How many such rows are hardly a chance (profile).
+const COUNTED_ROWS: usize = 16;
 
 /// A volt in microvolts.
 const VOLT: u64 = 1_000_000;
@@ -596,11 +603,33 @@ pub fn note_unit(rt: &(impl Eprint + AllocGlobal), table: &[u8], input: TraceInp
     let Ok(Some(unit)) = unit_meant(rt.alloc(), table, input) else {
         return false;
     };
+    if counts_up(table) {
+        note(rt, COUNTED);
+        return true;
+    }
     let (word, sign) = (unit.word, unit.sign);
     let _ = rt.eprintln(format_args!(
         "print1525: note: the times may be {word}: name the column Time [{sign}]"
     ));
     true
+}
+
+/// Whether the rows of a table begin with whole numbers that rise by 1, as those of samples do.
+fn counts_up(table: &[u8]) -> bool {
+    let mut before: Option<u64> = None;
+    let mut count: usize = 0;
+    for line in table.split(|byte| *byte == b'\n') {
+        if let Some(number) = label_of(line) {
+            if let Some(last) = before {
+                if number != last.wrapping_add(1) {
+                    return false;
+                }
+                count = count.wrapping_add(1);
+            }
+            before = Some(number);
+        }
+    }
+    count > COUNTED_ROWS
 }
 
 /// Notes how many rows of a table have the time of the row before and other levels, where levels are lost; and gives

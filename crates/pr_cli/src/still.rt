@@ -1,8 +1,9 @@
-//! What is to be noted of a recording in which a line never changes.
+//! What is to be noted of a recording in which a line never changes, or lines change always.
 
-use pr_capture::{Probes, Signals, Threshold, TraceInput, Volts};
+use pr_capture::{Probes, Signals, Source, Threshold, TraceInput, Volts};
+use pr_decode::{Decoder, Reading};
 use pr_explain::{read_input, rows_change};
-use pr_wire::Edge;
+use pr_wire::{Edge, NoMemory};
 use std::alloc::{AllocError, Global};
 
 /// What is noted where a shorter time, or none, of each option shows changes.
@@ -27,6 +28,10 @@ const CLOCK_STAYS: &str =
 const DATA_STAYS: &str =
     "DATA never changes by this --threshold: compare it with that line's volts, and see whether --names chooses its signal";
 
+/// What is noted where lines change in every sample.
+pub const EACH_SAMPLE: &str =
+    "a line changes in every sample: if rows are left out where nothing changes, save all samples, or times with them";
+
 /// What is noted of any other recording.
 const NO_CHANGE: &str = "no line changes in this recording: --names chooses other signals";
 
@@ -34,39 +39,17 @@ const NO_CHANGE: &str = "no line changes in this recording: --names chooses othe
 const ONE_MOMENT: &str =
     "lines change within one microsecond alone, whose last row counts: the times may be in a longer unit than the one by which they are read";
 
+/// How many edges at one distance are hardly the bus's own (profile).
+const MANY: usize = 16;
+
 /// The volts between a 0 and a 1 on a bus of 5 volts that is recorded as it is.
 const HALF: Volts = Volts {
     is_negative: false,
     micros: 1_500_000,
 };
 
-/// What is to be noted of a whole recording that is read so, if its lines never change, or by a threshold one of them: which
-/// option hides the changes, or which one to try. None of one that cannot be read to its end.
-///
-/// # Errors
-///
-/// [`AllocError`] where memory was refused.
-pub fn still_note(
-    alloc: Global,
-    recording: &[u8],
-    input: TraceInput<'_>,
-) -> Result<Option<&'static str>, AllocError> {
-    let said = read_input(alloc, recording, input)?;
-    if said.fault.is_some() {
-        return Ok(None);
-    }
-    match said.edges.as_slice() {
-        [] => Ok(None),
-        [_] => unchanged_note(alloc, recording, input),
-        [first, rest @ ..] if input.signals.probes.threshold.is_some() => Ok(line_note(
-            *first, rest,
-        )),
-        _ => Ok(None),
-    }
-}
-
 /// What is to be noted of edges by a threshold, if a line has the same level in all of them.
-fn line_note(first: Edge, rest: &[Edge]) -> Option<&'static str> {
+pub fn line_note(first: Edge, rest: &[Edge]) -> Option<&'static str> {
     let start = first.levels;
     if rest.iter().all(|edge| edge.levels.atn == start.atn) {
         Some(ATN_STAYS)
@@ -79,8 +62,12 @@ fn line_note(first: Edge, rest: &[Edge]) -> Option<&'static str> {
     }
 }
 
-/// What is to be noted of a recording in which no line changes.
-fn unchanged_note(
+/// What is to be noted of a recording in which no line changes: which option hides the changes, or which one to try.
+///
+/// # Errors
+///
+/// [`AllocError`] where memory was refused.
+pub fn still_note(
     alloc: Global,
     recording: &[u8],
     input: TraceInput<'_>,
@@ -103,6 +90,69 @@ fn unchanged_note(
         Ok(Some(BY_HALF))
     } else {
         Ok(Some(BY_NONE))
+    }
+}
+
+/// Whether all edges of a table have one distance, so that lines change in every sample.
+pub fn changes_always(source: Source, edges: &[Edge]) -> bool {
+    let [first, second, rest @ ..] = edges else {
+        return false;
+    };
+    let distance = second.time.wrapping_sub(first.time);
+    let mut before = second.time;
+    for edge in rest {
+        let this = edge.time.wrapping_sub(before);
+        if this.max(distance).wrapping_sub(this.min(distance)) > 1 {
+            return false;
+        }
+        before = edge.time;
+    }
+    source == Source::Csv && edges.len() > MANY
+}
+
+/// From when on CLOCK is released eight times, at least, in no byte that is read: the first such moment, if there is one. A
+/// byte is not read whose beginning is not there.
+///
+/// # Errors
+///
+/// [`NoMemory`] where memory was refused.
+pub fn lost_byte(alloc: Global, edges: &[Edge]) -> Result<Option<u64>, NoMemory> {
+    let mut decoder = Decoder::new();
+    let mut releases = Vec::new(alloc);
+    let mut clock = true;
+    for edge in edges {
+        if edge.levels.clock && !clock {
+            releases.push(edge.time)?;
+        }
+        clock = edge.levels.clock;
+        if let Ok(Some(reading)) = decoder.take(*edge) {
+            let lost = lost_before(releases.as_slice(), beginning_of(reading));
+            if lost.is_some() {
+                return Ok(lost);
+            }
+            releases = Vec::new(alloc);
+        }
+    }
+    let end = match decoder.finish() {
+        Some(reading) => beginning_of(reading),
+        None => u64::MAX,
+    };
+    Ok(lost_before(releases.as_slice(), end))
+}
+
+/// The moment at which a byte that is read begins.
+fn beginning_of(reading: Reading) -> u64 {
+    match reading {
+        Reading::Frame(transfer, _) => transfer.opening.ready_to_send,
+        Reading::IncompleteByte(transfer, _) => transfer.opening.ready_to_send,
+    }
+}
+
+/// The first of some moments, if eight of them are before the beginning of a byte.
+fn lost_before(releases: &[u64], beginning: u64) -> Option<u64> {
+    match releases {
+        [first, _, _, _, _, _, _, eighth, ..] if *eighth < beginning => Some(*first),
+        _ => None,
     }
 }
 

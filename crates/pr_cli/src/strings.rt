@@ -10,7 +10,7 @@ const BRACKET_NAMES: &str =
      as {CLR}, and in [< and >] a key that is typed with the Commodore key, as [<A>]";
 
 /// The names of keys that some magazines print in brackets.
-const KEY_NAMES: [&str; 57] = [
+const KEY_NAMES: [&str; 59] = [
     "CLR",
     "CLEAR",
     "HOME",
@@ -68,6 +68,8 @@ const KEY_NAMES: [&str; 57] = [
     "C/DN",
     "C/UP",
     "INS",
+    "INV",
+    "NORM",
 ];
 
 /// Words in front of the name of a key that is typed with another one, or has two words.
@@ -80,7 +82,9 @@ const KEY_WORDS: [&str; 14] = [
 const KEY_SIGNS: [&str; 2] = ["C=", "CHR$("];
 
 /// Names of keys in round brackets, which other words are more often, begin so.
-const ROUND_NAMES: [&str; 4] = ["CLR", "CLEAR", "RVS", "CRSR"];
+const ROUND_NAMES: [&str; 8] = [
+    "CLR", "CLEAR", "RVS", "CRSR", "SHIFT", "SHFT", "CTRL", "CBM",
+];
 
 /// The most bytes that stand between brackets around the name of a key: a count, a space and a name.
 const LONGEST_NAME: usize = 15;
@@ -99,10 +103,14 @@ const HTML_TAGS: &str = "<br> and </ are HTML's: save the listing as plain text"
 
 /// What is said of one with the signs of mail.
 const MAIL: &str =
-    "=3D, and =20 or = at the end of a line, are signs of mail (quoted-printable): save the listing as plain text";
+    "= with two digits, as in =3D, or at the end of a line, is a sign of mail (quoted-printable): save the listing as plain text";
 
 /// How mail writes `=`, and letters that UTF-8 has in two bytes or three.
 const MAIL_SIGNS: [&str; 3] = ["=3D", "=C3=", "=E2="];
+
+/// What is said of one with another name between `&` and `;`.
+const HTML_NAME: &str =
+    "a name between & and ; is HTML's for a character: save the listing as plain text";
 
 /// What may be noted of strings.
 #[derive(Clone, Copy)]
@@ -175,7 +183,7 @@ fn noted_at(bytes: &[u8], noting: Noting) -> Option<&'static str> {
 fn marked_at(bytes: &[u8]) -> Option<&'static str> {
     match bytes {
         [b'&', b'#', b'0'..=b'9' | b'x' | b'X', ..] => Some(HTML_NUMBERS),
-        [b'&', ..] => html_instead(bytes),
+        [b'&', name @ ..] => html_instead(bytes).or(html_name(name)),
         [b'<', b'/', letter, ..] if letter.is_ascii_alphabetic() => Some(HTML_TAGS),
         [b'<', name @ ..] if begins_with_one(name, &["BR>", "BR/>", "BR />"]) => Some(HTML_TAGS),
         [b'=', ..] if is_mail(bytes) => Some(MAIL),
@@ -183,9 +191,27 @@ fn marked_at(bytes: &[u8]) -> Option<&'static str> {
     }
 }
 
+/// What is to be noted of a name of letters, two at least, with a semicolon behind them.
+fn html_name(name: &[u8]) -> Option<&'static str> {
+    match name.iter().position(|byte| !byte.is_ascii_alphabetic()) {
+        Some(end) if end > 1 && name[end] == b';' => Some(HTML_NAME),
+        _ => None,
+    }
+}
+
 /// Whether a sign of mail is in front.
 fn is_mail(bytes: &[u8]) -> bool {
-    matches!(bytes, [b'='] | [b'=', b'2', b'0']) || begins_with_one(bytes, &MAIL_SIGNS)
+    matches!(bytes, [b'='] | [b'=', b'2', b'0'])
+        || is_letter_of_mail(bytes)
+        || begins_with_one(bytes, &MAIL_SIGNS)
+}
+
+/// Whether a letter of Western Europe is in front, as mail writes it.
+fn is_letter_of_mail(bytes: &[u8]) -> bool {
+    match bytes {
+        [_, b'C'..=b'F', low, ..] => matches!(*low, b'0'..=b'9' | b'A'..=b'F'),
+        _ => false,
+    }
 }
 
 /// What is to be noted of what somebody has typed there.

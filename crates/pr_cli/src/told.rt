@@ -6,12 +6,12 @@ use crate::notes::{
     note_repeats, note_script, note_threshold, note_unit,
 };
 use crate::script_lines::is_continued;
-use crate::still::still_note;
+use crate::still::{EACH_SAMPLE, changes_always, line_note, lost_byte, still_note};
 use pr_basic::{ScriptFault, StatusMode, cut_line};
 use pr_capture::{Source, TraceFormat, TraceInput};
 use pr_explain::{
     Explanation, ScriptPlace, explain_letter, explain_line, explain_reading, explain_script,
-    explain_stop, explain_trace, html_instead, remark_on,
+    explain_stop, explain_trace, html_instead, read_input, remark_on,
 };
 use pr_jobs::{CliFault, PictureFault, RunEnd};
 use pr_listing::{
@@ -23,6 +23,7 @@ use pr_recording::Heard;
 use pr_render::Format;
 use pr_report::{Oddities, Report, push_oddities};
 use pr_serial::Present;
+use pr_wire::Edge;
 use std::alloc::{AllocError, Global};
 
 /// What is said of a refused script that looks like a saved program.
@@ -208,11 +209,42 @@ pub fn tell_notes(
             let has_repeats = note_repeats(rt, bytes, input);
             let is_misread = note_misread(rt, bytes, input);
             if is_whole && !has_unit && !has_repeats && !is_misread {
-                if let Ok(note) = still_note(rt.alloc(), bytes, input) {
-                    show_note(rt, note);
-                }
+                note_edges(rt, bytes, input);
             }
         }
+    }
+}
+
+/// Writes what is to be noted of the edges of a whole recording, which can be read to its end.
+fn note_edges(rt: &(impl Eprint + AllocGlobal), recording: &[u8], input: TraceInput<'_>) {
+    let Ok(said) = read_input(rt.alloc(), recording, input) else {
+        return;
+    };
+    if said.fault.is_some() {
+        return;
+    }
+    match said.edges.as_slice() {
+        [] => {}
+        [_] => {
+            if let Ok(note) = still_note(rt.alloc(), recording, input) {
+                show_note(rt, note);
+            }
+        }
+        [first, rest @ ..] if input.signals.probes.threshold.is_some() => {
+            show_note(rt, line_note(*first, rest));
+        }
+        edges if changes_always(input.source, edges) => show_note(rt, Some(EACH_SAMPLE)),
+        edges => note_lost(rt, edges),
+    }
+}
+
+/// Notes from when on a byte is lost, as it seems.
+fn note_lost(rt: &(impl Eprint + AllocGlobal), edges: &[Edge]) {
+    if let Ok(Some(time)) = lost_byte(rt.alloc(), edges) {
+        let _ = rt.eprintln(format_args!(
+            "print1525: note: a byte may be lost at {time} us, where CLOCK goes up and down and no byte begins: lines that change \
+             in one sample hide its beginning, and so does a row that is missing; record faster"
+        ));
     }
 }
 
