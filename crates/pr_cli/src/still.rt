@@ -1,9 +1,9 @@
 //! What is to be noted of a recording in which a line never changes, or lines change always.
 
 use pr_capture::{Probes, Signals, Source, Threshold, TraceInput, Volts};
-use pr_decode::{Decoder, Reading};
+use pr_decode::{Decoder, Reading, Transfer};
 use pr_explain::{read_input, rows_change};
-use pr_wire::{Edge, NoMemory};
+use pr_wire::{Edge, Levels, NoMemory};
 use std::alloc::{AllocError, Global};
 
 /// What is noted where a shorter time, or none, of each option shows changes.
@@ -38,6 +38,13 @@ const NO_CHANGE: &str = "no line changes in this recording: --names chooses othe
 /// What is noted of a table where levels change within one microsecond alone.
 const ONE_MOMENT: &str =
     "lines change within one microsecond alone, whose last row counts: the times may be in a longer unit than the one by which they are read";
+
+/// The levels before a recording begins: all lines are released.
+const FIRST: Levels = Levels {
+    atn: true,
+    clock: true,
+    line: true,
+};
 
 /// How many edges at one distance are hardly the bus's own (profile).
 const MANY: usize = 16;
@@ -110,48 +117,81 @@ pub fn changes_always(source: Source, edges: &[Edge]) -> bool {
     source == Source::Csv && edges.len() > MANY
 }
 
-/// From when on CLOCK is released eight times, at least, in no byte that is read: the first such moment, if there is one. A
-/// byte is not read whose beginning is not there.
+/// What seems to be wrong with a byte of a recording, by the moment of it.
+#[derive(Clone, Copy)]
+pub enum WrongByte {
+    /// From then on CLOCK is released eight times, at least, in no byte that is read: its beginning is not there.
+    Lost(u64),
+    /// DATA changes then, while CLOCK is released, between the pulls of CLOCK that enclose a byte's bits.
+    Changed(u64),
+}
+
+/// The first byte with which something seems to be wrong.
 ///
 /// # Errors
 ///
 /// [`NoMemory`] where memory was refused.
-pub fn lost_byte(alloc: Global, edges: &[Edge]) -> Result<Option<u64>, NoMemory> {
+pub fn wrong_byte(alloc: Global, edges: &[Edge]) -> Result<Option<WrongByte>, NoMemory> {
     let mut decoder = Decoder::new();
     let mut releases = Vec::new(alloc);
-    let mut clock = true;
+    let mut changes = Vec::new(alloc);
+    let mut before = FIRST;
     for edge in edges {
-        if edge.levels.clock && !clock {
+        let levels = edge.levels;
+        if levels.clock && !before.clock {
             releases.push(edge.time)?;
+        } else if levels.clock && levels.line != before.line {
+            changes.push(edge.time)?;
         }
-        clock = edge.levels.clock;
+        before = levels;
         if let Ok(Some(reading)) = decoder.take(*edge) {
-            let lost = lost_before(releases.as_slice(), beginning_of(reading));
-            if lost.is_some() {
-                return Ok(lost);
+            let wrong = wrong_with(
+                transfer_of(reading),
+                releases.as_slice(),
+                changes.as_slice(),
+            );
+            if wrong.is_some() {
+                return Ok(wrong);
             }
             releases = Vec::new(alloc);
+            changes = Vec::new(alloc);
         }
     }
-    let end = match decoder.finish() {
-        Some(reading) => beginning_of(reading),
-        None => u64::MAX,
-    };
-    Ok(lost_before(releases.as_slice(), end))
-}
-
-/// The moment at which a byte that is read begins.
-fn beginning_of(reading: Reading) -> u64 {
-    match reading {
-        Reading::Frame(transfer, _) => transfer.opening.ready_to_send,
-        Reading::IncompleteByte(transfer, _) => transfer.opening.ready_to_send,
+    match decoder.finish() {
+        Some(reading) => Ok(wrong_with(
+            transfer_of(reading),
+            releases.as_slice(),
+            changes.as_slice(),
+        )),
+        None => Ok(lost_before(releases.as_slice(), u64::MAX)),
     }
 }
 
-/// The first of some moments, if eight of them are before the beginning of a byte.
-fn lost_before(releases: &[u64], beginning: u64) -> Option<u64> {
+/// A byte that is read, as far as it came.
+fn transfer_of(reading: Reading) -> Transfer {
+    match reading {
+        Reading::Frame(transfer, _) => transfer,
+        Reading::IncompleteByte(transfer, _) => transfer,
+    }
+}
+
+/// What seems to be wrong with a byte, or with what comes before it, by the moments of CLOCK's releases and of DATA's changes
+/// since the byte before.
+fn wrong_with(transfer: Transfer, releases: &[u64], changes: &[u64]) -> Option<WrongByte> {
+    for time in changes {
+        if transfer.pull < *time && *time < transfer.last_pull {
+            return Some(WrongByte::Changed(*time));
+        }
+    }
+    lost_before(releases, transfer.opening.ready_to_send)
+}
+
+/// Whether a byte is lost, by the moments of CLOCK's releases before another one begins.
+fn lost_before(releases: &[u64], beginning: u64) -> Option<WrongByte> {
     match releases {
-        [first, _, _, _, _, _, _, eighth, ..] if *eighth < beginning => Some(*first),
+        [first, _, _, _, _, _, _, eighth, ..] if *eighth < beginning => Some(WrongByte::Lost(
+            *first,
+        )),
         _ => None,
     }
 }

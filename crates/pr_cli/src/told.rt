@@ -6,7 +6,7 @@ use crate::notes::{
     note_repeats, note_script, note_threshold, note_unit,
 };
 use crate::script_lines::is_continued;
-use crate::still::{EACH_SAMPLE, changes_always, line_note, lost_byte, still_note};
+use crate::still::{EACH_SAMPLE, WrongByte, changes_always, line_note, still_note, wrong_byte};
 use pr_basic::{ScriptFault, StatusMode, cut_line};
 use pr_capture::{Source, TraceFormat, TraceInput};
 use pr_explain::{
@@ -234,18 +234,23 @@ fn note_edges(rt: &(impl Eprint + AllocGlobal), recording: &[u8], input: TraceIn
             show_note(rt, line_note(*first, rest));
         }
         edges if changes_always(input.source, edges) => show_note(rt, Some(EACH_SAMPLE)),
-        edges => note_lost(rt, edges),
+        edges => note_wrong(rt, edges),
     }
 }
 
-/// Notes from when on a byte is lost, as it seems.
-fn note_lost(rt: &(impl Eprint + AllocGlobal), edges: &[Edge]) {
-    if let Ok(Some(time)) = lost_byte(rt.alloc(), edges) {
-        let _ = rt.eprintln(format_args!(
+/// Notes with which byte something is wrong, as it seems.
+fn note_wrong(rt: &(impl Eprint + AllocGlobal), edges: &[Edge]) {
+    let _ = match wrong_byte(rt.alloc(), edges) {
+        Ok(Some(WrongByte::Lost(time))) => rt.eprintln(format_args!(
             "print1525: note: a byte may be lost at {time} us, where CLOCK goes up and down and no byte begins: lines that change \
              in one sample hide its beginning, and so does a row that is missing; record faster"
-        ));
-    }
+        )),
+        Ok(Some(WrongByte::Changed(time))) => rt.eprintln(format_args!(
+            "print1525: note: DATA changes at {time} us within a bit, while CLOCK is up, so the byte may be another one: \
+             --glitch TIME leaves out shorter pulses"
+        )),
+        Ok(None) | Err(_) => return,
+    };
 }
 
 /// Whether an input is kept for notes: of a trace or a recording there are some only where it is a file, or is kept for
