@@ -7,7 +7,6 @@ use crate::script_lines::{
     wrapped_line,
 };
 use crate::strings::{Noting, noted_in_strings};
-use pr_basic::cut_line;
 use pr_capture::{Source, Threshold, TraceInput};
 use pr_explain::{Misread, misread_line, repeated_rows, unit_meant};
 use pr_jobs::{HeldMarks, PagesEnd, PaperEnd, RunEnd, shown_of};
@@ -424,13 +423,20 @@ fn blank_text(pages: PagesEnd, view: View, reason: Option<&'static str>) -> Opti
 
 /// What is to be noted of a blank page by the text of a script that has run, if that shows why no statement prints.
 pub fn blank_reason(script: &[u8]) -> Option<&'static str> {
-    let (first, _) = cut_line(script);
     if has_no_statement(script) {
         Some(NO_STATEMENT)
-    } else if has_line_behind_blank(remark_of(first)) {
+    } else if has_line_behind_blank(remark_of(first_line(script))) {
         Some(JOINED)
     } else {
         None
+    }
+}
+
+/// The first line of a text.
+fn first_line(text: &[u8]) -> &[u8] {
+    match text.iter().position(|byte| *byte == b'\n') {
+        Some(end) => &text[..end],
+        None => text,
     }
 }
 
