@@ -5,11 +5,11 @@ import { SHEET_TOP } from './sheets.js';
 
 const SHEET_WIDTH = 12600;         // nine and a half inches and a margin, in the picture's units
 export const SHEET_HEIGHT = 13860;      // eleven inches
-const EDGE = 630;                  // what is seen of the sheet before the first fold and of the one after the last; the strips with the holes
+const EDGE = 630;                  // what is seen of the sheet after the last fold; the lines above the first row; the strips with the holes
 const NAMESPACE = 'http://www.w3.org/2000/svg';
 
-/** How high the paper of a sheet is: whole sheets, and an edge of the paper above and below. */
-const heightOf = sheet => 2 * EDGE + SHEET_HEIGHT * Math.max(Math.ceil((sheet.height - 2 * EDGE) / SHEET_HEIGHT), 1);
+/** How high the paper of a sheet is: whole sheets, and an edge of the paper below. */
+const heightOf = sheet => EDGE + SHEET_HEIGHT * Math.max(Math.ceil((sheet.height - EDGE) / SHEET_HEIGHT), 1);
 
 /**
  * Where the sheets lie, one below the other where `isStacked`: `{ sheets, width, height, left, notes }`. Each sheet is
@@ -43,7 +43,7 @@ export function drawn(name, attributes, ...parts) {
 
 /** The paper of one printer. */
 function paperOf({ sheet, right, down, height }, hasBars) {
-  const folds = Array.from({ length: Math.round((height - 2 * EDGE) / SHEET_HEIGHT) + 1 }, (_, fold) => `M0 ${EDGE + fold * SHEET_HEIGHT}h${SHEET_WIDTH}`);
+  const folds = Array.from({ length: Math.round((height - EDGE) / SHEET_HEIGHT) }, (_, fold) => `M0 ${(fold + 1) * SHEET_HEIGHT}h${SHEET_WIDTH}`);
   const bars = drawn('rect', { width: SHEET_WIDTH, height, fill: 'url(#fanfold-bars)' });
   return drawn('g', { transform: `translate(${sheet.x + right} ${SHEET_TOP + down})` },
     drawn('rect', { class: 'sheet', width: SHEET_WIDTH, height }),

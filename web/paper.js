@@ -156,8 +156,8 @@ export class Paper {
     if (!this.places?.sheets.length) return null;
     const { across, down } = this.scales(), { clientWidth, clientHeight, scrollLeft, scrollTop } = this.element;
     const x = this.places.left + (scrollLeft + clientWidth / 2) / across, y = (scrollTop + Math.min(clientHeight, 300) / 2) / down;
-    const placed = sheetAt(this.places, x, y) ?? this.places.sheets[0], row = (y - placed.down - MARKS_TOP) / SHEET_HEIGHT;
-    const last = Math.max(...placed.sheet.rows.map(row => row.y * STEP), 0);
+    const placed = sheetAt(this.places, x, y) ?? this.places.sheets[0], row = (y - placed.down - SHEET_TOP) / SHEET_HEIGHT;
+    const last = Math.max(...placed.sheet.rows.map(row => row.y * STEP), 0) + MARKS_TOP - SHEET_TOP;
     return { printer: placed.sheet.printer, number: 1 + Math.min(Math.max(Math.floor(row), 0), Math.floor(last / SHEET_HEIGHT)) };
   }
 

@@ -721,7 +721,7 @@ static void try_settings(void) {
     }
     /* Settings of another size, as memory that nobody began, and bytes that are not used yet. */
     for (row = 0; row < sizeof all / sizeof *all; row++)
-        for (change = 0; change < 7; change++) {
+        for (change = 0; change < 5; change++) {
             j.name = all[row];
             j.settings = defaults;
             if (change == 0) memset(&j.settings, 0, sizeof j.settings);
@@ -1097,6 +1097,8 @@ static void set_more(job *j) {
     const char *const names = getenv("NAMES");
     if (getenv("PRINTER")) s->printer = (uint8_t)atoi(getenv("PRINTER"));
     if (getenv("SHEET")) s->sheet = strtoul(getenv("SHEET"), NULL, 10);
+    if (getenv("TOP")) s->top = (uint8_t)atoi(getenv("TOP"));
+    if (getenv("PAPER")) s->paper = (uint8_t)atoi(getenv("PAPER"));
     if (getenv("INVERTED")) s->inverted = 1;
     if (getenv("START")) s->start = strtoul(getenv("START"), NULL, 10);
     if (getenv("RATE")) s->rate = strtoul(getenv("RATE"), NULL, 10);

@@ -212,7 +212,7 @@ shown_in format.List = both
 shown_in format.Lines = both
 shown_in (format.Svg part) = shown_of part.device both
 shown_in (format.Png part) = shown_of part.device both
-shown_in (format.Pdf device) = shown_of device both
+shown_in (format.Pdf device layout) = shown_of device both
 
 -- the printers of which nothing is to be left out of a recording, if a job is strict: those whose pages or bytes are written
 abbrev pub strict_if : Bool → Present → Option Present

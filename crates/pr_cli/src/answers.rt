@@ -254,12 +254,12 @@ fn is_for_a_file(job: &Job<'_>) -> bool {
             _,
             _,
             _,
-            PagesOutput::Pages(Format::Png(_) | Format::Pdf(_))
+            PagesOutput::Pages(Format::Png(_) | Format::Pdf(_, _))
         ) | Job::Decode {
-            output: DecodeOutput::Pages(Format::Png(_) | Format::Pdf(_), _),
+            output: DecodeOutput::Pages(Format::Png(_) | Format::Pdf(_, _), _),
             ..
         } | Job::Raw {
-            format: Format::Png(_) | Format::Pdf(_),
+            format: Format::Png(_) | Format::Pdf(_, _),
             ..
         }
     )

@@ -54,7 +54,7 @@ fn shown_in(format: Format) -> Present
     match format {
         Format::List | Format::Lines => BOTH,
         Format::Svg(part) | Format::Png(part) => shown_of(part.device, BOTH),
-        Format::Pdf(device) => shown_of(device, BOTH),
+        Format::Pdf(device, _) => shown_of(device, BOTH),
     }
 }
 

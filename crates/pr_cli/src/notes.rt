@@ -393,7 +393,7 @@ fn view_in(format: Format, present: Present) -> View {
             is_first: part.sheet.is_none(),
             ..whole_view(shown_of(part.device, present))
         },
-        Format::Pdf(device) => whole_view(shown_of(device, present)),
+        Format::Pdf(device, _) => whole_view(shown_of(device, present)),
     }
 }
 

@@ -1,4 +1,5 @@
 pub mod Codes
 pub mod Dots
+pub mod Laws
 pub mod Shapes
 pub mod Sheets

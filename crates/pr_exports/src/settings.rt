@@ -2,7 +2,7 @@
 
 ghost use Rattle.std.specs.Prelude.{◌≡◌, take};
 ghost use Rattle.pr_capture.specs.Found.{found_source};
-ghost use Rattle.pr_exports.specs.Settings.{AsksShapes, IsInput, check_of, detail_of, device_of, form_of, format_of, mode_of, presence, rate_of, sheet_of, shown_of, source_of, stop_of, wording_of};
+ghost use Rattle.pr_exports.specs.Settings.{AsksShapes, IsInput, check_of, detail_of, device_of, form_of, format_of, layout_of, mode_of, paper_of, presence, rate_of, sheet_of, shown_of, source_of, stop_of, wording_of};
 
 use pr_basic::StatusMode;
 use pr_capture::{Probes, Signals, Source, TraceInput, found_source};
@@ -12,7 +12,7 @@ use pr_dots::Shapes;
 use pr_listing::ListingForm;
 use pr_options::CheckOutput;
 use pr_recording::Wording;
-use pr_render::{Device, Format, Part};
+use pr_render::{Device, Format, Layout, Part, Size};
 use pr_report::{Bounds, Detail, Report};
 use pr_serial::Present;
 
@@ -118,7 +118,7 @@ fn format_for(number: u8) -> Option<Format>
         1 => Some(Format::Lines),
         2 => Some(Format::Svg(Part::whole())),
         3 => Some(Format::Png(Part::whole())),
-        4 => Some(Format::Pdf(None)),
+        4 => Some(Format::Pdf(None, Layout::usual())),
         _ => None,
     }
 }
@@ -145,10 +145,38 @@ fn sheet_for(number: u64) -> Option<u64>
     }
 }
 
-/// The format of pages and what of them it shows: one printer or all (0), one sheet or all (0). `None` where a number
-/// means no such setting, or the format cannot show this part.
-pub fn shown_for(format: u8, device: u8, sheet: u64) -> Option<Format>
-    ensures { result ≡ shown_of format device sheet }
+/// The paper of a document, and whether it shows its holes: 0 continuous paper without and 1 with them, 2 A4, 3 letter.
+fn paper_for(number: u8) -> Option<(Size, bool)>
+    ensures { result ≡ paper_of number }
+{
+    match number {
+        0 => Some((Size::Continuous, false)),
+        1 => Some((Size::Continuous, true)),
+        2 => Some((Size::A4, false)),
+        3 => Some((Size::Letter, false)),
+        _ => None,
+    }
+}
+
+/// How the pages lie on their paper: this many lines above the first row; `None` where a sheet has no more, or there is no such
+/// paper.
+fn layout_for(top: u8, paper: u8) -> Option<Layout>
+    ensures { result ≡ layout_of top paper }
+{
+    let Some((size, holes)) = paper_for(paper) else {
+        return None;
+    };
+    if top < 66 {
+        Some(Layout { top, size, holes })
+    } else {
+        None
+    }
+}
+
+/// The format of pages, what of them it shows: one printer or all (0), one sheet or all (0), the lines above the first row and
+/// the paper of a document. `None` where a number means no such setting, or the format cannot show this part.
+pub fn shown_for(format: u8, device: u8, sheet: u64, top: u8, paper: u8) -> Option<Format>
+    ensures { result ≡ shown_of format device sheet top paper }
 {
     let Some(format) = format_for(format) else {
         return None;
@@ -156,9 +184,13 @@ pub fn shown_for(format: u8, device: u8, sheet: u64) -> Option<Format>
     let Some(device) = device_for(device) else {
         return None;
     };
+    let Some(layout) = layout_for(top, paper) else {
+        return None;
+    };
     format.showing(Part {
         device,
         sheet: sheet_for(sheet),
+        layout,
     })
 }
 

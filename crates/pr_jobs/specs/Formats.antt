@@ -1,7 +1,7 @@
 -- Trusted: the text of an outcome in each format, and of each part of its pages; pictures draw characters of some shapes.
 use Rattle.std.specs.Prelude.{ℕ, ◌-◌, Bool, true, false, List, ◌&&◌, ◌||◌, not, length, nat_le, nat_lt, if◌then◌else◌, Option, Some, None, Result, Ok, Err}
 use Rattle.pr_page.specs.declared.paper.Paper.{Paper}
-use Rattle.pr_dots.specs.Sheets.{sheets_of}
+use Rattle.pr_dots.specs.Sheets.{lowered, sheets_of}
 use Rattle.pr_dots.specs.declared.character_sets.Shapes.{Shapes}
 use Rattle.pr_serial.specs.declared.Present.{Present}
 use Rattle.pr_system.specs.Headline.{empty_paper}
@@ -15,6 +15,7 @@ use Rattle.pr_jobs.specs.PageText.{page_text}
 use Rattle.pr_render.specs.declared.format.Device.{Device}
 use Rattle.pr_render.specs.declared.format.Device.TheVariants.{Four, Five}
 use Rattle.pr_render.specs.declared.format.Format.{Format}
+use Rattle.pr_render.specs.declared.format.Layout.{Layout}
 use Rattle.pr_render.specs.declared.format.Format.TheVariants as format
 use Rattle.pr_jobs.specs.declared.fault.PictureFault.{PictureFault}
 use Rattle.pr_jobs.specs.declared.fault.PictureFault.TheVariants.{NoSuchSheet, TooLarge}
@@ -44,7 +45,8 @@ is_second outcome drawn =
 abbrev pub first_paper : Outcome → Present → Paper
 first_paper outcome drawn = if is_second outcome drawn then outcome.paper5 else outcome.paper4
 
--- a sheet of a paper by its number from 1, counted from 0; or how many sheets there are, if it has none of this number
+-- a sheet of a paper by its number from 1, counted from 0; or how many sheets there are, if it has none of this number. The
+-- first row of the paper has its distance from the upper edge of the first sheet
 abbrev pub sheet_at : Paper → ℕ → Result ℕ PictureFault
 sheet_at paper sheet =
     if nat_le 1 sheet && nat_le sheet (sheets_of paper) then Ok (sheet - 1) else Err (NoSuchSheet (sheets_of paper))
@@ -63,32 +65,33 @@ abbrev pub or_first : Option ℕ → ℕ
 or_first None = 1
 or_first (Some sheet) = sheet
 
--- the SVG document of all pages, or of one sheet
-abbrev pub svg_part : Shapes → Option ℕ → Present → Outcome → Result (List ℕ) PictureFault
-svg_part shapes None present outcome = Ok (svg_of shapes outcome present)
-svg_part shapes (Some sheet) present outcome =
-    sheet_of (sheet_svg_of shapes) sheet (first_paper outcome (drawn_of outcome present))
+-- the SVG document of all pages, or of one sheet; the first row is `top` lines of 1/6 inch below the upper edge
+abbrev pub svg_part : Shapes → (top : ℕ) → Option ℕ → Present → Outcome → Result (List ℕ) PictureFault
+svg_part shapes top None present outcome = Ok (svg_of shapes top outcome present)
+svg_part shapes top (Some sheet) present outcome =
+    sheet_of (sheet_svg_of shapes) sheet (lowered top (first_paper outcome (drawn_of outcome present)))
 
 -- a sheet as a bitmap
-abbrev pub png_part : Shapes → Option ℕ → Present → Outcome → Result (List ℕ) PictureFault
-png_part shapes sheet present outcome =
-    sheet_of (png_of shapes) (or_first sheet) (first_paper outcome (drawn_of outcome present))
+abbrev pub png_part : Shapes → (top : ℕ) → Option ℕ → Present → Outcome → Result (List ℕ) PictureFault
+png_part shapes top sheet present outcome =
+    sheet_of (png_of shapes) (or_first sheet) (lowered top (first_paper outcome (drawn_of outcome present)))
 
 -- a document, if it is not too long
 abbrev pub if_short : List ℕ → Result (List ℕ) PictureFault
 if_short file = if nat_le (length file) file_limit then Ok file else Err TooLarge
 
 -- the sheets of the printers that the picture draws, as one document
-abbrev pub pdf_part : Shapes → Present → Outcome → Result (List ℕ) PictureFault
-pdf_part shapes present outcome = if_short (pdf_of shapes outcome.paper4 outcome.paper5 (drawn_of outcome present))
+abbrev pub pdf_part : Shapes → Layout → Present → Outcome → Result (List ℕ) PictureFault
+pdf_part shapes layout present outcome =
+    if_short (pdf_of shapes layout.size layout.holes (lowered layout.top outcome.paper4) (lowered layout.top outcome.paper5) (drawn_of outcome present))
 
 -- the page text, lines of 80 columns, or a picture: all but the first show the sheets of the printers that are present
 abbrev pub text_in : Shapes → Format → Present → Outcome → Result (List ℕ) PictureFault
 text_in shapes format.List present outcome = Ok (page_text outcome)
 text_in shapes format.Lines present outcome = Ok (text_of outcome present)
 text_in shapes (format.Svg part) present outcome =
-    svg_part shapes part.sheet (shown_of part.device present) (left_to part.device outcome)
+    svg_part shapes part.layout.top part.sheet (shown_of part.device present) (left_to part.device outcome)
 text_in shapes (format.Png part) present outcome =
-    png_part shapes part.sheet (shown_of part.device present) (left_to part.device outcome)
-text_in shapes (format.Pdf device) present outcome =
-    pdf_part shapes (shown_of device present) (left_to device outcome)
+    png_part shapes part.layout.top part.sheet (shown_of part.device present) (left_to part.device outcome)
+text_in shapes (format.Pdf device layout) present outcome =
+    pdf_part shapes layout (shown_of device present) (left_to device outcome)

@@ -2,6 +2,7 @@
 
 ghost use Rattle.std.specs.Prelude.{◌≡◌};
 ghost use Rattle.pr_jobs.specs.Formats.{first_paper, has_rows, is_second, left_to, or_first, pdf_part, png_part, sheet_at, shown_of, svg_part, text_in};
+ghost use Rattle.pr_dots.specs.Sheets.{lowered};
 ghost use Rattle.pr_jobs.specs.Shown.{GivesShown};
 ghost use Rattle.pr_system.specs.Headline.{empty_paper};
 
@@ -12,7 +13,7 @@ use pr_dots::{Shapes, sheets_of};
 use pr_page::{Paper, Sequence};
 use pr_pdf::{PdfFault, pdf};
 use pr_png::png;
-use pr_render::{Device, Format, drawn_of, sheet_svg, svg_blocks};
+use pr_render::{Device, Format, Layout, drawn_of, sheet_svg, svg_blocks};
 use pr_serial::Present;
 use pr_system::Outcome;
 use std::alloc::Global;
@@ -83,15 +84,15 @@ fn first_paper(outcome: &Outcome, drawn: Present) -> &Paper
     }
 }
 
-/// A sheet of a paper by its number from 1, counted from 0.
+/// A sheet of a paper by its number from 1, counted from 0. The first row is `top` lines below the upper edge of the first.
 ///
 /// # Errors
 ///
 /// [`PictureFault::NoSuchSheet`] with how many sheets there are, where the paper has none of this number.
-fn sheet_at(paper: &Paper, sheet: u64) -> Result<u64, PictureFault>
-    ensures { result ≡ sheet_at paper.now sheet }
+fn sheet_at(paper: &Paper, top: u8, sheet: u64) -> Result<u64, PictureFault>
+    ensures { result ≡ sheet_at (lowered top paper.now) sheet }
 {
-    let sheets = sheets_of(paper);
+    let sheets = sheets_of(top, paper);
     if 1 <= sheet && sheet <= sheets {
         Ok(sheet - 1)
     } else {
@@ -103,19 +104,20 @@ fn sheet_at(paper: &Paper, sheet: u64) -> Result<u64, PictureFault>
 fn svg_part(
     alloc: Global,
     shapes: &Shapes,
+    top: u8,
     sheet: Option<u64>,
     present: Present,
     outcome: Outcome,
 ) -> Result<Text, CliFault>
-    ensures { GivesShown (svg_part shapes.now sheet present outcome) result }
+    ensures { GivesShown (svg_part shapes.now top sheet present outcome) result }
 {
     let Some(sheet) = sheet else {
-        let blocks = svg_blocks(alloc, shapes, outcome, present)?;
+        let blocks = svg_blocks(alloc, shapes, top, outcome, present)?;
         return Ok(Text::from_blocks(alloc, blocks));
     };
     let paper = first_paper(&outcome, drawn_of(&outcome, present));
-    let index = sheet_at(paper, sheet)?;
-    let text = sheet_svg(alloc, shapes, paper, index)?;
+    let index = sheet_at(paper, top, sheet)?;
+    let text = sheet_svg(alloc, shapes, paper, top, index)?;
     Ok(Text::from_vec(alloc, text))
 }
 
@@ -123,15 +125,16 @@ fn svg_part(
 fn png_part(
     alloc: Global,
     shapes: &Shapes,
+    top: u8,
     sheet: Option<u64>,
     present: Present,
     outcome: &Outcome,
 ) -> Result<Text, CliFault>
-    ensures { GivesShown (png_part shapes.now sheet present outcome.now) result }
+    ensures { GivesShown (png_part shapes.now top sheet present outcome.now) result }
 {
     let paper = first_paper(outcome, drawn_of(outcome, present));
-    let index = sheet_at(paper, or_first(sheet))?;
-    let file = png(alloc, shapes, paper, index)?;
+    let index = sheet_at(paper, top, or_first(sheet))?;
+    let file = png(alloc, shapes, paper, top, index)?;
     Ok(Text::from_vec(alloc, file))
 }
 
@@ -139,13 +142,21 @@ fn png_part(
 fn pdf_part(
     alloc: Global,
     shapes: &Shapes,
+    layout: Layout,
     present: Present,
     outcome: &Outcome,
 ) -> Result<Text, CliFault>
-    ensures { GivesShown (pdf_part shapes.now present outcome.now) result }
+    ensures { GivesShown (pdf_part shapes.now layout present outcome.now) result }
 {
     let drawn = drawn_of(outcome, present);
-    match pdf(alloc, shapes, &outcome.paper4, &outcome.paper5, drawn) {
+    match pdf(
+        alloc,
+        shapes,
+        &outcome.paper4,
+        &outcome.paper5,
+        layout,
+        drawn,
+    ) {
         Ok(file) => Ok(Text::from_vec(alloc, file)),
         Err(PdfFault::TooLarge) => Err(CliFault::Picture(PictureFault::TooLarge)),
         Err(PdfFault::NoMemory) => Err(CliFault::NoMemory),
@@ -190,6 +201,7 @@ pub fn text_in_format(
             svg_part(
                 alloc,
                 shapes,
+                part.layout.top,
                 part.sheet,
                 shown_of(part.device, present),
                 shown,
@@ -200,14 +212,15 @@ pub fn text_in_format(
             png_part(
                 alloc,
                 shapes,
+                part.layout.top,
                 part.sheet,
                 shown_of(part.device, present),
                 &shown,
             )
         }
-        Format::Pdf(device) => {
+        Format::Pdf(device, layout) => {
             let shown = left_to(alloc, device, outcome);
-            pdf_part(alloc, shapes, shown_of(device, present), &shown)
+            pdf_part(alloc, shapes, layout, shown_of(device, present), &shown)
         }
     }
 }

@@ -102,7 +102,7 @@ pub fn pages_as_over<R: Read, W: Write>(
     let script = read_whole(alloc, input, SCRIPT_LIMIT)?;
     let present = start.present;
     let outcome = outcome_of(alloc, script, start)?;
-    let end = PagesEnd::of(&outcome);
+    let end = PagesEnd::of(format, &outcome);
     let text = text_in_format(alloc, shapes, outcome, present, format)?;
     match text.write_to(output) {
         Ok(()) => Ok(end),

@@ -18,9 +18,11 @@ use Rattle.pr_listing.specs.declared.form.ListingForm.{ListingForm}
 use Rattle.pr_listing.specs.declared.form.ListingForm.TheVariants as form
 use Rattle.pr_render.specs.declared.format.Format.{Format}
 use Rattle.pr_render.specs.declared.format.Format.TheVariants as format
-use Rattle.pr_render.specs.Showing.{whole}
+use Rattle.pr_render.specs.Showing.{usual, whole}
 use Rattle.pr_render.specs.declared.format.Device.{Device}
 use Rattle.pr_render.specs.declared.format.Device.TheVariants as device
+use Rattle.pr_render.specs.declared.format.Size.{Size}
+use Rattle.pr_render.specs.declared.format.Size.TheVariants as size
 use Rattle.pr_capture.specs.declared.format.TraceFormat.{TraceFormat}
 use Rattle.pr_capture.specs.declared.format.TraceFormat.TheVariants as trace
 use Rattle.pr_capture.specs.declared.format.Source.{Source}
@@ -64,7 +66,7 @@ set_of = meaning_of ((codes "upper", false) ∷ (codes "lower", true) ∷ [])
 -- the format of a page: list, text, svg, png or pdf
 abbrev pub format_of : Text → Option Format
 format_of = meaning_of ((codes "list", format.List) ∷ (codes "text", format.Lines)
-    ∷ (codes "svg", format.Svg whole) ∷ (codes "png", format.Png whole) ∷ (codes "pdf", format.Pdf None) ∷ [])
+    ∷ (codes "svg", format.Svg whole) ∷ (codes "png", format.Png whole) ∷ (codes "pdf", format.Pdf None usual) ∷ [])
 
 -- the output of `pages`: a format of its pages, or bytes, printer 4's if no option says more
 abbrev pub pages_output_of : Text → Option PagesOutput
@@ -200,3 +202,15 @@ sheet_numbered n = if n == 0 then None else Some n
 -- the sheet that is drawn: decimal digits that spell a number from 1, below 2^64
 abbrev pub sheet_of : Text → Option ℕ
 sheet_of text = option_and_then sheet_numbered (start_of text)
+
+-- these lines, if a sheet of 66 lines has more
+abbrev pub top_numbered : ℕ → Option ℕ
+top_numbered n = if nat_lt n 66 then Some n else None
+
+-- how many lines the first row is below the upper edge of the paper: decimal digits that spell a number below 66
+abbrev pub top_of : Text → Option ℕ
+top_of text = option_and_then top_numbered (start_of text)
+
+-- the paper of a document: continuous, a4 or letter
+abbrev pub paper_of : Text → Option Size
+paper_of = meaning_of ((codes "continuous", size.Continuous) ∷ (codes "a4", size.A4) ∷ (codes "letter", size.Letter) ∷ [])

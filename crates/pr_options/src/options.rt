@@ -62,6 +62,9 @@ impl Subcommand {
                 Opt::Quiet,
                 Opt::Device,
                 Opt::Sheet,
+                Opt::Top,
+                Opt::Paper,
+                Opt::Holes,
                 Opt::Characters,
             ],
             Subcommand::Bus => &[
@@ -98,6 +101,9 @@ impl Subcommand {
                 Opt::Quiet,
                 Opt::Device,
                 Opt::Sheet,
+                Opt::Top,
+                Opt::Paper,
+                Opt::Holes,
                 Opt::Characters,
                 Opt::Intervals,
                 Opt::Bounds,
@@ -112,6 +118,9 @@ impl Subcommand {
                 Opt::Quiet,
                 Opt::RawDevice,
                 Opt::Sheet,
+                Opt::Top,
+                Opt::Paper,
+                Opt::Holes,
                 Opt::Characters,
             ],
         }
@@ -168,6 +177,12 @@ pub enum Opt {
     RawDevice,
     /// The sheet that a picture shows.
     Sheet,
+    /// The lines above the first row of a picture's paper.
+    Top,
+    /// The paper of a document.
+    Paper,
+    /// A flag: a document shows the holes of continuous paper.
+    Holes,
     /// The file of the shapes of the characters that a picture draws.
     Characters,
     /// A flag: each byte's intervals outside the bounds are written.
@@ -504,6 +519,20 @@ const SHEET_HELP: &str = "The sheet of 11 inches that svg and png draw,\n\
 
 const SHEET_VALUES: &str = "a whole number from 1";
 
+const TOP_HELP: &str = "The lines of 1/6 inch from the paper's upper edge\n\
+     to the first row of svg, png and pdf";
+
+const TOP_VALUES: &str = "a whole number from 0 to 65";
+
+const PAPER_HELP: &str = "The paper of pdf: continuous (9.5 by 11 inches),\n\
+     a4 (a sheet in true size in its middle) or\n\
+     letter (the same at 95 %)";
+
+const PAPER_VALUES: &str = "continuous, a4 or letter";
+
+const HOLES_HELP: &str = "Draws the holes and perforations of continuous\n\
+     paper in pdf";
+
 const CHARACTERS_HELP: &str = "A file with the shapes of characters that svg,\n\
      png and pdf draw\n\
      [default: this project's own]";
@@ -644,6 +673,9 @@ impl Opt {
             Opt::Device => valued("device", "PRINTER", "", DEVICE_VALUES, DEVICE_HELP),
             Opt::RawDevice => valued("device", "PRINTER", "", DEVICE_VALUES, RAW_DEVICE_HELP),
             Opt::Sheet => valued("sheet", "NUMBER", "", SHEET_VALUES, SHEET_HELP),
+            Opt::Top => valued("top", "LINES", "3", TOP_VALUES, TOP_HELP),
+            Opt::Paper => valued("paper", "PAPER", "continuous", PAPER_VALUES, PAPER_HELP),
+            Opt::Holes => bare(Kind::Flag, "holes", "", HOLES_HELP),
             Opt::Characters => bare(Kind::File, "characters", "FILE", CHARACTERS_HELP),
             Opt::Intervals => bare(Kind::Flag, "intervals", "", INTERVALS_HELP),
             Opt::Bounds => valued("bounds", "BOUNDS", "profile", BOUNDS_VALUES, BOUNDS_HELP),

@@ -10,6 +10,7 @@ use Rattle.pr_page.specs.declared.paper.Paper.{Paper}
 use Rattle.pr_page.specs.declared.paper.Placed.{Placed}
 use Rattle.pr_page.specs.declared.paper.Row.{Row}
 use Rattle.pr_dots.specs.Dots.{Dot, bit_dots, column_dots, columns_dots, columns_of, dots_of, has_dot, is_at, row_dots}
+use Rattle.pr_dots.specs.Sheets.{lowered_row}
 use Rattle.pr_dots.specs.declared.character_sets.Shapes.{Shapes}
 use Rattle.pr_png.specs.Marking.{darkened, marked, is_near, ShowsSheet}
 
@@ -227,8 +228,9 @@ far-marks shapes top y (p ∷ marks) dark far =
     (far-columns top p.x y (columns_of shapes p.mark) dark far) (far-marks shapes top y marks dark far)
 
 -- a row that is not near has no dot on the sheet
-pub far_row : (shapes : Shapes) (top : ℕ) (row : Row) (dark : List Bool) → is_near top row.y ≡ false → marked top (row_dots shapes row) dark ≡ dark
-far_row shapes top row dark far = far-marks shapes top row.y row.marks dark far
+pub far_row : (shapes : Shapes) (top above : ℕ) (row : Row) (dark : List Bool) → is_near top (row.y + 21 * above) ≡ false
+    → marked top (row_dots shapes (lowered_row above row)) dark ≡ dark
+far_row shapes top above row dark far = far-marks shapes top (row.y + 21 * above) row.marks dark far
 
 -- dots in two parts, and rows that have none
 pub ruleset dots_in_parts = (common_steps, no_dots, marked_append, far_row)

@@ -138,7 +138,7 @@ fn write_pages<W: Write>(
 {
     let present = pages.present;
     let outcome = papers_alone(alloc, pages);
-    let held = PagesEnd::of(&outcome);
+    let held = PagesEnd::of(format, &outcome);
     let text = text_in_format(alloc, shapes, outcome, present, format)?;
     match text.write_to(output) {
         Ok(()) => {}

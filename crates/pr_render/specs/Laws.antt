@@ -77,13 +77,13 @@ abbrev pub drawn_papers : Outcome → Present → List (ℕ × Paper)
 drawn_papers outcome drawn =
     (if drawn.four then (4, outcome.paper4) ∷ [] else []) ++ (if drawn.five then (5, outcome.paper5) ∷ [] else [])
 
--- a picture determines its papers: where two documents are the same, in whatever shapes, the same printers are
--- drawn, with the same rows and the same marks held
+-- a picture determines its papers: where two documents are the same, in whatever shapes and with whatever lines above, the same
+-- printers are drawn, with the same rows and the same marks held
 abbrev pub PicturesTellPapers : Type 0
 PicturesTellPapers =
-    (shapes other : Shapes) (these those : Outcome) (present around : Present)
+    (shapes other : Shapes) (top lower : ℕ) (these those : Outcome) (present around : Present)
     → is_paper these.paper4 ≡ true → is_paper these.paper5 ≡ true → is_paper those.paper4 ≡ true → is_paper those.paper5 ≡ true
-    → svg_of shapes these present ≡ svg_of other those around
+    → svg_of shapes top these present ≡ svg_of other lower those around
     → drawn_papers these (drawn_of these present) ≡ drawn_papers those (drawn_of those around)
 
 -- the document of one sheet determines the rows that are on it

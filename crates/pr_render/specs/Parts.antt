@@ -25,7 +25,7 @@ document_about =
 -- half an inch of continuous paper, with a hole at each edge and the lines at which the edges tear
 -- off; and the fold at the end of 11 inches
 unfoldable pub paper_piece : List ℕ
-paper_piece = codes "<pattern id=\"paper\" width=\"12600\" height=\"630\" patternUnits=\"userSpaceOnUse\"><rect width=\"12600\" height=\"630\" fill=\"#fff\"/><g fill=\"#e9e6df\" stroke=\"#b4afa2\" stroke-width=\"10\"><circle cx=\"315\" cy=\"315\" r=\"100\"/><circle cx=\"12285\" cy=\"315\" r=\"100\"/><path stroke-dasharray=\"35\" d=\"M630 0v630M11970 0v630\"/></g></pattern>\n<pattern id=\"folds\" y=\"7560\" width=\"12600\" height=\"13860\" patternUnits=\"userSpaceOnUse\"><path stroke=\"#b4afa2\" stroke-width=\"10\" stroke-dasharray=\"70\" d=\"M0 6930h12600\"/></pattern>\n"
+paper_piece = codes "<pattern id=\"paper\" width=\"12600\" height=\"630\" patternUnits=\"userSpaceOnUse\"><rect width=\"12600\" height=\"630\" fill=\"#fff\"/><g fill=\"#e9e6df\" stroke=\"#b4afa2\" stroke-width=\"10\"><circle cx=\"315\" cy=\"315\" r=\"100\"/><circle cx=\"12285\" cy=\"315\" r=\"100\"/><path stroke-dasharray=\"35\" d=\"M630 0v630M11970 0v630\"/></g></pattern>\n<pattern id=\"folds\" y=\"6930\" width=\"12600\" height=\"13860\" patternUnits=\"userSpaceOnUse\"><path stroke=\"#b4afa2\" stroke-width=\"10\" stroke-dasharray=\"70\" d=\"M0 6930h12600\"/></pattern>\n"
 
 -- the desk under the sheets
 unfoldable pub desk : List ℕ
@@ -47,17 +47,18 @@ sheet_name = codes " 1050)\">\n<text font-size=\"210\" fill=\"#555\" y=\"-210\">
 unfoldable pub sheet_paper : List ℕ
 sheet_paper = codes "</text>\n<rect width=\"12600\" height=\""
 
--- the rest of the paper, and its folds below the first line, up to their height
+-- the rest of the paper, and its folds from 1 inch below the upper edge on, up to their height
 unfoldable pub paper_folds : List ℕ
 paper_folds = codes "\" fill=\"url(#paper)\" stroke=\"#b4afa2\" stroke-width=\"10\"/>\n<rect y=\"1260\" width=\"12600\" height=\""
 
--- the rest of the folds, and the group of the sheet's marks
+-- the rest of the folds, and the group of the sheet's marks, up to its distance
 unfoldable pub sheet_marks : List ℕ
-sheet_marks = codes "\" fill=\"url(#folds)\"/>\n<g transform=\"translate(1260 630)\">\n"
+sheet_marks = codes "\" fill=\"url(#folds)\"/>\n<g transform=\"translate(1260 "
 
--- the marks of a sheet: strokes a little wider than a dot column, and letters that are not seen
+-- the marks of a sheet: strokes 29 units wide, as far as the place of a dot, 21 by 20, reaches from corner to corner; and letters that
+-- are not seen
 unfoldable pub ink_begin : List ℕ
-ink_begin = codes "<g stroke-width=\"22\" stroke-linecap=\"round\" fill-opacity=\"0\" font-size=\"140\">\n"
+ink_begin = codes "<g stroke-width=\"29\" stroke-linecap=\"round\" fill-opacity=\"0\" font-size=\"140\">\n"
 
 -- a group at a distance
 unfoldable pub row_begin : List ℕ

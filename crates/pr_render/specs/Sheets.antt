@@ -13,17 +13,17 @@ abbrev pub joined : List (Vec ℕ Global) → List ℕ
 joined blocks = flat_map (λ b. b.items) blocks
 
 -- a sheet up to its rows
-abbrev pub sheet_front : ℕ → ℕ → ℕ → List ℕ
-sheet_front device x picas = name_line device x ++ paper_svg picas ++ ink_begin
+abbrev pub sheet_front : (top device x picas : ℕ) → List ℕ
+sheet_front top device x picas = name_line device x ++ paper_svg top picas ++ ink_begin
 
 -- the rest of a sheet after rows that end here
 abbrev pub sheet_back : ℕ → List Placed → List ℕ
 sheet_back end held = held_svg (end + 21) held ++ codes "</g>\n" ++ held_line end held ++ sheet_end
 
 -- a picture up to its sheets
-abbrev pub picture_front : Shapes → Outcome → Present → List ℕ
-picture_front shapes outcome drawn =
-    head_svg (width_of drawn) (height_of (sheet_picas outcome) outcome)
+abbrev pub picture_front : Shapes → (top : ℕ) → Outcome → Present → List ℕ
+picture_front shapes top outcome drawn =
+    head_svg (width_of drawn) (height_of (sheet_picas top outcome) outcome)
     ++ definitions_svg shapes (drawn_marks outcome drawn)
 
 -- the rest of a picture after its sheets

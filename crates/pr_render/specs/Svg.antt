@@ -173,26 +173,31 @@ paper_end p = rows_end 0 p.rows + held_room p.held
     held_room [] = 0
     held_room (m ∷ ms) = 42
 
--- the length of both sheets in picas: half an inch above and below the longer paper, in whole half inches
-abbrev pub sheet_picas : Outcome → ℕ
-sheet_picas outcome = 3 * ((max (paper_end outcome.paper4) (paper_end outcome.paper5) + 188) / 63)
+-- the length of both sheets in picas: the lines above the first row, the longer paper and half an inch below it, in whole half
+-- inches
+abbrev pub sheet_picas : (top : ℕ) → Outcome → ℕ
+sheet_picas top outcome = 3 * ((max (paper_end outcome.paper4) (paper_end outcome.paper5) + 21 * top + 125) / 63)
 
 -- a sheet's place in the document, and above it the printer's name
 unfoldable pub name_line : ℕ → ℕ → List ℕ
 name_line device x = codes "<g transform=\"translate(" ++ decimal x ++ sheet_name ++ decimal device
 
--- paper of this length in picas, with folds every 11 inches from the first line on
-unfoldable pub paper_svg : ℕ → List ℕ
-paper_svg picas = sheet_paper ++ decimal (210 * picas) ++ paper_folds ++ decimal (210 * (picas - 6)) ++ sheet_marks
+-- where the marks of a sheet begin: these lines of 1/6 inch below the upper edge of the paper
+unfoldable pub marks_place : (top : ℕ) → List ℕ
+marks_place top = sheet_marks ++ decimal (210 * top) ++ codes ")\">\n"
+
+-- paper of this length in picas, with folds every 11 inches from its upper edge on
+unfoldable pub paper_svg : (top picas : ℕ) → List ℕ
+paper_svg top picas = sheet_paper ++ decimal (210 * picas) ++ paper_folds ++ decimal (210 * (picas - 6)) ++ marks_place top
 
 -- the marks of a paper: the rows, and 1/6 inch below them the held marks
 unfoldable pub ink_svg : Paper → List ℕ
 ink_svg p = ink_begin ++ flat_map row_svg p.rows ++ held_svg (rows_end 0 p.rows + 21) p.held ++ codes "</g>\n"
 
 -- a printer's sheet
-unfoldable pub sheet_svg : ℕ → ℕ → ℕ → Paper → List ℕ
-sheet_svg device x picas p =
-    name_line device x ++ paper_svg picas ++ ink_svg p ++ held_line (rows_end 0 p.rows) p.held ++ sheet_end
+unfoldable pub sheet_svg : (top device x picas : ℕ) → Paper → List ℕ
+sheet_svg top device x picas p =
+    name_line device x ++ paper_svg top picas ++ ink_svg p ++ held_line (rows_end 0 p.rows) p.held ++ sheet_end
 
 -- the line of a stop, with its place
 unfoldable pub stop_svg : Option (ℕ × Stop) → List ℕ
@@ -272,15 +277,16 @@ drawn_marks outcome drawn =
 unfoldable pub definitions_svg : Shapes → List Mark → List ℕ
 definitions_svg shapes marks = definitions_begin ++ flat_map (definition_svg shapes) (each_once marks) ++ definitions_end
 
--- the picture with the sheets of these printers, side by side, and the lines below them
-unfoldable pub picture_svg : Shapes → Outcome → Present → List ℕ
-picture_svg shapes outcome drawn =
-    head_svg (width_of drawn) (height_of (sheet_picas outcome) outcome)
+-- the picture with the sheets of these printers, side by side, and the lines below them; the first row of each is `top` lines
+-- of 1/6 inch below the upper edge of its paper
+unfoldable pub picture_svg : Shapes → (top : ℕ) → Outcome → Present → List ℕ
+picture_svg shapes top outcome drawn =
+    head_svg (width_of drawn) (height_of (sheet_picas top outcome) outcome)
     ++ definitions_svg shapes (drawn_marks outcome drawn)
-    ++ text_if drawn.four (sheet_svg 4 630 (sheet_picas outcome) outcome.paper4)
-    ++ text_if drawn.five (sheet_svg 5 (if drawn.four then 13860 else 630) (sheet_picas outcome) outcome.paper5)
-    ++ notes_svg (sheet_picas outcome) outcome ++ codes "</svg>\n"
+    ++ text_if drawn.four (sheet_svg top 4 630 (sheet_picas top outcome) outcome.paper4)
+    ++ text_if drawn.five (sheet_svg top 5 (if drawn.four then 13860 else 630) (sheet_picas top outcome) outcome.paper5)
+    ++ notes_svg (sheet_picas top outcome) outcome ++ codes "</svg>\n"
 
 -- the picture of an outcome whose marks are printed in these shapes
-abbrev pub svg_of : Shapes → Outcome → Present → List ℕ
-svg_of shapes outcome present = picture_svg shapes outcome (drawn_of outcome present)
+abbrev pub svg_of : Shapes → (top : ℕ) → Outcome → Present → List ℕ
+svg_of shapes top outcome present = picture_svg shapes top outcome (drawn_of outcome present)

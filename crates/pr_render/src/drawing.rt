@@ -21,16 +21,16 @@ use pr_serial::Present;
 use pr_system::Outcome;
 use std::alloc::{AllocError, Global};
 
-/// The length of both sheets in picas: half an inch above and below the longer paper, in whole half
-/// inches, so that the holes come out even (profile).
-fn sheet_picas(outcome: &Outcome) -> u128
-    ensures picas { result ≡ sheet_picas outcome.now }
+/// The length of both sheets in picas: the lines above the first row, the longer paper and half an inch below it, in whole
+/// half inches, so that the holes come out even (profile).
+fn sheet_picas(top: u8, outcome: &Outcome) -> u128
+    ensures picas { result ≡ sheet_picas top outcome.now }
     ensures within { result ≤ 18446744073709551678 }
 {
     let end4 = paper_end(&outcome.paper4);
     let end5 = paper_end(&outcome.paper5);
     let end = if end4 < end5 { end5 } else { end4 };
-    3 * ((end + 188) / 63)
+    3 * ((end + 21 * u128::from(top) + 125) / 63)
 }
 
 /// Whether something was printed, or is held.
@@ -150,15 +150,16 @@ fn push_front(
     text: &mut Vec<u8>,
     alloc: Global,
     shapes: &Shapes,
+    top: u8,
     outcome: &Outcome,
     drawn: Present,
 ) -> Result<(), AllocError>
-    ensures { OnOk result (text.new.items ≡ text.old.items ++ picture_front shapes.now outcome.now drawn) }
+    ensures { OnOk result (text.new.items ≡ text.old.items ++ picture_front shapes.now top outcome.now drawn) }
 {
     push_head(
         text,
         width_of(drawn),
-        height_of(sheet_picas(outcome), outcome),
+        height_of(sheet_picas(top, outcome), outcome),
     )?;
     push_definitions(text, alloc, shapes, outcome, drawn)
 }
@@ -185,17 +186,36 @@ fn push_picture(
     text: &mut Vec<u8>,
     alloc: Global,
     shapes: &Shapes,
+    top: u8,
     outcome: &Outcome,
     drawn: Present,
 ) -> Result<(), AllocError>
-    ensures { OnOk result (text.new.items ≡ text.old.items ++ picture_svg shapes.now outcome.now drawn) }
+    ensures { OnOk result (text.new.items ≡ text.old.items ++ picture_svg shapes.now top outcome.now drawn) }
 {
     let texts = Texts::new(alloc)?;
-    let picas = sheet_picas(outcome);
+    let picas = sheet_picas(top, outcome);
     let five = second_x(drawn);
-    push_front(text, alloc, shapes, outcome, drawn)?;
-    push_sheet_if(text, &texts, drawn.four, 4, 630, picas, &outcome.paper4)?;
-    push_sheet_if(text, &texts, drawn.five, 5, five, picas, &outcome.paper5)?;
+    push_front(text, alloc, shapes, top, outcome, drawn)?;
+    push_sheet_if(
+        text,
+        &texts,
+        drawn.four,
+        top,
+        4,
+        630,
+        picas,
+        &outcome.paper4,
+    )?;
+    push_sheet_if(
+        text,
+        &texts,
+        drawn.five,
+        top,
+        5,
+        five,
+        picas,
+        &outcome.paper5,
+    )?;
     push_back(text, picas, outcome)
 }
 
@@ -205,29 +225,35 @@ fn move_picture(
     blocks: &mut Vec<Vec<u8>>,
     alloc: Global,
     shapes: &Shapes,
+    top: u8,
     outcome: Outcome,
     drawn: Present,
 ) -> Result<(), AllocError>
-    ensures { OnOk result (joined blocks.new.items ≡ joined blocks.old.items ++ picture_svg shapes.now outcome drawn) }
+    ensures { OnOk result (joined blocks.new.items ≡ joined blocks.old.items ++ picture_svg shapes.now top outcome drawn) }
 {
     let texts = Texts::new(alloc)?;
-    let picas = sheet_picas(&outcome);
+    let picas = sheet_picas(top, &outcome);
     let five = second_x(drawn);
     let mut front = Vec::new(alloc);
-    push_front(&mut front, alloc, shapes, &outcome, drawn)?;
+    push_front(&mut front, alloc, shapes, top, &outcome, drawn)?;
     let mut back = Vec::new(alloc);
     push_back(&mut back, picas, &outcome)?;
     let Outcome { paper4, paper5, .. } = outcome;
     blocks.push(front)?;
-    move_sheet_if(blocks, alloc, &texts, drawn.four, 4, 630, picas, paper4)?;
-    move_sheet_if(blocks, alloc, &texts, drawn.five, 5, five, picas, paper5)?;
+    move_sheet_if(
+        blocks, alloc, &texts, drawn.four, top, 4, 630, picas, paper4,
+    )?;
+    move_sheet_if(
+        blocks, alloc, &texts, drawn.five, top, 5, five, picas, paper5,
+    )?;
     blocks.push(back)?;
     Ok(())
 }
 
 /// Draws an outcome as an SVG document: the sheets of the printers that are present and have
 /// printed, side by side, with their names above, and below them the stop and the first statuses
-/// that are not 0. If no printer has printed, the sheets of all that are present are drawn.
+/// that are not 0. If no printer has printed, the sheets of all that are present are drawn. The first row of each is `top`
+/// lines of 1/6 inch below the upper edge of its paper, and there is a fold every 11 inches from that edge on.
 ///
 /// Each dot is a disc at its place, and the characters have these shapes; their letters can be
 /// searched and copied. Marks that are held are drawn pale, below a line that says so.
@@ -238,16 +264,18 @@ fn move_picture(
 pub fn svg(
     alloc: Global,
     shapes: &Shapes,
+    top: u8,
     outcome: &Outcome,
     present: Present,
 ) -> Result<Vec<u8>, NoMemory>
-    ensures { IfOk result (λ text. text.items ≡ svg_of shapes.now outcome.now present) }
+    ensures { IfOk result (λ text. text.items ≡ svg_of shapes.now top outcome.now present) }
 {
     let mut text = Vec::new(alloc);
     push_picture(
         &mut text,
         alloc,
         shapes,
+        top,
         outcome,
         drawn_of(outcome, present),
     )?;
@@ -263,13 +291,14 @@ pub fn svg(
 pub fn svg_blocks(
     alloc: Global,
     shapes: &Shapes,
+    top: u8,
     outcome: Outcome,
     present: Present,
 ) -> Result<Vec<Vec<u8>>, NoMemory>
-    ensures { IfOk result (λ blocks. flat_map (λ b. b.items) blocks.items ≡ svg_of shapes.now outcome present) }
+    ensures { IfOk result (λ blocks. flat_map (λ b. b.items) blocks.items ≡ svg_of shapes.now top outcome present) }
 {
     let drawn = drawn_of(&outcome, present);
     let mut blocks = Vec::new(alloc);
-    move_picture(&mut blocks, alloc, shapes, outcome, drawn)?;
+    move_picture(&mut blocks, alloc, shapes, top, outcome, drawn)?;
     Ok(blocks)
 }

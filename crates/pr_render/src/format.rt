@@ -1,7 +1,7 @@
 //! The formats of pages.
 
 ghost use Rattle.std.specs.Prelude.{◌≡◌};
-ghost use Rattle.pr_render.specs.Showing.{showing, whole};
+ghost use Rattle.pr_render.specs.Showing.{showing, top_of, usual, whole};
 
 /// One of the two printers.
 #[derive(Clone, Copy, Debug, PartialEq, Eq)]
@@ -12,13 +12,37 @@ pub enum Device {
     Five,
 }
 
-/// What of the pages a picture shows.
+/// The paper of a document.
+#[derive(Clone, Copy, Debug, PartialEq, Eq)]
+pub enum Size {
+    /// Continuous paper, 9.5 by 11 inches.
+    Continuous,
+    /// A4, with a sheet in true size in its middle.
+    A4,
+    /// Letter, with a sheet at 95 % in its middle.
+    Letter,
+}
+
+/// How the pages lie on their paper, and which paper it is.
+#[derive(Clone, Copy, Debug, PartialEq, Eq)]
+pub struct Layout {
+    /// How many lines of 1/6 inch the first row is below the upper edge of the paper.
+    pub top: u8,
+    /// The paper of a document.
+    pub size: Size,
+    /// A document has the strips with holes, and the lines at which paper tears off.
+    pub holes: bool,
+}
+
+/// What of the pages a picture shows, and how they lie on their paper.
 #[derive(Clone, Copy, Debug, PartialEq, Eq)]
 pub struct Part {
     /// The one printer whose pages are shown.
     pub device: Option<Device>,
     /// The one sheet of 11 inches that is shown, from 1.
     pub sheet: Option<u64>,
+    /// How the pages lie on their paper.
+    pub layout: Layout,
 }
 
 /// How pages are written, and what of them (profile).
@@ -33,24 +57,51 @@ pub enum Format {
     /// One sheet as a bitmap: sheet 1 where none is named.
     Png(Part),
     /// The sheets of all printers, or of one, as a PDF document.
-    Pdf(Option<Device>),
+    Pdf(Option<Device>, Layout),
+}
+
+impl Layout {
+    /// The first row is 3 lines, half an inch, below the upper edge, as people put their paper in, and a document has
+    /// continuous paper without its holes (profile).
+    pub fn usual() -> Layout
+        ensures { result ≡ usual }
+    {
+        Layout {
+            top: 3,
+            size: Size::Continuous,
+            holes: false,
+        }
+    }
 }
 
 impl Part {
-    /// All of the pages.
+    /// All of the pages, on paper as people put it in.
     pub fn whole() -> Part
         ensures { result ≡ whole }
     {
         Part {
             device: None,
             sheet: None,
+            layout: Layout::usual(),
         }
     }
 }
 
 impl Format {
+    /// How many lines of 1/6 inch the first row is below the upper edge of the paper: 0 for the list and the lines, which show
+    /// no paper.
+    pub fn top(self) -> u8
+        ensures { result ≡ top_of self }
+    {
+        match self {
+            Format::List | Format::Lines => 0,
+            Format::Svg(part) | Format::Png(part) => part.layout.top,
+            Format::Pdf(_, layout) => layout.top,
+        }
+    }
+
     /// The same format of this part of the pages, or `None` where the format has no such part: the list and the lines show
-    /// all pages, and a PDF document has no single sheet.
+    /// all pages, without their paper, and a PDF document has no single sheet.
     pub fn showing(self, part: Part) -> Option<Format>
         ensures { result ≡ showing self part }
     {
@@ -59,7 +110,7 @@ impl Format {
             (Format::Lines, None, None) => Some(Format::Lines),
             (Format::Svg(_), _, _) => Some(Format::Svg(part)),
             (Format::Png(_), _, _) => Some(Format::Png(part)),
-            (Format::Pdf(_), device, None) => Some(Format::Pdf(device)),
+            (Format::Pdf(_, _), device, None) => Some(Format::Pdf(device, part.layout)),
             _ => None,
         }
     }

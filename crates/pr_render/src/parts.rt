@@ -52,7 +52,7 @@ pub fn document_about() -> &'static [u8]
 pub fn paper_piece() -> &'static [u8]
     ensures { result.now ≡ paper_piece }
 {
-    b"<pattern id=\"paper\" width=\"12600\" height=\"630\" patternUnits=\"userSpaceOnUse\"><rect width=\"12600\" height=\"630\" fill=\"#fff\"/><g fill=\"#e9e6df\" stroke=\"#b4afa2\" stroke-width=\"10\"><circle cx=\"315\" cy=\"315\" r=\"100\"/><circle cx=\"12285\" cy=\"315\" r=\"100\"/><path stroke-dasharray=\"35\" d=\"M630 0v630M11970 0v630\"/></g></pattern>\n<pattern id=\"folds\" y=\"7560\" width=\"12600\" height=\"13860\" patternUnits=\"userSpaceOnUse\"><path stroke=\"#b4afa2\" stroke-width=\"10\" stroke-dasharray=\"70\" d=\"M0 6930h12600\"/></pattern>\n"
+    b"<pattern id=\"paper\" width=\"12600\" height=\"630\" patternUnits=\"userSpaceOnUse\"><rect width=\"12600\" height=\"630\" fill=\"#fff\"/><g fill=\"#e9e6df\" stroke=\"#b4afa2\" stroke-width=\"10\"><circle cx=\"315\" cy=\"315\" r=\"100\"/><circle cx=\"12285\" cy=\"315\" r=\"100\"/><path stroke-dasharray=\"35\" d=\"M630 0v630M11970 0v630\"/></g></pattern>\n<pattern id=\"folds\" y=\"6930\" width=\"12600\" height=\"13860\" patternUnits=\"userSpaceOnUse\"><path stroke=\"#b4afa2\" stroke-width=\"10\" stroke-dasharray=\"70\" d=\"M0 6930h12600\"/></pattern>\n"
 }
 
 /// The desk under the sheets.
@@ -95,7 +95,7 @@ pub fn sheet_paper() -> &'static [u8]
     b"</text>\n<rect width=\"12600\" height=\""
 }
 
-/// The rest of the paper, and its folds below the first line, up to their height.
+/// The rest of the paper, and its folds from 1 inch below the upper edge on, up to their height.
 #[tactic(auto, unfolding(crate::specs::Parts::paper_folds))]
 pub fn paper_folds() -> &'static [u8]
     ensures { result.now ≡ paper_folds }
@@ -103,20 +103,21 @@ pub fn paper_folds() -> &'static [u8]
     b"\" fill=\"url(#paper)\" stroke=\"#b4afa2\" stroke-width=\"10\"/>\n<rect y=\"1260\" width=\"12600\" height=\""
 }
 
-/// The rest of the folds, and the group of the sheet's marks.
+/// The rest of the folds, and the group of the sheet's marks, up to its distance.
 #[tactic(auto, unfolding(crate::specs::Parts::sheet_marks))]
 pub fn sheet_marks() -> &'static [u8]
     ensures { result.now ≡ sheet_marks }
 {
-    b"\" fill=\"url(#folds)\"/>\n<g transform=\"translate(1260 630)\">\n"
+    b"\" fill=\"url(#folds)\"/>\n<g transform=\"translate(1260 "
 }
 
-/// The marks of a sheet: strokes a little wider than a dot column, and letters that are not seen.
+/// The marks of a sheet: strokes 29 units wide, as far as the place of a dot, 21 by 20, reaches from corner to corner; and letters
+/// that are not seen.
 #[tactic(auto, unfolding(crate::specs::Parts::ink_begin))]
 pub fn ink_begin() -> &'static [u8]
     ensures { result.now ≡ ink_begin }
 {
-    b"<g stroke-width=\"22\" stroke-linecap=\"round\" fill-opacity=\"0\" font-size=\"140\">\n"
+    b"<g stroke-width=\"29\" stroke-linecap=\"round\" fill-opacity=\"0\" font-size=\"140\">\n"
 }
 
 /// A group at a distance.

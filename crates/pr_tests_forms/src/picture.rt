@@ -34,7 +34,7 @@ const BEGIN: &str = "<svg xmlns=\"http://www.w3.org/2000/svg\" version=\"1.1\" "
 
 /// What is between its size and the definitions of marks.
 const ABOUT: &str =
-    ">\n<desc>Pages of VIC-1525 printers. Each dot is where the hammer strikes.</desc>\n<pattern id=\"paper\" width=\"12600\" height=\"630\" patternUnits=\"userSpaceOnUse\"><rect width=\"12600\" height=\"630\" fill=\"#fff\"/><g fill=\"#e9e6df\" stroke=\"#b4afa2\" stroke-width=\"10\"><circle cx=\"315\" cy=\"315\" r=\"100\"/><circle cx=\"12285\" cy=\"315\" r=\"100\"/><path stroke-dasharray=\"35\" d=\"M630 0v630M11970 0v630\"/></g></pattern>\n<pattern id=\"folds\" y=\"7560\" width=\"12600\" height=\"13860\" patternUnits=\"userSpaceOnUse\"><path stroke=\"#b4afa2\" stroke-width=\"10\" stroke-dasharray=\"70\" d=\"M0 6930h12600\"/></pattern>\n<rect width=\"100%\" height=\"100%\" fill=\"#e9e6df\"/>\n<defs>\n";
+    ">\n<desc>Pages of VIC-1525 printers. Each dot is where the hammer strikes.</desc>\n<pattern id=\"paper\" width=\"12600\" height=\"630\" patternUnits=\"userSpaceOnUse\"><rect width=\"12600\" height=\"630\" fill=\"#fff\"/><g fill=\"#e9e6df\" stroke=\"#b4afa2\" stroke-width=\"10\"><circle cx=\"315\" cy=\"315\" r=\"100\"/><circle cx=\"12285\" cy=\"315\" r=\"100\"/><path stroke-dasharray=\"35\" d=\"M630 0v630M11970 0v630\"/></g></pattern>\n<pattern id=\"folds\" y=\"6930\" width=\"12600\" height=\"13860\" patternUnits=\"userSpaceOnUse\"><path stroke=\"#b4afa2\" stroke-width=\"10\" stroke-dasharray=\"70\" d=\"M0 6930h12600\"/></pattern>\n<rect width=\"100%\" height=\"100%\" fill=\"#e9e6df\"/>\n<defs>\n";
 
 /// The definition of `A`.
 pub const DEFINED_A: &str =
@@ -66,14 +66,14 @@ const SECOND: &str = "<g transform=\"translate(13860 1050)\">\n";
 
 /// The sheet of printer 4 up to the marks of its only row.
 const FOUR_BEGIN: &str =
-    "<text font-size=\"210\" fill=\"#555\" y=\"-210\">Printer 4</text>\n<rect width=\"12600\" height=\"1890\" fill=\"url(#paper)\" stroke=\"#b4afa2\" stroke-width=\"10\"/>\n<rect y=\"1260\" width=\"12600\" height=\"630\" fill=\"url(#folds)\"/>\n<g transform=\"translate(1260 630)\">\n<g stroke-width=\"22\" stroke-linecap=\"round\" fill-opacity=\"0\" font-size=\"140\">\n<g transform=\"translate(0 0)\">\n";
+    "<text font-size=\"210\" fill=\"#555\" y=\"-210\">Printer 4</text>\n<rect width=\"12600\" height=\"1890\" fill=\"url(#paper)\" stroke=\"#b4afa2\" stroke-width=\"10\"/>\n<rect y=\"1260\" width=\"12600\" height=\"630\" fill=\"url(#folds)\"/>\n<g transform=\"translate(1260 630)\">\n<g stroke-width=\"29\" stroke-linecap=\"round\" fill-opacity=\"0\" font-size=\"140\">\n<g transform=\"translate(0 0)\">\n";
 
 /// What follows them.
 const FOUR_END: &str = "</g>\n</g>\n</g>\n</g>\n";
 
 /// The sheet of printer 5, which holds an `a`.
 const FIVE_SHEET: &str =
-    "<text font-size=\"210\" fill=\"#555\" y=\"-210\">Printer 5</text>\n<rect width=\"12600\" height=\"1890\" fill=\"url(#paper)\" stroke=\"#b4afa2\" stroke-width=\"10\"/>\n<rect y=\"1260\" width=\"12600\" height=\"630\" fill=\"url(#folds)\"/>\n<g transform=\"translate(1260 630)\">\n<g stroke-width=\"22\" stroke-linecap=\"round\" fill-opacity=\"0\" font-size=\"140\">\n<g opacity=\".4\" transform=\"translate(0 210)\">\n<use href=\"#l65\" x=\"0\"/>\n<text x=\"0\" y=\"140\" textLength=\"126\" lengthAdjust=\"spacingAndGlyphs\" xml:space=\"preserve\">a</text>\n</g>\n</g>\n<g transform=\"translate(0 0)\">\n<path stroke=\"#a33\" stroke-width=\"20\" stroke-dasharray=\"126\" d=\"M0 60h10080\"/>\n<text font-size=\"120\" fill=\"#a33\" x=\"7350\" y=\"200\">held by the printer, not yet printed</text>\n</g>\n</g>\n</g>\n";
+    "<text font-size=\"210\" fill=\"#555\" y=\"-210\">Printer 5</text>\n<rect width=\"12600\" height=\"1890\" fill=\"url(#paper)\" stroke=\"#b4afa2\" stroke-width=\"10\"/>\n<rect y=\"1260\" width=\"12600\" height=\"630\" fill=\"url(#folds)\"/>\n<g transform=\"translate(1260 630)\">\n<g stroke-width=\"29\" stroke-linecap=\"round\" fill-opacity=\"0\" font-size=\"140\">\n<g opacity=\".4\" transform=\"translate(0 210)\">\n<use href=\"#l65\" x=\"0\"/>\n<text x=\"0\" y=\"140\" textLength=\"126\" lengthAdjust=\"spacingAndGlyphs\" xml:space=\"preserve\">a</text>\n</g>\n</g>\n<g transform=\"translate(0 0)\">\n<path stroke=\"#a33\" stroke-width=\"20\" stroke-dasharray=\"126\" d=\"M0 60h10080\"/>\n<text font-size=\"120\" fill=\"#a33\" x=\"7350\" y=\"200\">held by the printer, not yet printed</text>\n</g>\n</g>\n</g>\n";
 
 /// What is below the sheets.
 const BELOW: &str =
@@ -93,11 +93,11 @@ const LETTER_EDGE: &str =
 
 /// The sheet with rows at several distances, and what is below it.
 const DISTANCES: &str =
-    "<text font-size=\"210\" fill=\"#555\" y=\"-210\">Printer 4</text>\n<rect width=\"12600\" height=\"3150\" fill=\"url(#paper)\" stroke=\"#b4afa2\" stroke-width=\"10\"/>\n<rect y=\"1260\" width=\"12600\" height=\"1890\" fill=\"url(#folds)\"/>\n<g transform=\"translate(1260 630)\">\n<g stroke-width=\"22\" stroke-linecap=\"round\" fill-opacity=\"0\" font-size=\"140\">\n<g transform=\"translate(0 210)\">\n<use href=\"#u65\" x=\"0\"/>\n<text x=\"0\" y=\"140\" textLength=\"126\" lengthAdjust=\"spacingAndGlyphs\" xml:space=\"preserve\">A</text>\n</g>\n<g transform=\"translate(0 420)\">\n</g>\n<g transform=\"translate(0 560)\">\n<use href=\"#d1\" x=\"0\"/>\n</g>\n<g transform=\"translate(0 1180)\">\n<use href=\"#u66\" x=\"126\"/>\n<text x=\"126\" y=\"140\" textLength=\"126\" lengthAdjust=\"spacingAndGlyphs\" xml:space=\"preserve\">B</text>\n</g>\n<g transform=\"translate(0 1600)\">\n<use href=\"#u67\" x=\"252\"/>\n<text x=\"252\" y=\"140\" textLength=\"126\" lengthAdjust=\"spacingAndGlyphs\" xml:space=\"preserve\">C</text>\n</g>\n</g>\n</g>\n</g>\n<text font-size=\"210\" fill=\"#555\" transform=\"translate(630 4410)\">\n</text>\n</svg>\n";
+    "<text font-size=\"210\" fill=\"#555\" y=\"-210\">Printer 4</text>\n<rect width=\"12600\" height=\"3150\" fill=\"url(#paper)\" stroke=\"#b4afa2\" stroke-width=\"10\"/>\n<rect y=\"1260\" width=\"12600\" height=\"1890\" fill=\"url(#folds)\"/>\n<g transform=\"translate(1260 630)\">\n<g stroke-width=\"29\" stroke-linecap=\"round\" fill-opacity=\"0\" font-size=\"140\">\n<g transform=\"translate(0 210)\">\n<use href=\"#u65\" x=\"0\"/>\n<text x=\"0\" y=\"140\" textLength=\"126\" lengthAdjust=\"spacingAndGlyphs\" xml:space=\"preserve\">A</text>\n</g>\n<g transform=\"translate(0 420)\">\n</g>\n<g transform=\"translate(0 560)\">\n<use href=\"#d1\" x=\"0\"/>\n</g>\n<g transform=\"translate(0 1180)\">\n<use href=\"#u66\" x=\"126\"/>\n<text x=\"126\" y=\"140\" textLength=\"126\" lengthAdjust=\"spacingAndGlyphs\" xml:space=\"preserve\">B</text>\n</g>\n<g transform=\"translate(0 1600)\">\n<use href=\"#u67\" x=\"252\"/>\n<text x=\"252\" y=\"140\" textLength=\"126\" lengthAdjust=\"spacingAndGlyphs\" xml:space=\"preserve\">C</text>\n</g>\n</g>\n</g>\n</g>\n<text font-size=\"210\" fill=\"#555\" transform=\"translate(630 4410)\">\n</text>\n</svg>\n";
 
 /// Two empty sheets, and what is below them.
 const EMPTY: &str =
-    "<g transform=\"translate(630 1050)\">\n<text font-size=\"210\" fill=\"#555\" y=\"-210\">Printer 4</text>\n<rect width=\"12600\" height=\"1260\" fill=\"url(#paper)\" stroke=\"#b4afa2\" stroke-width=\"10\"/>\n<rect y=\"1260\" width=\"12600\" height=\"0\" fill=\"url(#folds)\"/>\n<g transform=\"translate(1260 630)\">\n<g stroke-width=\"22\" stroke-linecap=\"round\" fill-opacity=\"0\" font-size=\"140\">\n</g>\n</g>\n</g>\n<g transform=\"translate(13860 1050)\">\n<text font-size=\"210\" fill=\"#555\" y=\"-210\">Printer 5</text>\n<rect width=\"12600\" height=\"1260\" fill=\"url(#paper)\" stroke=\"#b4afa2\" stroke-width=\"10\"/>\n<rect y=\"1260\" width=\"12600\" height=\"0\" fill=\"url(#folds)\"/>\n<g transform=\"translate(1260 630)\">\n<g stroke-width=\"22\" stroke-linecap=\"round\" fill-opacity=\"0\" font-size=\"140\">\n</g>\n</g>\n</g>\n<text font-size=\"210\" fill=\"#555\" transform=\"translate(630 2520)\">\n</text>\n</svg>\n";
+    "<g transform=\"translate(630 1050)\">\n<text font-size=\"210\" fill=\"#555\" y=\"-210\">Printer 4</text>\n<rect width=\"12600\" height=\"1260\" fill=\"url(#paper)\" stroke=\"#b4afa2\" stroke-width=\"10\"/>\n<rect y=\"1260\" width=\"12600\" height=\"0\" fill=\"url(#folds)\"/>\n<g transform=\"translate(1260 630)\">\n<g stroke-width=\"29\" stroke-linecap=\"round\" fill-opacity=\"0\" font-size=\"140\">\n</g>\n</g>\n</g>\n<g transform=\"translate(13860 1050)\">\n<text font-size=\"210\" fill=\"#555\" y=\"-210\">Printer 5</text>\n<rect width=\"12600\" height=\"1260\" fill=\"url(#paper)\" stroke=\"#b4afa2\" stroke-width=\"10\"/>\n<rect y=\"1260\" width=\"12600\" height=\"0\" fill=\"url(#folds)\"/>\n<g transform=\"translate(1260 630)\">\n<g stroke-width=\"29\" stroke-linecap=\"round\" fill-opacity=\"0\" font-size=\"140\">\n</g>\n</g>\n</g>\n<text font-size=\"210\" fill=\"#555\" transform=\"translate(630 2520)\">\n</text>\n</svg>\n";
 
 /// The end of the picture of `each_growth_refused`.
 const GROWN: &str =
@@ -156,7 +156,7 @@ fn printed(rt: &impl AllocGlobal, paper4: Paper, held5: Sequence<Placed>) -> Out
 
 /// The picture of what a run leaves.
 fn drawn(rt: &(impl Abort + AllocGlobal), outcome: &Outcome, present: Present) -> Vec<u8> {
-    svg(rt.alloc(), &Shapes::own(), outcome, present).expect(rt, "memory")
+    svg(rt.alloc(), &Shapes::own(), 3, outcome, present).expect(rt, "memory")
 }
 
 /// Its lines.
@@ -324,7 +324,7 @@ fn printers_that_printed_nothing(rt: HostRuntime) {
 /// The blocks of a picture, one after the other.
 fn drawn_in_blocks(rt: &(impl Abort + AllocGlobal), outcome: Outcome, present: Present) -> Vec<u8> {
     let mut bytes = Vec::new(rt.alloc());
-    let blocks = svg_blocks(rt.alloc(), &Shapes::own(), outcome, present).expect(rt, "memory");
+    let blocks = svg_blocks(rt.alloc(), &Shapes::own(), 3, outcome, present).expect(rt, "memory");
     for block in blocks {
         bytes.extend_from_slice(&block).expect(rt, "memory");
     }
@@ -358,7 +358,7 @@ fn laws(_rt: HostRuntime) {
 
 /// How many calls are refused memory. Each other one gives what it gives with ample memory.
 fn refusals(rt: &(impl Abort + AllocGlobal), outcome: &Outcome) -> usize {
-    let drawn = svg(rt.alloc(), &Shapes::own(), outcome, FOUR);
+    let drawn = svg(rt.alloc(), &Shapes::own(), 3, outcome, FOUR);
     let said = text(rt.alloc(), outcome, FOUR);
     let mut refused = 0;
     match drawn {

@@ -1,6 +1,6 @@
 //! The page text of an outcome, and sheets that are not there.
 
-use crate::cli::calls::{Call, typical};
+use crate::cli::calls::{Call, LAYOUT, typical};
 use pr_basic::{StatusMode, read_script};
 use pr_jobs::{CliFault, PictureFault, pages_text};
 use pr_render::{Device, Format, Part};
@@ -40,14 +40,17 @@ fn sheets_that_are_not_there(rt: HostRuntime) {
     const SECOND: Part = Part {
         device: None,
         sheet: Some(2),
+        layout: LAYOUT,
     };
     const NONE_OF_ALL: Part = Part {
         device: None,
         sheet: Some(0),
+        layout: LAYOUT,
     };
     const NONE_OF_FOUR: Part = Part {
         device: Some(Device::Four),
         sheet: Some(0),
+        layout: LAYOUT,
     };
     for format in [
         Format::Svg(SECOND),
