@@ -58,9 +58,14 @@ struct settings : print1525_settings {
         top = lines;
         return *this;
     }
-    // The paper of a document.
+    // The paper of a document, or whether a PNG file has holes.
     settings &prints_on(print1525_paper sheets) {
         paper = static_cast<std::uint8_t>(sheets);
+        return *this;
+    }
+    // The pixels of a PNG file for the place of a dot, across and down.
+    settings &scales(std::uint8_t pixels) {
+        scale = pixels;
         return *this;
     }
     settings &reads(print1525_recording format) {

@@ -46,7 +46,8 @@ struct RawSettings {
     inverted: u8,
     paper: u8,
     top: u8,
-    reserved: [u8; 2],
+    scale: u8,
+    reserved: [u8; 1],
     sheet: u64,
     start: u64,
     rate: u64,
@@ -370,7 +371,9 @@ pub struct Settings<'a> {
     pub sheet: u64,
     /// How many lines the first row is below the upper edge of the paper; 3 if none are given.
     pub top: Option<u8>,
-    /// The paper of a document.
+    /// How many pixels a PNG file has for the place of a dot, from 1 to 8; 2 if none are given.
+    pub scale: Option<u8>,
+    /// The paper of a document, or whether a PNG file has holes.
     pub paper: Paper,
     /// What a recording is: its format, the names of ATN, CLOCK and DATA (empty: the usual ones), whether levels are
     /// inverted, the microsecond at which it starts, and samples in a second, or 0.
@@ -407,7 +410,8 @@ impl Settings<'_> {
             inverted: u8::from(self.inverted),
             top: self.top.unwrap_or(3),
             paper: self.paper as u8,
-            reserved: [0; 2],
+            scale: self.scale.unwrap_or(2),
+            reserved: [0; 1],
             sheet: self.sheet,
             start: self.start,
             rate: self.rate,

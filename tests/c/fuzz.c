@@ -133,6 +133,7 @@ static print1525_settings made_settings(uint8_t *memories[4]) {
         made.inverted = (uint8_t)below(2);
         made.sheet = below(4) ? 0 : below(3);
         made.top = (uint8_t)(below(8) ? below(66) : drawn());
+        made.scale = (uint8_t)(below(8) ? 1 + below(8) : drawn());
         made.paper = (uint8_t)(below(8) ? below(4) : drawn());
         made.start = below(4) ? 0 : below(2000);
         made.rate = below(4) ? 0 : drawn() >> below(64);

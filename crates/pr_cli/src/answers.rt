@@ -621,7 +621,7 @@ fn answer_over<R: Read + Drop, W: Write + Drop>(
 }
 
 /// Notes what pages that were drawn have not, or a printer's bytes: of a run's, and of bytes given, what the printers hold,
-/// other sheets, and why they are blank, if notes are written; of a recording's, all that is left out, unless it is quiet.
+/// the other printer, and why they are blank, if notes are written; of a recording's, all that is left out, unless it is quiet.
 fn tell_lacking(
     rt: &impl Eprint,
     view: View,

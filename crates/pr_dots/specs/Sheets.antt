@@ -36,6 +36,15 @@ sheet_count (row ∷ rows) = max (last_sheet row + 1) (sheet_count rows)
 abbrev pub sheets_of : Paper → ℕ
 sheets_of paper = max 1 (sheet_count paper.rows)
 
+-- how many whole lines of 21/126 inch rows take, from the upper edge of the paper to 21/126 inch below the top of the lowest row
+abbrev pub line_count : List Row → ℕ
+line_count [] = 0
+line_count (row ∷ rows) = max ((row.y + 41) / 21) (line_count rows)
+
+-- how many lines a paper has down to there: one without rows has one, and it is empty
+abbrev pub lines_of : Paper → ℕ
+lines_of paper = max 1 (line_count paper.rows)
+
 -- the rows that are on a sheet
 abbrev pub rows_on : ℕ → List Row → List Row
 rows_on sheet rows = filter (is_on sheet) rows

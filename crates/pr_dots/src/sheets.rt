@@ -1,7 +1,7 @@
 //! The sheets of a paper, whose first row is some lines below its upper edge.
 
 ghost use Rattle.std.specs.Prelude.{◌≡◌, ◌+◌, ◌*◌, ◌<◌, ◌≤◌};
-ghost use Rattle.pr_dots.specs.Sheets.{first_sheet, is_on, last_sheet, lowered, lowered_row, lowered_rows, sheet_count, sheets_of};
+ghost use Rattle.pr_dots.specs.Sheets.{first_sheet, is_on, last_sheet, line_count, lines_of, lowered, lowered_row, lowered_rows, sheet_count, sheets_of};
 
 use pr_page::{Paper, Row};
 
@@ -62,5 +62,31 @@ pub fn sheets_of(top: u8, paper: &Paper) -> u64
     ensures { result ≡ sheets_of (lowered top paper.now) }
 {
     let count = sheet_count(top, paper.rows.as_slice());
+    if count == 0 { 1 } else { count }
+}
+
+/// How many whole lines of 1/6 inch rows take, from the upper edge of the paper to 1/6 inch below the top of the lowest row.
+fn line_count(top: u8, rows: &[Row]) -> u64
+    ensures count { result ≡ line_count (lowered_rows top rows.now) }
+    ensures within { result ≤ 878416384462359857 }
+{
+    let mut count = 0;
+    for row in rows {
+        let needed = ((lowered_y(top, row) + 41) / 21) as u64;
+        if count < needed {
+            count = needed;
+        }
+    }
+    count
+}
+
+/// How many whole lines of 1/6 inch a paper has, at least one, from its upper edge to 1/6 inch below the top of the lowest
+/// row. The first row is `top` such lines below the edge. Marks that are held have no place yet.
+pub fn lines_of(top: u8, paper: &Paper) -> u64
+    ensures lines { result ≡ lines_of (lowered top paper.now) }
+    ensures least { 1 ≤ result }
+    ensures within { result ≤ 878416384462359857 }
+{
+    let count = line_count(top, paper.rows.as_slice());
     if count == 0 { 1 } else { count }
 }

@@ -7,6 +7,8 @@ use Rattle.pr_characters.specs.File.{AnswersFile}
 use Rattle.pr_characters.specs.declared.fault.CharactersFault.{CharactersFault}
 use Rattle.pr_dots.specs.Shapes.{own_shapes}
 use Rattle.pr_dots.specs.declared.character_sets.Shapes.{Shapes}
+use Rattle.pr_dots.specs.declared.scale.Scale.{Scale}
+use Rattle.pr_dots.specs.declared.scale.Scale.TheVariants as scale
 use Rattle.pr_listing.specs.declared.form.ListingForm.{ListingForm}
 use Rattle.pr_listing.specs.declared.form.ListingForm.TheVariants as listing
 use Rattle.pr_capture.specs.Found.{found_source}
@@ -80,7 +82,7 @@ form_of form =
     else (if form == 1 then Some listing.Program else (if form == 2 then Some listing.Petcat
     else (if form == 3 then Some listing.Magazine else (if form == 4 then Some listing.Auto else None))))
 
--- the format of pages: the page text, lines of 80 columns, an SVG document, a sheet as a PNG file, or a PDF document
+-- the format of pages: the page text, lines of 80 columns, an SVG document, a PNG file, or a PDF document
 abbrev pub format_of : ℕ → Option Format
 format_of number =
     if number == 0 then Some format.List
@@ -94,7 +96,7 @@ device_of number =
     if number == 0 then Some None
     else (if number == 4 then Some (Some Four) else (if number == 5 then Some (Some Five) else None))
 
--- the paper of a document, and whether it shows its holes: continuous paper without or with them, A4 or letter
+-- the paper of a document, and whether it and a bitmap show its holes: continuous paper without or with them, A4 or letter
 abbrev pub paper_of : ℕ → Option (Size × Bool)
 paper_of number =
     if number == 0 then Some (size.Continuous, false)
@@ -111,21 +113,34 @@ lying_on top (Some paper) =
 abbrev pub layout_of : (top paper : ℕ) → Option Layout
 layout_of top paper = lying_on top (paper_of paper)
 
+-- the pixels of a bitmap for the place of a dot: 1 to 8
+abbrev pub scale_of : ℕ → Option Scale
+scale_of number =
+    if number == 1 then Some scale.One
+    else (if number == 2 then Some scale.Two
+    else (if number == 3 then Some scale.Three
+    else (if number == 4 then Some scale.Four
+    else (if number == 5 then Some scale.Five
+    else (if number == 6 then Some scale.Six
+    else (if number == 7 then Some scale.Seven
+    else (if number == 8 then Some scale.Eight else None)))))))
+
 -- the sheet that is shown: all, or one
 abbrev pub sheet_of : ℕ → Option ℕ
 sheet_of number = if number == 0 then None else Some number
 
 -- a format that shows this part of the pages, if it can
-abbrev pub shown_in : Option Format → Option (Option Device) → (sheet : Option ℕ) → Option Layout → Option Format
-shown_in None device sheet layout = None
-shown_in (Some format) None sheet layout = None
-shown_in (Some format) (Some device) sheet None = None
-shown_in (Some format) (Some device) sheet (Some layout) =
-    showing format (record { device = device; sheet = sheet; layout = layout })
+abbrev pub shown_in : Option Format → Option (Option Device) → (sheet : Option ℕ) → Option Layout → Option Scale → Option Format
+shown_in None device sheet layout scale = None
+shown_in (Some format) None sheet layout scale = None
+shown_in (Some format) (Some device) sheet None scale = None
+shown_in (Some format) (Some device) sheet (Some layout) None = None
+shown_in (Some format) (Some device) sheet (Some layout) (Some scale) =
+    showing format (record { device = device; sheet = sheet; layout = layout; scale = scale })
 
-abbrev pub shown_of : (format device sheet top paper : ℕ) → Option Format
-shown_of format device sheet top paper =
-    shown_in (format_of format) (device_of device) (sheet_of sheet) (layout_of top paper)
+abbrev pub shown_of : (format device sheet top paper scale : ℕ) → Option Format
+shown_of format device sheet top paper scale =
+    shown_in (format_of format) (device_of device) (sheet_of sheet) (layout_of top paper) (scale_of scale)
 
 -- which intervals of a reading have a line: none, or those outside the bounds of the profile or of the guide
 abbrev pub detail_of : ℕ → Option Detail

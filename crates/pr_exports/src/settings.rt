@@ -2,13 +2,13 @@
 
 ghost use Rattle.std.specs.Prelude.{◌≡◌, take};
 ghost use Rattle.pr_capture.specs.Found.{found_source};
-ghost use Rattle.pr_exports.specs.Settings.{AsksShapes, IsInput, check_of, detail_of, device_of, form_of, format_of, layout_of, mode_of, paper_of, presence, rate_of, sheet_of, shown_of, source_of, stop_of, wording_of};
+ghost use Rattle.pr_exports.specs.Settings.{AsksShapes, IsInput, check_of, detail_of, device_of, form_of, format_of, layout_of, mode_of, paper_of, presence, rate_of, scale_of, sheet_of, shown_of, source_of, stop_of, wording_of};
 
 use pr_basic::StatusMode;
 use pr_capture::{Probes, Signals, Source, TraceInput, found_source};
 use pr_channels::Stop;
 use pr_characters::{CharactersFault, read_shapes};
-use pr_dots::Shapes;
+use pr_dots::{Scale, Shapes};
 use pr_listing::ListingForm;
 use pr_options::CheckOutput;
 use pr_recording::Wording;
@@ -108,8 +108,7 @@ pub fn mode_for(is_kept: bool) -> StatusMode
     }
 }
 
-/// The format of pages: 0 the page text, 1 lines of 80 columns, 2 an SVG document, 3 a sheet as a PNG file, 4 a PDF
-/// document.
+/// The format of pages: 0 the page text, 1 lines of 80 columns, 2 an SVG document, 3 a PNG file, 4 a PDF document.
 fn format_for(number: u8) -> Option<Format>
     ensures { result ≡ format_of number }
 {
@@ -145,7 +144,25 @@ fn sheet_for(number: u64) -> Option<u64>
     }
 }
 
-/// The paper of a document, and whether it shows its holes: 0 continuous paper without and 1 with them, 2 A4, 3 letter.
+/// The pixels of a bitmap for the place of a dot, across and down: 1 to 8.
+fn scale_for(number: u8) -> Option<Scale>
+    ensures { result ≡ scale_of number }
+{
+    match number {
+        1 => Some(Scale::One),
+        2 => Some(Scale::Two),
+        3 => Some(Scale::Three),
+        4 => Some(Scale::Four),
+        5 => Some(Scale::Five),
+        6 => Some(Scale::Six),
+        7 => Some(Scale::Seven),
+        8 => Some(Scale::Eight),
+        _ => None,
+    }
+}
+
+/// The paper of a document, and whether it and a bitmap show its holes: 0 continuous paper without and 1 with them, 2 A4, 3
+/// letter.
 fn paper_for(number: u8) -> Option<(Size, bool)>
     ensures { result ≡ paper_of number }
 {
@@ -173,10 +190,18 @@ fn layout_for(top: u8, paper: u8) -> Option<Layout>
     }
 }
 
-/// The format of pages, what of them it shows: one printer or all (0), one sheet or all (0), the lines above the first row and
-/// the paper of a document. `None` where a number means no such setting, or the format cannot show this part.
-pub fn shown_for(format: u8, device: u8, sheet: u64, top: u8, paper: u8) -> Option<Format>
-    ensures { result ≡ shown_of format device sheet top paper }
+/// The format of pages, what of them it shows: one printer or all (0), one sheet or all (0), the lines above the first row, the
+/// paper of a document and the pixels of a bitmap for the place of a dot. `None` where a number means no such setting, or the
+/// format cannot show this part.
+pub fn shown_for(
+    format: u8,
+    device: u8,
+    sheet: u64,
+    top: u8,
+    paper: u8,
+    scale: u8,
+) -> Option<Format>
+    ensures { result ≡ shown_of format device sheet top paper scale }
 {
     let Some(format) = format_for(format) else {
         return None;
@@ -187,10 +212,14 @@ pub fn shown_for(format: u8, device: u8, sheet: u64, top: u8, paper: u8) -> Opti
     let Some(layout) = layout_for(top, paper) else {
         return None;
     };
+    let Some(scale) = scale_for(scale) else {
+        return None;
+    };
     format.showing(Part {
         device,
         sheet: sheet_for(sheet),
         layout,
+        scale,
     })
 }
 

@@ -45,7 +45,7 @@ print_more limit a b d lower p q left n block r k l w f = record {
 
 -- the text of a paper was written, and its end is answered
 pub written_raw : (shapes : Shapes) (lower : Bool) (format : Format) (start : Option (List ℕ)) (paper : Paper) (text : List ℕ) (end : PagesEnd) (old new : Option (List ℕ))
-    → IfSome start (λ bytes. GivesPaper raw_limit lower (Ok paper) bytes) → text_in shapes format four_alone (printed_on paper) ≡ Ok text → end ≡ pages_end format (printed_on paper)
+    → IfSome start (λ bytes. GivesPaper raw_limit lower (Ok paper) bytes) → text_in shapes format four_alone (printed_on paper) ≡ Ok text → end ≡ pages_end (printed_on paper)
     → Appends old new text → IfSome start (λ bytes. AnswersRaw shapes lower format bytes old new (Ok end))
 written_raw shapes lower format start paper text end old new given shown ended written =
     if_known start (λ bytes. GivesPaper raw_limit lower (Ok paper) bytes) (λ bytes. AnswersRaw shapes lower format bytes old new (Ok end)) given

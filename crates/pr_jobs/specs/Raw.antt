@@ -52,7 +52,7 @@ abbrev pub AnswersRaw :
     Shapes → Bool → Format → List ℕ → Option (List ℕ) → Option (List ℕ) → Result PagesEnd CliFault → Type 0
 AnswersRaw shapes lower format bytes old new (Ok end) =
     (text : List ℕ) × (length bytes ≤ raw_limit) × (is : IsRawText shapes lower format bytes text)
-    × (end ≡ pages_end format (printed_on is.paper)) × Appends old new text
+    × (end ≡ pages_end (printed_on is.paper)) × Appends old new text
 AnswersRaw shapes lower format bytes old new (Err (Script fault)) = ⊥
 AnswersRaw shapes lower format bytes old new (Err (Trace fault)) = ⊥
 AnswersRaw shapes lower format bytes old new (Err (Wave fault)) = ⊥

@@ -1,13 +1,10 @@
 -- Trusted: how a run begins, and how it ends.
-use Rattle.std.specs.Prelude.{ℕ, Bool, true, false, not, List, count_by, length, nat_lt, if◌then◌else◌, Option, Some, None}
+use Rattle.std.specs.Prelude.{ℕ, Bool, true, false, not, List, count_by, length, nat_lt, Option, Some, None}
 use Rattle.pr_page.specs.declared.paper.Mark.{Mark}
 use Rattle.pr_page.specs.declared.paper.Mark.TheVariants.{Cell, Dots}
 use Rattle.pr_page.specs.declared.paper.Paper.{Paper}
 use Rattle.pr_page.specs.declared.paper.Placed.{Placed}
-use Rattle.pr_dots.specs.Sheets.{lowered, sheets_of}
-use Rattle.pr_render.specs.Showing.{top_of}
 use Rattle.pr_render.specs.Svg.{all_zero}
-use Rattle.pr_render.specs.declared.format.Format.{Format}
 use Rattle.pr_system.specs.declared.outcome.Outcome.{Outcome}
 use Rattle.pr_serial.specs.declared.Present.{Present}
 use Rattle.pr_bus.specs.declared.wires.Delays.{Delays}
@@ -54,22 +51,17 @@ held_marks marks = record {
   columns = count_by (λ placed. not (is_character placed.mark)) marks;
 }
 
--- how many sheets a paper with a printed row has, where its first row is `top` lines below the upper edge of the first;
--- without one, none
-abbrev pub printed_sheets : (top : ℕ) → Paper → ℕ
-printed_sheets top paper = if has_rows paper then sheets_of (lowered top paper) else 0
+-- whether a row is printed on a paper, and the marks that its printer holds: those of a line that has not ended
+abbrev pub paper_end : Paper → PaperEnd
+paper_end paper = record { is_printed = has_rows paper; held = held_marks paper.held }
 
--- what is on a paper, and the marks that its printer holds: those of a line that has not ended
-abbrev pub paper_end : (top : ℕ) → Paper → PaperEnd
-paper_end top paper = record { sheets = printed_sheets top paper; held = held_marks paper.held }
-
--- how a run ended whose pages were shown in a format, what came of its papers, and whether a byte went to the screen, or a statement called a device that did
+-- how a run ended, what came of its papers, and whether a byte went to the screen, or a statement called a device that did
 -- not answer: its status is not 0
-abbrev pub pages_end : Format → Outcome → PagesEnd
-pages_end format outcome = record {
+abbrev pub pages_end : Outcome → PagesEnd
+pages_end outcome = record {
   run = run_end outcome.stop;
-  four = paper_end (top_of format) outcome.paper4;
-  five = paper_end (top_of format) outcome.paper5;
+  four = paper_end outcome.paper4;
+  five = paper_end outcome.paper5;
   has_screen = nat_lt 0 (length outcome.screen);
   has_unanswered = not (all_zero outcome.statuses);
 }

@@ -1,7 +1,7 @@
 //! The text of a page in each format, and of each part of its pages.
 
 ghost use Rattle.std.specs.Prelude.{◌≡◌};
-ghost use Rattle.pr_jobs.specs.Formats.{first_paper, has_rows, is_second, left_to, or_first, pdf_part, png_part, sheet_at, shown_of, svg_part, text_in};
+ghost use Rattle.pr_jobs.specs.Formats.{first_paper, has_rows, if_low, is_second, left_to, look_of, pdf_part, png_part, sheet_at, shown_of, svg_part, text_in};
 ghost use Rattle.pr_dots.specs.Sheets.{lowered};
 ghost use Rattle.pr_jobs.specs.Shown.{GivesShown};
 ghost use Rattle.pr_system.specs.Headline.{empty_paper};
@@ -12,8 +12,8 @@ use crate::text::Text;
 use pr_dots::{Shapes, sheets_of};
 use pr_page::{Paper, Sequence};
 use pr_pdf::{PdfFault, pdf};
-use pr_png::png;
-use pr_render::{Device, Format, Layout, drawn_of, sheet_svg, svg_blocks};
+use pr_png::{Look, PngFault, paper_png, sheet_png};
+use pr_render::{Device, Format, Layout, Part, drawn_of, sheet_svg, svg_blocks};
 use pr_serial::Present;
 use pr_system::Outcome;
 use std::alloc::Global;
@@ -72,7 +72,7 @@ fn is_second(outcome: &Outcome, drawn: Present) -> bool
     !drawn.four || (drawn.five && (is_blank && has_rows(&outcome.paper5)))
 }
 
-/// The paper of which a sheet is shown: that of the first printer with a printed row of those that the picture draws, or
+/// The paper of which a sheet or a bitmap is shown: that of the first printer with a printed row of those that the picture draws, or
 /// else of the first of them.
 fn first_paper(outcome: &Outcome, drawn: Present) -> &Paper
     ensures { result.now ≡ first_paper outcome.now drawn }
@@ -121,21 +121,52 @@ fn svg_part(
     Ok(Text::from_vec(alloc, text))
 }
 
-/// A sheet as a bitmap, and the first one where none is named.
+/// A paper as a bitmap, whose first row is `top` lines below its upper edge.
+fn whole_png(
+    alloc: Global,
+    shapes: &Shapes,
+    top: u8,
+    look: Look,
+    paper: &Paper,
+) -> Result<Text, CliFault>
+    ensures { GivesShown (if_low shapes.now look (lowered top paper.now)) result }
+{
+    match paper_png(alloc, shapes, paper, top, look) {
+        Ok(file) => Ok(Text::from_vec(alloc, file)),
+        Err(PngFault::TooLarge) => Err(CliFault::Picture(PictureFault::TooLarge)),
+        Err(PngFault::NoMemory) => Err(CliFault::NoMemory),
+    }
+}
+
+/// The paper of one printer as a bitmap, down to its last row, or one sheet of it.
 fn png_part(
     alloc: Global,
     shapes: &Shapes,
     top: u8,
+    look: Look,
     sheet: Option<u64>,
     present: Present,
     outcome: &Outcome,
 ) -> Result<Text, CliFault>
-    ensures { GivesShown (png_part shapes.now top sheet present outcome.now) result }
+    ensures { GivesShown (png_part shapes.now top look sheet present outcome.now) result }
 {
     let paper = first_paper(outcome, drawn_of(outcome, present));
-    let index = sheet_at(paper, top, or_first(sheet))?;
-    let file = png(alloc, shapes, paper, top, index)?;
+    let Some(sheet) = sheet else {
+        return whole_png(alloc, shapes, top, look, paper);
+    };
+    let index = sheet_at(paper, top, sheet)?;
+    let file = sheet_png(alloc, shapes, paper, top, look, index)?;
     Ok(Text::from_vec(alloc, file))
+}
+
+/// How a bitmap is drawn.
+fn look_of(part: Part) -> Look
+    ensures { result ≡ look_of part }
+{
+    Look {
+        scale: part.scale,
+        holes: part.layout.holes,
+    }
 }
 
 /// The sheets of the printers that the picture draws, as one document.
@@ -163,19 +194,9 @@ fn pdf_part(
     }
 }
 
-/// The number of the sheet that is shown.
-fn or_first(sheet: Option<u64>) -> u64
-    ensures { result ≡ or_first sheet }
-{
-    match sheet {
-        None => 1,
-        Some(sheet) => sheet,
-    }
-}
-
 /// The text of an outcome in a format. Lines and pictures show the sheets of the printers that are present, or of the one
-/// that the format names. A sheet is one of the named printer, or else of the first that has printed a row, or else of the
-/// first that holds marks, or else of the first that is present. Pictures draw characters in these shapes.
+/// that the format names. A bitmap or a sheet is one of the named printer, or else of the first that has printed a row, or else
+/// of the first that holds marks, or else of the first that is present. Pictures draw characters in these shapes.
 ///
 /// # Errors
 ///
@@ -213,6 +234,7 @@ pub fn text_in_format(
                 alloc,
                 shapes,
                 part.layout.top,
+                look_of(part),
                 part.sheet,
                 shown_of(part.device, present),
                 &shown,

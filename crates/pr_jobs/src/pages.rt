@@ -76,7 +76,7 @@ fn outcome_of(alloc: Global, script: Vec<u8>, start: Start) -> Result<Outcome, C
 /// - [`CliFault::TooLarge`]: only if the input has more than [`SCRIPT_LIMIT`] bytes.
 /// - [`CliFault::ReadFailed`] exactly if the input has failed, [`CliFault::WriteFailed`] exactly
 ///   if the output has; after the latter a beginning of the text has been written.
-/// - [`CliFault::Picture`]: the pages have no such sheet, or their document is too large; of pictures alone.
+/// - [`CliFault::Picture`]: the pages have no such sheet, or their bitmap or document is too large; of pictures alone.
 /// - [`CliFault::NoMemory`]: memory was refused; never reported as a script's fault.
 ///
 /// After every error but `WriteFailed` nothing has been written.
@@ -102,7 +102,7 @@ pub fn pages_as_over<R: Read, W: Write>(
     let script = read_whole(alloc, input, SCRIPT_LIMIT)?;
     let present = start.present;
     let outcome = outcome_of(alloc, script, start)?;
-    let end = PagesEnd::of(format, &outcome);
+    let end = PagesEnd::of(&outcome);
     let text = text_in_format(alloc, shapes, outcome, present, format)?;
     match text.write_to(output) {
         Ok(()) => Ok(end),

@@ -66,7 +66,7 @@ pub fn raw_over<R: Read, W: Write>(
         five: false,
     };
     let outcome = outcome_with(alloc, paper);
-    let end = PagesEnd::of(format, &outcome);
+    let end = PagesEnd::of(&outcome);
     let text = text_in_format(alloc, shapes, outcome, four_alone, format)?;
     match text.write_to(output) {
         Ok(()) => Ok(end),

@@ -1,16 +1,14 @@
 //! How a run begins, and how it ends.
 
 ghost use Rattle.std.specs.Prelude.{◌≡◌, length, nat_lt};
-ghost use Rattle.pr_jobs.specs.Runs.{ending_at, held_marks, pages_end, paper_end, printed_sheets, run_end};
+ghost use Rattle.pr_jobs.specs.Runs.{ending_at, held_marks, pages_end, paper_end, run_end};
 ghost use Rattle.pr_render.specs.Svg.{all_zero};
 
 use crate::format::has_rows;
 use pr_basic::StatusMode;
 use pr_bus::Delays;
 use pr_channels::Stop;
-use pr_dots::sheets_of;
 use pr_page::{Mark, Paper, Placed};
-use pr_render::Format;
 use pr_serial::Present;
 use pr_system::Outcome;
 
@@ -99,35 +97,22 @@ impl HeldMarks {
     }
 }
 
-/// How many sheets of 11 inches a paper with a printed row has, where its first row is `top` lines below the upper edge of the
-/// first; without one, none.
-fn printed_sheets(top: u8, paper: &Paper) -> u64
-    ensures { result ≡ printed_sheets top paper.now }
-{
-    if has_rows(paper) {
-        sheets_of(top, paper)
-    } else {
-        0
-    }
-}
-
 /// What a printer has printed, and what it holds that was not printed.
 #[derive(Clone, Copy, Debug, PartialEq, Eq)]
 pub struct PaperEnd {
-    /// How many sheets of 11 inches it has printed on: 0 where there is no printed row.
-    pub sheets: u64,
+    /// It has printed a row.
+    pub is_printed: bool,
     /// What it holds.
     pub held: HeldMarks,
 }
 
 impl PaperEnd {
-    /// Returns the end of this paper, whose first row is `top` lines below the upper edge of its first sheet. It takes no
-    /// memory.
-    pub fn of(top: u8, paper: &Paper) -> PaperEnd
-        ensures { result ≡ paper_end top paper.now }
+    /// Returns the end of this paper. It takes no memory.
+    pub fn of(paper: &Paper) -> PaperEnd
+        ensures { result ≡ paper_end paper.now }
     {
         PaperEnd {
-            sheets: printed_sheets(top, paper),
+            is_printed: has_rows(paper),
             held: HeldMarks::of(paper.held.as_slice()),
         }
     }
@@ -163,14 +148,14 @@ pub struct PagesEnd {
 }
 
 impl PagesEnd {
-    /// Returns the end of the pages of this outcome, which are shown in this format. It takes no memory.
-    pub fn of(format: Format, outcome: &Outcome) -> PagesEnd
-        ensures { result ≡ pages_end format outcome.now }
+    /// Returns the end of the pages of this outcome. It takes no memory.
+    pub fn of(outcome: &Outcome) -> PagesEnd
+        ensures { result ≡ pages_end outcome.now }
     {
         PagesEnd {
             run: RunEnd::of(outcome.stop),
-            four: PaperEnd::of(format.top(), &outcome.paper4),
-            five: PaperEnd::of(format.top(), &outcome.paper5),
+            four: PaperEnd::of(&outcome.paper4),
+            five: PaperEnd::of(&outcome.paper5),
             has_screen: has_screen(outcome),
             has_unanswered: !all_zero(outcome.statuses.as_slice()),
         }

@@ -29,7 +29,7 @@ use Rattle.pr_options.specs.Rows as option
 use Rattle.pr_options.specs.CommandLine.{print1525}
 use Rattle.pr_options.specs.DelayLists.{delays_of}
 use Rattle.pr_options.specs.Given.{characters_in, file_in, is_given, value_in}
-use Rattle.pr_options.specs.Options.{before_of, bounds_of, decode_output_of, device_of, form_of, format_of, found_source_of, from_time_of, glitch_of, inverted_of, listening_of, mode_of, pages_output_of, paper_of, present_of, rate_of, report_of, set_of, sheet_of, threshold_of, top_of, trace_format_of, unhearing}
+use Rattle.pr_options.specs.Options.{before_of, bounds_of, decode_output_of, device_of, form_of, format_of, found_source_of, from_time_of, glitch_of, inverted_of, listening_of, mode_of, pages_output_of, paper_of, present_of, rate_of, report_of, scale_of, set_of, sheet_of, threshold_of, top_of, trace_format_of, unhearing}
 use Rattle.pr_options.specs.SignalNames.{Names, names_of, names_of_signals}
 use Rattle.pr_options.specs.Values.{bad}
 use Rattle.pr_options.specs.declared.command_line.Job.{Job}
@@ -190,8 +190,9 @@ abbrev pub wanted_part : List Row → Result Part JobFault
 wanted_part rows =
     read_if_given opt.Device device_of rows >>= λ device.
     read_if_given opt.Sheet sheet_of rows >>= λ sheet.
+    read opt.Scale scale_of rows >>= λ scale.
     wanted_layout rows >>= λ layout.
-    Ok (record { device = device; sheet = sheet; layout = layout })
+    Ok (record { device = device; sheet = sheet; layout = layout; scale = scale })
 
 -- pages in this format are drawn
 abbrev pub is_picture : Format → Bool
@@ -201,21 +202,21 @@ is_picture (format.Svg part) = true
 is_picture (format.Png part) = true
 is_picture (format.Pdf device layout) = true
 
--- pages in this format are a document
-abbrev pub is_document : Format → Bool
-is_document format.List = false
-is_document format.Lines = false
-is_document (format.Svg part) = false
-is_document (format.Png part) = false
-is_document (format.Pdf device layout) = true
+-- an option of paper or pixels is given
+abbrev pub wants_paper : List Row → Bool
+wants_paper rows = is_given opt.Scale rows || (is_given opt.Paper rows || is_given opt.Holes rows)
 
--- an option is given that only documents can have
-abbrev pub wants_document : List Row → Bool
-wants_document rows = is_given opt.Paper rows || is_given opt.Holes rows
+-- such an option is given that pages in this format have not: bitmaps have holes and pixels, documents paper and holes
+abbrev pub wants_more : Format → List Row → Bool
+wants_more format.List rows = wants_paper rows
+wants_more format.Lines rows = wants_paper rows
+wants_more (format.Svg part) rows = wants_paper rows
+wants_more (format.Png part) rows = is_given opt.Paper rows
+wants_more (format.Pdf device layout) rows = is_given opt.Scale rows
 
--- a format, where it is a document or no option of documents is given
+-- a format, where no such option is given
 abbrev pub printed : Format → List Row → Result Format JobFault
-printed format rows = if is_document format || not (wants_document rows) then Ok format else Err fault.NoDocument
+printed format rows = if wants_more format rows then Err fault.NoPaper else Ok format
 
 -- an option is given that only pictures can have
 abbrev pub wants_picture : List Row → Bool
@@ -236,7 +237,7 @@ heard rows =
     wanted_part rows >>= λ part.
     if is_some part.sheet then Err fault.NoPart
     else (if wants_picture rows then Err fault.NoPicture
-    else (if wants_document rows then Err fault.NoDocument else Ok (unwrap_or part.device Four)))
+    else (if wants_paper rows then Err fault.NoPaper else Ok (unwrap_or part.device Four)))
 
 -- what of the intervals of readings is written: readings are no pictures, so they show no part and draw no characters
 abbrev pub wanted_detail : List Row → Result Detail JobFault

@@ -14,6 +14,8 @@ use Rattle.pr_capture.specs.declared.volts.Volts.{Volts}
 use Rattle.pr_serial.specs.declared.Present.{Present}
 use Rattle.pr_basic.specs.declared.session.StatusMode.{StatusMode}
 use Rattle.pr_basic.specs.declared.session.StatusMode.TheVariants.{Each, Kept}
+use Rattle.pr_dots.specs.declared.scale.Scale.{Scale}
+use Rattle.pr_dots.specs.declared.scale.Scale.TheVariants as scale
 use Rattle.pr_listing.specs.declared.form.ListingForm.{ListingForm}
 use Rattle.pr_listing.specs.declared.form.ListingForm.TheVariants as form
 use Rattle.pr_render.specs.declared.format.Format.{Format}
@@ -210,6 +212,11 @@ top_numbered n = if nat_lt n 66 then Some n else None
 -- how many lines the first row is below the upper edge of the paper: decimal digits that spell a number below 66
 abbrev pub top_of : Text → Option ℕ
 top_of text = option_and_then top_numbered (start_of text)
+
+-- how many pixels a bitmap has for the place of a dot: 1 to 8
+abbrev pub scale_of : Text → Option Scale
+scale_of = meaning_of ((codes "1", scale.One) ∷ (codes "2", scale.Two) ∷ (codes "3", scale.Three) ∷ (codes "4", scale.Four)
+    ∷ (codes "5", scale.Five) ∷ (codes "6", scale.Six) ∷ (codes "7", scale.Seven) ∷ (codes "8", scale.Eight) ∷ [])
 
 -- the paper of a document: continuous, a4 or letter
 abbrev pub paper_of : Text → Option Size

@@ -118,9 +118,10 @@ pub enum JobFault {
     /// `--characters` or `--top` is given where no picture is written.
     #[error("--characters and --top go with --as svg, png or pdf")]
     NoPicture,
-    /// `--paper` or `--holes` is given where no document is written.
-    #[error("--paper and --holes go with --as pdf")]
-    NoDocument,
+    /// `--paper` is given where no document is written, `--holes` where neither a bitmap nor a document is, or `--scale` where no
+    /// bitmap is.
+    #[error("--paper goes with --as pdf, --holes with png or pdf, --scale with png")]
+    NoPaper,
     /// `--holes` is given with paper that has none.
     #[error("--holes goes with --paper continuous")]
     NoStrips,
@@ -217,7 +218,7 @@ impl From<DelayFault> for JobFault {
 /// only for words that clap takes, and report the first bad value: of [`JobFault::BadPresent`],
 /// [`JobFault::BadDelays`], [`JobFault::BadStatus`] and then of [`JobFault::Bad`], in the order of [`Opt`]. What does
 /// not go together comes after the values that it is judged by: [`JobFault::NoRecording`] and [`JobFault::NoTable`]
-/// after [`Opt::Threshold`], [`JobFault::NoStrips`], [`JobFault::NoPart`], [`JobFault::NoPicture`] and [`JobFault::NoDocument`]
+/// after [`Opt::Threshold`], [`JobFault::NoStrips`], [`JobFault::NoPart`], [`JobFault::NoPicture`] and [`JobFault::NoPaper`]
 /// after [`Opt::Paper`],
 /// [`JobFault::NoReadings`] after [`Opt::Bounds`], and [`JobFault::NoPages`] or [`JobFault::NoListener`] at last.
 pub fn read_task<'a>(alloc: Global, words: &'a [&'a str]) -> Result<Task<'a>, JobFault>

@@ -2,7 +2,7 @@
 
 ghost use Rattle.std.specs.Prelude.{[], false, option_map, ◌∷◌, ◌≡◌, IfSome};
 ghost use Rattle.pr_capture.specs.Recording.{alike};
-ghost use Rattle.pr_options.specs.Options.{before_of, bounds_of, decode_output_of, device_of, form_of, format_of, found_source_of, from_time_of, glitch_of, inverted_of, listening_of, mode_of, moment_of, pages_output_of, paper_of, present_of, rate_of, report_of, scaled, set_of, sheet_numbered, sheet_of, source_of, start_of, threshold_between, threshold_in, threshold_of, top_numbered, top_of, trace_format_of, with_line};
+ghost use Rattle.pr_options.specs.Options.{before_of, bounds_of, decode_output_of, device_of, form_of, format_of, found_source_of, from_time_of, glitch_of, inverted_of, listening_of, mode_of, moment_of, pages_output_of, paper_of, present_of, rate_of, report_of, scale_of, scaled, set_of, sheet_numbered, sheet_of, source_of, start_of, threshold_between, threshold_in, threshold_of, top_numbered, top_of, trace_format_of, with_line};
 ghost use Rattle.std.specs.Int.{div_ceil};
 ghost use Rattle.pr_options.specs.SignalNames.{are_names, differ, is_clock_twice, is_name, names_of, names_of_signals, three_names};
 
@@ -10,6 +10,7 @@ use crate::outputs::{CheckOutput, DecodeOutput, Hearing, PagesOutput};
 use crate::parts::{all_digits, cut};
 use pr_basic::StatusMode;
 use pr_capture::{Probes, Signals, Source, Threshold, TraceFormat, Volts, read_rate, read_volts};
+use pr_dots::Scale;
 use pr_listing::ListingForm;
 use pr_render::{Device, Format, Layout, Part, Size};
 use pr_report::{Bounds, Detail, Report};
@@ -295,6 +296,23 @@ pub fn read_paper(text: &str) -> Option<Size>
         "continuous" => Some(Size::Continuous),
         "a4" => Some(Size::A4),
         "letter" => Some(Size::Letter),
+        _ => None,
+    }
+}
+
+/// How many pixels a bitmap has for the place of a dot, across and down: `1` to `8` (profile). None for any other text.
+pub fn read_scale(text: &str) -> Option<Scale>
+    ensures { result ≡ scale_of text.now }
+{
+    match text {
+        "1" => Some(Scale::One),
+        "2" => Some(Scale::Two),
+        "3" => Some(Scale::Three),
+        "4" => Some(Scale::Four),
+        "5" => Some(Scale::Five),
+        "6" => Some(Scale::Six),
+        "7" => Some(Scale::Seven),
+        "8" => Some(Scale::Eight),
         _ => None,
     }
 }

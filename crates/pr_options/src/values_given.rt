@@ -4,22 +4,23 @@ ghost use Rattle.std.specs.Prelude.{◌≡◌, IfErr, find, option_map, unwrap_o
 ghost use Rattle.std.specs.Str.{str_eq_ignore_ascii_case};
 ghost use Rattle.clap.specs.Words.{first_of, found_of, rows_of};
 ghost use Rattle.pr_options.specs.Given.{characters_in, ending_value, file_in, has_ending, is_given, is_named, is_of_words, named, value_by_ending, value_by_name, value_in};
-ghost use Rattle.pr_options.specs.Jobs.{decode_output, drawn, fitting, heard, hearing, is_continuous, is_document, is_picture, pages_output, printed, read, read_if_given, shown, unless_found, unmeasured, unprinted, wanted_detail, wanted_hearing, wanted_layout, wanted_part, wants_document, wants_picture, wants_printers, wants_readings, wants_recording, wants_table};
-ghost use Rattle.pr_options.specs.Options.{bounds_of, device_of, listening_of, paper_of, sheet_of, top_of};
+ghost use Rattle.pr_options.specs.Jobs.{decode_output, drawn, fitting, heard, hearing, is_continuous, is_picture, pages_output, printed, read, read_if_given, shown, unless_found, unmeasured, unprinted, wanted_detail, wanted_hearing, wanted_layout, wanted_part, wants_more, wants_paper, wants_picture, wants_printers, wants_readings, wants_recording, wants_table};
+ghost use Rattle.pr_options.specs.Options.{bounds_of, device_of, listening_of, paper_of, scale_of, sheet_of, top_of};
 ghost use Rattle.pr_options.specs.SignalNames.{names_of};
 ghost use Rattle.pr_options.specs.Steps.{IsOwn, signals_result};
 ghost use Rattle.pr_options.specs.Subcommands.{endings_view, row_view};
 
 use crate::command_line::JobFault;
 use crate::option_values::{
-    UNHEARING, read_bounds, read_device, read_listening, read_paper, read_sheet, read_signals,
-    read_top,
+    UNHEARING, read_bounds, read_device, read_listening, read_paper, read_scale, read_sheet,
+    read_signals, read_top,
 };
 use crate::options::{Ending, FileArgument, Opt, OptionRow};
 use crate::outputs::{DecodeOutput, Hearing, PagesOutput};
 use clap::ArgMatches;
 use clap::parser::ValueSource;
 use pr_capture::{Signals, Source};
+use pr_dots::Scale;
 use pr_render::{Device, Format, Layout, Part, Size};
 use pr_report::{Bounds, Detail};
 use pr_serial::Present;
@@ -75,8 +76,8 @@ fn heard_in(options: &ArgMatches<'_>) -> Result<Device, JobFault>
     if wants_picture(options) {
         return Err(JobFault::NoPicture);
     }
-    if wants_document(options) {
-        return Err(JobFault::NoDocument);
+    if wants_paper(options) {
+        return Err(JobFault::NoPaper);
     }
     Ok(part.device.unwrap_or(Device::Four))
 }
@@ -103,33 +104,35 @@ fn drawn_in(format: Format, options: &ArgMatches<'_>) -> Result<Format, JobFault
     }
 }
 
-/// The format, where it is a document or no option of documents is given.
+/// The format, where no option of paper or pixels is given that it has not.
 fn printed_in(format: Format, options: &ArgMatches<'_>) -> Result<Format, JobFault>
     ensures value { result ≡ printed format (rows_of (found_of options.now)) }
     ensures own { IfErr result IsOwn }
 {
-    if is_document(format) || !wants_document(options) {
-        Ok(format)
+    if wants_more(format, options) {
+        Err(JobFault::NoPaper)
     } else {
-        Err(JobFault::NoDocument)
+        Ok(format)
     }
 }
 
-/// Whether pages in this format are a document.
-fn is_document(format: Format) -> bool
-    ensures { result ≡ is_document format }
+/// Whether an option of paper or pixels is given that pages in this format have not: bitmaps have holes and pixels, documents
+/// paper and holes.
+fn wants_more(format: Format, options: &ArgMatches<'_>) -> bool
+    ensures { result ≡ wants_more format (rows_of (found_of options.now)) }
 {
     match format {
-        Format::List | Format::Lines | Format::Svg(_) | Format::Png(_) => false,
-        Format::Pdf(_, _) => true,
+        Format::List | Format::Lines | Format::Svg(_) => wants_paper(options),
+        Format::Png(_) => is_given(options, Opt::Paper),
+        Format::Pdf(_, _) => is_given(options, Opt::Scale),
     }
 }
 
-/// Whether anything is given that goes with documents alone.
-fn wants_document(options: &ArgMatches<'_>) -> bool
-    ensures { result ≡ wants_document (rows_of (found_of options.now)) }
+/// Whether anything is given of paper or pixels.
+fn wants_paper(options: &ArgMatches<'_>) -> bool
+    ensures { result ≡ wants_paper (rows_of (found_of options.now)) }
 {
-    is_given(options, Opt::Paper) || is_given(options, Opt::Holes)
+    is_given(options, Opt::Scale) || is_given(options, Opt::Paper) || is_given(options, Opt::Holes)
 }
 
 /// Whether anything is given that goes with pictures alone.
@@ -156,11 +159,13 @@ fn part_in(options: &ArgMatches<'_>) -> Result<Part, JobFault>
 {
     let device = device_in(options)?;
     let sheet = sheet_in(options)?;
+    let scale = scale_in(options)?;
     let layout = layout_in(options)?;
     Ok(Part {
         device,
         sheet,
         layout,
+        scale,
     })
 }
 
@@ -195,6 +200,15 @@ fn paper_in(options: &ArgMatches<'_>) -> Result<Size, JobFault>
 {
     let size = read_paper(value_in(options, Opt::Paper)).ok_or(Opt::Paper)?;
     Ok(size)
+}
+
+/// The pixels of a bitmap for the place of a dot.
+fn scale_in(options: &ArgMatches<'_>) -> Result<Scale, JobFault>
+    ensures value { result ≡ read Opt.Scale scale_of (rows_of (found_of options.now)) }
+    ensures own { IfErr result IsOwn }
+{
+    let scale = read_scale(value_in(options, Opt::Scale)).ok_or(Opt::Scale)?;
+    Ok(scale)
 }
 
 /// The lines from the upper edge of the paper to the first row.

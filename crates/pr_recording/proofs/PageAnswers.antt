@@ -66,7 +66,7 @@ answered shapes input listening format text a b p left end old new v h are out s
         text = w.0;
         pages = pages w.0 w.1;
         written = w.4;
-        is_said = w.3 ∙ (ap (λ odd. said_of format p odd left) (h.takes_all.is_end.odd w.2) ∙ ap (said_of format p (oddities_of h.edges (readings_of h.edges))) lacks);
+        is_said = w.3 ∙ (ap (λ odd. said_of p odd left) (h.takes_all.is_end.odd w.2) ∙ ap (said_of p (oddities_of h.edges (readings_of h.edges))) lacks);
       },
     )
     leaves (Err (Script fault)) w = known_fault IsStop end.stop (Script fault) w.2 stop

@@ -49,9 +49,9 @@ pub record AreUnshown (shapes : Shapes) (format : Format) (readings : List Readi
   pub are_papers : ArePapers readings reprinted
   pub is_unshown : text_in shapes format reprinted.present (papers_alone reprinted) ≡ Err fault
 
--- what is said of pages in a format, by what is odd about the recording and what it has that they have not
-abbrev pub said_of : Format → PrintedPages → Oddities → LeftOut → Reprinted
-said_of format r odd left = record { odd = odd; left = left; present = r.present; end = pages_end format (papers_alone r) }
+-- what is said of pages, by what is odd about the recording and what it has that they have not
+abbrev pub said_of : PrintedPages → Oddities → LeftOut → Reprinted
+said_of r odd left = record { odd = odd; left = left; present = r.present; end = pages_end (papers_alone r) }
 
 -- these pages were written, and that was said of them
 pub record TellsPages (shapes : Shapes) (format : Format) (readings : List Reading) (odd : Oddities)
@@ -59,7 +59,7 @@ pub record TellsPages (shapes : Shapes) (format : Format) (readings : List Readi
   pub text : List ℕ
   pub pages : IsPagesOf shapes format readings text
   pub written : Appends old new text
-  pub is_said : said ≡ said_of format pages.reprinted odd (left_out_of readings)
+  pub is_said : said ≡ said_of pages.reprinted odd (left_out_of readings)
 
 -- these pages were written, or a beginning of them
 abbrev pub WritesPages : Shapes → Format → List Reading → Option (List ℕ) → Option (List ℕ) → Type 0

@@ -27,7 +27,7 @@ abbrev pub WritesPrint :
     → Type 0
 WritesPrint shapes format p left end old new (Ok said) =
     (text : List ℕ) × (text_of_pages shapes format p ≡ Ok text) × (end.stop ≡ None)
-    × (said ≡ said_of format p end.odd left) × Appends old new text
+    × (said ≡ said_of p end.odd left) × Appends old new text
 WritesPrint shapes format p left end old new (Err NoMemory) = Keeps old new
 WritesPrint shapes format p left end old new (Err (Picture fault)) =
     (text_of_pages shapes format p ≡ Err fault) × Keeps old new

@@ -1,5 +1,6 @@
 -- Trusted: which formats show a part of the pages.
 use Rattle.std.specs.Prelude.{ℕ, false, Option, Some, None}
+use Rattle.pr_dots.specs.declared.scale.Scale.TheVariants as scale
 use Rattle.pr_render.specs.declared.format.Device.{Device}
 use Rattle.pr_render.specs.declared.format.Layout.{Layout}
 use Rattle.pr_render.specs.declared.format.Part.{Part}
@@ -7,22 +8,14 @@ use Rattle.pr_render.specs.declared.format.Size.TheVariants.{Continuous}
 use Rattle.pr_render.specs.declared.format.Format.{Format}
 use Rattle.pr_render.specs.declared.format.Format.TheVariants.{List, Lines, Svg, Png, Pdf}
 
--- the paper as people put it in: the first row is 3 lines of 1/6 inch below its upper edge; a document has continuous paper
+-- the paper as people put it in: the first row is 3 lines of 1/6 inch below its upper edge; pictures show continuous paper
 -- without its holes
 abbrev pub usual : Layout
 usual = record { top = 3; size = Continuous; holes = false }
 
--- all of the pages
+-- all of the pages; a bitmap has two pixels for the place of a dot
 abbrev pub whole : Part
-whole = record { device = None; sheet = None; layout = usual }
-
--- how many lines the first row is below the upper edge of the paper; the list and the lines show no paper
-abbrev pub top_of : Format → ℕ
-top_of List = 0
-top_of Lines = 0
-top_of (Svg part) = part.layout.top
-top_of (Png part) = part.layout.top
-top_of (Pdf device layout) = layout.top
+whole = record { device = None; sheet = None; layout = usual; scale = scale.Two }
 
 -- a format if all of the pages have to be shown
 abbrev pub if_whole : Format → Option Device → Option ℕ → Option Format

@@ -1,7 +1,9 @@
 //! The formats of pages.
 
 ghost use Rattle.std.specs.Prelude.{◌≡◌};
-ghost use Rattle.pr_render.specs.Showing.{showing, top_of, usual, whole};
+ghost use Rattle.pr_render.specs.Showing.{showing, usual, whole};
+
+use pr_dots::Scale;
 
 /// One of the two printers.
 #[derive(Clone, Copy, Debug, PartialEq, Eq)]
@@ -30,7 +32,7 @@ pub struct Layout {
     pub top: u8,
     /// The paper of a document.
     pub size: Size,
-    /// A document has the strips with holes, and the lines at which paper tears off.
+    /// A bitmap or a document has the strips with holes, and the lines at which paper tears off.
     pub holes: bool,
 }
 
@@ -43,6 +45,8 @@ pub struct Part {
     pub sheet: Option<u64>,
     /// How the pages lie on their paper.
     pub layout: Layout,
+    /// How many pixels a bitmap has for the place of a dot.
+    pub scale: Scale,
 }
 
 /// How pages are written, and what of them (profile).
@@ -54,14 +58,14 @@ pub enum Format {
     Lines,
     /// An SVG document, for a browser: the pages of all printers side by side, those of one printer, or one sheet.
     Svg(Part),
-    /// One sheet as a bitmap: sheet 1 where none is named.
+    /// A bitmap: the paper of one printer down to its last row, or one sheet.
     Png(Part),
     /// The sheets of all printers, or of one, as a PDF document.
     Pdf(Option<Device>, Layout),
 }
 
 impl Layout {
-    /// The first row is 3 lines, half an inch, below the upper edge, as people put their paper in, and a document has
+    /// The first row is 3 lines, half an inch, below the upper edge, as people put their paper in, and pictures show
     /// continuous paper without its holes (profile).
     pub fn usual() -> Layout
         ensures { result ≡ usual }
@@ -75,7 +79,7 @@ impl Layout {
 }
 
 impl Part {
-    /// All of the pages, on paper as people put it in.
+    /// All of the pages, on paper as people put it in; a bitmap has two pixels for the place of a dot (profile).
     pub fn whole() -> Part
         ensures { result ≡ whole }
     {
@@ -83,23 +87,12 @@ impl Part {
             device: None,
             sheet: None,
             layout: Layout::usual(),
+            scale: Scale::Two,
         }
     }
 }
 
 impl Format {
-    /// How many lines of 1/6 inch the first row is below the upper edge of the paper: 0 for the list and the lines, which show
-    /// no paper.
-    pub fn top(self) -> u8
-        ensures { result ≡ top_of self }
-    {
-        match self {
-            Format::List | Format::Lines => 0,
-            Format::Svg(part) | Format::Png(part) => part.layout.top,
-            Format::Pdf(_, layout) => layout.top,
-        }
-    }
-
     /// The same format of this part of the pages, or `None` where the format has no such part: the list and the lines show
     /// all pages, without their paper, and a PDF document has no single sheet.
     pub fn showing(self, part: Part) -> Option<Format>
