@@ -6,7 +6,7 @@ ghost use Rattle.pr_input.specs.Watched.{has_failed};
 use pr_basic::StatusMode;
 use pr_bus::Delays;
 use pr_capture::{Probes, Signals, Source, TraceFormat, TraceInput};
-use pr_dots::Shapes;
+use pr_dots::{Scale, Shapes};
 use pr_jobs::{
     CliFault, Ending, Start, Watched, bus_as_over, bus_over, check_as_over, check_over,
     pages_as_over, pages_over, raw_over,
@@ -36,6 +36,7 @@ const SVG: Format = Format::Svg(Part {
     device: None,
     sheet: None,
     layout: LAYOUT,
+    scale: Scale::Two,
 });
 
 /// A script that prints two letters.
