@@ -38,7 +38,7 @@ fn darken(dark: &mut [bool], extent: Extent, column: u64, line: u128)
 }
 
 /// The same in several lines.
-#[tactic(auto, using(crate::proofs::OnSheet::lines_in_parts))]
+#[tactic(auto, using(crate::proofs::OnPicture::lines_in_parts))]
 fn darken_lines(dark: &mut [bool], extent: Extent, column: u64, line: u128, count: u8)
     requires whole { length dark.old ≡ 480 * extent.count }
     requires few { extent.count ≤ 1000000 }
@@ -78,7 +78,7 @@ fn mark_column(dark: &mut [bool], extent: Extent, x: u64, y: u128, value: u8)
 }
 
 /// Puts a mark on a picture, on a row at a distance.
-#[tactic(auto, using(crate::proofs::OnSheet::dots_in_parts))]
+#[tactic(auto, using(crate::proofs::OnPicture::dots_in_parts))]
 fn mark_placed(shapes: &Shapes, dark: &mut [bool], extent: Extent, y: u128, placed: Placed)
     requires whole { length dark.old ≡ 480 * extent.count }
     requires few { extent.count ≤ 1000000 }
@@ -93,7 +93,7 @@ fn mark_placed(shapes: &Shapes, dark: &mut [bool], extent: Extent, y: u128, plac
 }
 
 /// Puts a row on a picture, where the paper's first row is `above` lines below its upper edge.
-#[tactic(auto, using(crate::proofs::OnSheet::dots_in_parts))]
+#[tactic(auto, using(crate::proofs::OnPicture::dots_in_parts))]
 fn mark_row(shapes: &Shapes, dark: &mut [bool], extent: Extent, above: u8, row: &Row)
     requires whole { length dark.old ≡ 480 * extent.count }
     requires few { extent.count ≤ 1000000 }
@@ -124,7 +124,7 @@ fn blank_places(alloc: Global, count: usize) -> Result<Vec<bool>, AllocError>
 }
 
 /// The dots of rows on a picture, of which the first is `above` lines below the paper's upper edge.
-#[tactic(auto, using(crate::proofs::OnSheet::dots_in_parts))]
+#[tactic(auto, using(crate::proofs::OnPicture::dots_in_parts))]
 fn mark_rows(shapes: &Shapes, dark: &mut [bool], extent: Extent, above: u8, rows: &[Row])
     requires whole { length dark.old ≡ 480 * extent.count }
     requires few { extent.count ≤ 1000000 }
