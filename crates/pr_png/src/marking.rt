@@ -30,8 +30,8 @@ fn darken(dark: &mut [bool], extent: Extent, column: u64, line: u128)
     requires few { extent.count ≤ 1000000 }
     ensures { dark.new ≡ darkened extent column line dark.old }
 {
-    let Extent { top, count, .. } = extent;
-    if column < DOT_COLUMNS && line >= top && line - top < u128::from(count) {
+    let top = extent.top;
+    if column < DOT_COLUMNS && line >= top && line - top < u128::from(extent.count) {
         let place = (line - top) as u64 * DOT_COLUMNS + column;
         dark[place as usize] = true;
     }
