@@ -471,7 +471,10 @@ fn has_marks(paper: PaperEnd) -> bool {
 
 /// Writes a note where one printer's paper is drawn and the other one has printed, too.
 fn note_other(rt: &impl Eprint, pages: PagesEnd, view: View) {
-    let have_both = view.drawn.four && view.drawn.five && pages.four.is_printed && pages.five.is_printed;
+    let have_both = view.drawn.four
+        && view.drawn.five
+        && pages.four.is_printed
+        && pages.five.is_printed;
     if view.is_single && have_both {
         note(rt, FIVE_TOO);
     }

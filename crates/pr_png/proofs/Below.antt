@@ -87,13 +87,20 @@ rows-below shapes scale column line [] is = absurd (false≢true is)
 rows-below shapes scale column line (r ∷ rows) is =
     elim (in-part (covers scale column line) (row_dots shapes r) (flat_map (row_dots shapes) rows) is) [
       | inl here ↦ omega (arith, marks-below shapes scale column line r.y r.marks here, line-grows scale (r.y + 14) (21 * line_count (r ∷ rows)) (row-lines r.y (line_count rows)))
-      | inr there ↦ omega (arith, rows-below shapes scale column line rows there,
-          line-grows scale (21 * line_count rows) (21 * line_count (r ∷ rows)) (more-lines ((r.y + 41) / 21) (line_count rows)))
+      | inr there ↦ omega (
+        arith,
+        rows-below shapes scale column line rows there,
+        line-grows scale (21 * line_count rows) (21 * line_count (r ∷ rows)) (more-lines ((r.y + 41) / 21) (line_count rows)),
+      )
     ]
 
 pub all-dots : PaperHasAllDots
 unfolding is_printed dots_of
 all-dots shapes paper scale column line below =
     false_from_ne_true (list_any (covers scale column line) (flat_map (row_dots shapes) paper.rows))
-    (λ is. omega (arith, below, rows-below shapes scale column line paper.rows is,
-    line-grows scale (21 * line_count paper.rows) (21 * max 1 (line_count paper.rows)) (more-lines 1 (line_count paper.rows))))
+    (λ is. omega (
+      arith,
+      below,
+      rows-below shapes scale column line paper.rows is,
+      line-grows scale (21 * line_count paper.rows) (21 * max 1 (line_count paper.rows)) (more-lines 1 (line_count paper.rows)),
+    ))
