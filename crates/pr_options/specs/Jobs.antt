@@ -196,7 +196,7 @@ wanted_part rows =
 -- pages in this format are drawn
 abbrev pub is_picture : Format → Bool
 is_picture format.List = false
-is_picture format.Lines = false
+is_picture (format.Lines look) = false
 is_picture (format.Svg part) = true
 is_picture (format.Png part) = true
 is_picture (format.Pdf device layout) = true
@@ -204,7 +204,7 @@ is_picture (format.Pdf device layout) = true
 -- pages in this format are a document
 abbrev pub is_document : Format → Bool
 is_document format.List = false
-is_document format.Lines = false
+is_document (format.Lines look) = false
 is_document (format.Svg part) = false
 is_document (format.Png part) = false
 is_document (format.Pdf device layout) = true

@@ -120,7 +120,7 @@ fn is_document(format: Format) -> bool
     ensures { result ≡ is_document format }
 {
     match format {
-        Format::List | Format::Lines | Format::Svg(_) | Format::Png(_) => false,
+        Format::List | Format::Lines(_) | Format::Svg(_) | Format::Png(_) => false,
         Format::Pdf(_, _) => true,
     }
 }
@@ -144,7 +144,7 @@ fn is_picture(format: Format) -> bool
     ensures { result ≡ is_picture format }
 {
     match format {
-        Format::List | Format::Lines => false,
+        Format::List | Format::Lines(_) => false,
         Format::Svg(_) | Format::Png(_) | Format::Pdf(_, _) => true,
     }
 }

@@ -19,7 +19,7 @@ whole = record { device = None; sheet = None; layout = usual }
 -- how many lines the first row is below the upper edge of the paper; the list and the lines show no paper
 abbrev pub top_of : Format → ℕ
 top_of List = 0
-top_of Lines = 0
+top_of (Lines look) = 0
 top_of (Svg part) = part.layout.top
 top_of (Png part) = part.layout.top
 top_of (Pdf device layout) = layout.top
@@ -38,7 +38,7 @@ pdf_showing device (Some sheet) layout = None
 -- a format that shows this part of the pages, if it can: the list and the lines show all pages, without their paper
 abbrev pub showing : Format → Part → Option Format
 showing List part = if_whole List part.device part.sheet
-showing Lines part = if_whole Lines part.device part.sheet
+showing (Lines look) part = if_whole (Lines look) part.device part.sheet
 showing (Svg old) part = Some (Svg part)
 showing (Png old) part = Some (Png part)
 showing (Pdf old paper) part = pdf_showing part.device part.sheet part.layout
