@@ -95,8 +95,10 @@ class Paper:
     def marks(self):
         return [mark for _, marks in self.rows for mark in marks] + (self.held or [])
 
-    def end(self):
-        return (self.rows[-1][0] + 21 if self.rows else 0) + 42 * (self.held is not None)
+    def length(self, top):
+        """How long it is drawn, in sixths of an inch, with this many lines above its first row."""
+        end = (self.rows[-1][0] + 21 if self.rows else 0) + 42 * (self.held is not None)
+        return 3 * ((end + 21 * top + 125) // 63)
 
 
 class Pages:
@@ -168,14 +170,9 @@ def row_at(y, marks, front="<g"):
     return f'{front} transform="translate(0 {10 * y})">\n{uses(marks)}{letters(marks)}</g>\n'
 
 
-def length_of(paper, top):
-    """How long the paper of a printer is drawn, in sixths of an inch."""
-    return 3 * ((paper.end() + 21 * top + 125) // 63)
-
-
 def paper_drawn(printer, paper, above, top):
     """The continuous paper of a printer, below that of others with their names, which take so many sixths of an inch."""
-    lines = length_of(paper, top)
+    lines = paper.length(top)
     text = f'<g transform="translate(630 {210 * (above + 5)})">\n<text font-size="210" fill="#555" y="-210">Printer {printer}</text>\n'
     text += f'<rect width="12600" height="{210 * lines}" fill="url(#paper)" stroke="#b4afa2" stroke-width="10"/>\n'
     text += f'<rect y="1260" width="12600" height="{210 * (lines - 6)}" fill="url(#folds)"/>\n<g transform="translate(1260 {210 * top})">\n{INK}'
@@ -198,7 +195,7 @@ def svg(pages, present, top=TOP):
     lines = 0
     for it in shown:
         papers += paper_drawn(it, pages.papers[it], lines, top)
-        lines += 5 + length_of(pages.papers[it], top)
+        lines += 5 + pages.papers[it].length(top)
     height = lines + 4 + (pages.stop != "") + (noted != "")
     text = f'<svg xmlns="http://www.w3.org/2000/svg" version="1.1" width="66pc" height="{height}pc" viewBox="0 0 13860 {210 * height}">\n'
     text += PAPER + '<rect width="100%" height="100%" fill="#e9e6df"/>\n<defs>\n'

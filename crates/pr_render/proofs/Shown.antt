@@ -22,14 +22,14 @@ use Rattle.pr_render.proofs.Signs.{end-written, line-written, stays-off}
 abbrev bare : Sign
 bare = sign_of 32
 
-sign-from : (u v : ℕ) (a b : Bool) → u ≡ v → a ≡ b → record { code_point = u; video = a } ≡ the Sign (record { code_point = v; video = b })
-sign-from u v a b e f = rw (e, f) refl
+abbrev sign-at : ℕ → Bool → Sign
+sign-at u v = record { code_point = u; video = v }
 
 -- a sign of which nothing is seen is that of a blank
 bare-is : (s : Sign) → is_bare s ≡ true → s ≡ bare
 bare-is s h =
     let parts = and_parts (not s.video) (s.code_point == 32) h in
-    sign-from s.code_point 32 s.video false (eqb-true s.code_point 32 parts.1) (not-true s.video parts.0)
+    ap (λ u. sign-at u s.video) (eqb-true s.code_point 32 parts.1) ∙ ap (λ v. sign-at 32 v) (not-true s.video parts.0)
 
 -- blanks in front of more
 blank-front : (n j : ℕ) (more : List Sign) → j < n → slice_index_or (replicate n bare ++ more) j bare ≡ bare
