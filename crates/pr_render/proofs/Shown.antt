@@ -343,6 +343,12 @@ unfolding held_heading turned lib.Utf8.encode
 heading-written Blocks more = refl
 heading-written Video more = refl
 
+-- a line alone
+line-alone : (look : Look) (marks : List Placed) → line_text look marks ≡ written look false (signs_of look marks ++ sign_of 10 ∷ [])
+unfolding line_text
+line-alone look marks =
+    ap (λ t. written look false (signs_of look marks) ++ (10 ∷ t)) (sym (stays-off look)) ∙ sym (line-written look false (signs_of look marks) [])
+
 -- marks of which the line shows a sign at a column show it there
 shows-there : (look : Look) (k : ℕ) (sign : Sign) (marks : List Placed) → slice_index_or (signs_of look marks) k bare ≡ sign
     → held_text look marks ≡ held_heading ++ line_text look marks → Shows look k sign marks
@@ -360,12 +366,6 @@ shows-there look k sign marks at is_held = record {
         ∙ (ap (λ l. slice_index_or (slice_index_or l 0 []) k bare) (first-line (signs_of look marks) [] (signs-inner look marks)) ∙ at);
   };
 }
-  where
-    -- a line alone
-    line-alone : (look : Look) (marks : List Placed) → line_text look marks ≡ written look false (signs_of look marks ++ sign_of 10 ∷ [])
-    unfolding line_text
-    line-alone look marks =
-        ap (λ t. written look false (signs_of look marks) ++ (10 ∷ t)) (sym (stays-off look)) ∙ sym (line-written look false (signs_of look marks) [])
 
 -- a list with an element is held under the heading
 is-held : (look : Look) (before : List Placed) (p : Placed) (after : List Placed)

@@ -160,7 +160,11 @@ fn paint_cell(
         return;
     }
     if wide {
-        put(columns, place + 1, showing(beside(look, reverse, character)));
+        put(
+            columns,
+            place + 1,
+            showing(beside(look, reverse, character)),
+        );
     }
     put(columns, place, showing(shown(look, reverse, character)));
 }
@@ -176,14 +180,7 @@ fn paint_mark(columns: &mut [Seen], look: Look, place: usize, mark: Mark)
             lower,
             reverse,
             wide,
-        } => paint_cell(
-            columns,
-            look,
-            place,
-            character(code, lower),
-            reverse,
-            wide,
-        ),
+        } => paint_cell(columns, look, place, character(code, lower), reverse, wide),
         Mark::Dots(value) => {
             let seen = darker(ink_of(value), column_at(columns, place));
             put(columns, place, seen);

@@ -181,7 +181,11 @@ static ROWS: [Row; 18] = [
         HI_BYTES,
         "printer 4\nrow 0\n 0 cell 72\n 6 cell 73\nprinter 5\nstatus\nscreen\n",
     ),
-    (Call::Raw(Format::Lines(Look::Blocks)), HI_BYTES, "Printer 4\nHI\n"),
+    (
+        Call::Raw(Format::Lines(Look::Blocks)),
+        HI_BYTES,
+        "Printer 4\nHI\n",
+    ),
     (Call::Raw(SVG), HI_BYTES, PICTURE),
     (Call::TraceText, HI, TRACE_TEXT),
     (Call::Bus(TraceFormat::Vcd), HI, EXAMPLE_DUMP),
