@@ -9,7 +9,7 @@ ghost use Rattle.pr_cli.specs.Statuses.{answer_end, fault_status, job_end, statu
 ghost use Rattle.pr_cli.specs.declared.statuses.End.TheVariants as end;
 
 use crate::characters::{shapes_for, shapes_given};
-use crate::jobs::{Answer, do_job, found_job};
+use crate::jobs::{Answer, do_job, found_job, seen_job};
 use crate::lacking::strict_of;
 use crate::notes::{
     ListingNote, View, blank_reason, note_listing, note_overheard, note_pages, note_reprinted,
@@ -83,6 +83,8 @@ pub struct Manner {
     pub is_watched: bool,
     /// Standard output is a terminal.
     pub is_seen: bool,
+    /// It shows reverse in its reverse video.
+    pub is_reversing: bool,
 }
 
 /// What is said of a task over memory beside a fault.
@@ -138,15 +140,20 @@ pub fn answer_task(
         Ok(shapes) => shapes,
         Err(fault) => return End::Characters(fault).status(),
     };
+    let names = Names {
+        input,
+        output: output.filter(|name| !is_standard_output(name)),
+    };
+    let job = if manner.is_reversing && names.output.is_none() {
+        seen_job(job)
+    } else {
+        job
+    };
     let work = Work {
         job,
         before,
         shapes: &shapes,
         is_located: manner.is_explained,
-    };
-    let names = Names {
-        input,
-        output: output.filter(|name| !is_standard_output(name)),
     };
     answer_named(rt, names, work, manner)
 }

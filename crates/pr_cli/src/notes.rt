@@ -381,7 +381,7 @@ pub fn view_of(job: &Job<'_>) -> View {
 fn view_in(format: Format, present: Present) -> View {
     match format {
         Format::List => whole_view(NO_PRINTER),
-        Format::Lines => whole_view(present),
+        Format::Lines(_) => whole_view(present),
         Format::Svg(part) => View {
             is_single: part.sheet.is_some(),
             ..whole_view(shown_of(part.device, present))

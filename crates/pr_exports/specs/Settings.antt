@@ -16,6 +16,7 @@ use Rattle.pr_capture.specs.Recording.{alike}
 use Rattle.pr_channels.specs.declared.faults.Stop.TheVariants as stop
 use Rattle.pr_render.specs.declared.format.Format.{Format}
 use Rattle.pr_render.specs.declared.format.Layout.{Layout}
+use Rattle.pr_render.specs.declared.format.Look.TheVariants.{Blocks}
 use Rattle.pr_render.specs.declared.format.Size.{Size}
 use Rattle.pr_render.specs.declared.format.Size.TheVariants as size
 use Rattle.pr_render.specs.declared.format.Device.{Device}
@@ -86,7 +87,7 @@ form_of form =
 abbrev pub format_of : ℕ → Option Format
 format_of number =
     if number == 0 then Some format.List
-    else (if number == 1 then Some format.Lines
+    else (if number == 1 then Some (format.Lines Blocks)
     else (if number == 2 then Some (format.Svg whole)
     else (if number == 3 then Some (format.Png whole) else (if number == 4 then Some (format.Pdf None usual) else None))))
 

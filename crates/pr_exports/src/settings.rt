@@ -12,7 +12,7 @@ use pr_dots::{Scale, Shapes};
 use pr_listing::ListingForm;
 use pr_options::CheckOutput;
 use pr_recording::Wording;
-use pr_render::{Device, Format, Layout, Part, Size};
+use pr_render::{Device, Format, Layout, Look, Part, Size};
 use pr_report::{Bounds, Detail, Report};
 use pr_serial::Present;
 
@@ -114,7 +114,7 @@ fn format_for(number: u8) -> Option<Format>
 {
     match number {
         0 => Some(Format::List),
-        1 => Some(Format::Lines),
+        1 => Some(Format::Lines(Look::Blocks)),
         2 => Some(Format::Svg(Part::whole())),
         3 => Some(Format::Png(Part::whole())),
         4 => Some(Format::Pdf(None, Layout::usual())),

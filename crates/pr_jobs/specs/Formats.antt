@@ -96,7 +96,7 @@ pdf_part shapes layout present outcome =
 -- the page text, lines of 80 columns, or a picture: all but the first show the sheets of the printers that are present
 abbrev pub text_in : Shapes → Format → Present → Outcome → Result (List ℕ) PictureFault
 text_in shapes format.List present outcome = Ok (page_text outcome)
-text_in shapes format.Lines present outcome = Ok (text_of outcome present)
+text_in shapes (format.Lines look) present outcome = Ok (text_of look outcome present)
 text_in shapes (format.Svg part) present outcome =
     svg_part shapes part.layout.top part.sheet (shown_of part.device present) (left_to part.device outcome)
 text_in shapes (format.Png part) present outcome =

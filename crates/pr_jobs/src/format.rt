@@ -213,8 +213,8 @@ pub fn text_in_format(
 {
     match format {
         Format::List => Ok(text_from(alloc, outcome)?),
-        Format::Lines => {
-            let text = pr_render::text(alloc, &outcome, present)?;
+        Format::Lines(look) => {
+            let text = pr_render::text(alloc, look, &outcome, present)?;
             Ok(Text::from_vec(alloc, text))
         }
         Format::Svg(part) => {

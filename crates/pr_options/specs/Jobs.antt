@@ -197,7 +197,7 @@ wanted_part rows =
 -- pages in this format are drawn
 abbrev pub is_picture : Format → Bool
 is_picture format.List = false
-is_picture format.Lines = false
+is_picture (format.Lines look) = false
 is_picture (format.Svg part) = true
 is_picture (format.Png part) = true
 is_picture (format.Pdf device layout) = true
@@ -209,7 +209,7 @@ wants_paper rows = is_given opt.Scale rows || (is_given opt.Paper rows || is_giv
 -- such an option is given that pages in this format have not: bitmaps have holes and pixels, documents paper and holes
 abbrev pub wants_more : Format → List Row → Bool
 wants_more format.List rows = wants_paper rows
-wants_more format.Lines rows = wants_paper rows
+wants_more (format.Lines look) rows = wants_paper rows
 wants_more (format.Svg part) rows = wants_paper rows
 wants_more (format.Png part) rows = is_given opt.Paper rows
 wants_more (format.Pdf device layout) rows = is_given opt.Scale rows

@@ -23,6 +23,7 @@ use Rattle.pr_render.specs.declared.format.Format.TheVariants as format
 use Rattle.pr_render.specs.Showing.{usual, whole}
 use Rattle.pr_render.specs.declared.format.Device.{Device}
 use Rattle.pr_render.specs.declared.format.Device.TheVariants as device
+use Rattle.pr_render.specs.declared.format.Look.TheVariants.{Blocks}
 use Rattle.pr_render.specs.declared.format.Size.{Size}
 use Rattle.pr_render.specs.declared.format.Size.TheVariants as size
 use Rattle.pr_capture.specs.declared.format.TraceFormat.{TraceFormat}
@@ -67,7 +68,7 @@ set_of = meaning_of ((codes "upper", false) ∷ (codes "lower", true) ∷ [])
 
 -- the format of a page: list, text, svg, png or pdf
 abbrev pub format_of : Text → Option Format
-format_of = meaning_of ((codes "list", format.List) ∷ (codes "text", format.Lines)
+format_of = meaning_of ((codes "list", format.List) ∷ (codes "text", format.Lines Blocks)
     ∷ (codes "svg", format.Svg whole) ∷ (codes "png", format.Png whole) ∷ (codes "pdf", format.Pdf None usual) ∷ [])
 
 -- the output of `pages`: a format of its pages, or bytes, printer 4's if no option says more

@@ -12,7 +12,7 @@ use pr_basic::StatusMode;
 use pr_capture::{Probes, Signals, Source, Threshold, TraceFormat, Volts, read_rate, read_volts};
 use pr_dots::Scale;
 use pr_listing::ListingForm;
-use pr_render::{Device, Format, Layout, Part, Size};
+use pr_render::{Device, Format, Layout, Look, Part, Size};
 use pr_report::{Bounds, Detail, Report};
 use pr_serial::Present;
 
@@ -75,7 +75,7 @@ pub fn read_format(text: &str) -> Option<Format>
 {
     match text {
         "list" => Some(Format::List),
-        "text" => Some(Format::Lines),
+        "text" => Some(Format::Lines(Look::Blocks)),
         "svg" => Some(Format::Svg(Part::whole())),
         "png" => Some(Format::Png(Part::whole())),
         "pdf" => Some(Format::Pdf(None, Layout::usual())),

@@ -122,7 +122,7 @@ fn wants_more(format: Format, options: &ArgMatches<'_>) -> bool
     ensures { result ≡ wants_more format (rows_of (found_of options.now)) }
 {
     match format {
-        Format::List | Format::Lines | Format::Svg(_) => wants_paper(options),
+        Format::List | Format::Lines(_) | Format::Svg(_) => wants_paper(options),
         Format::Png(_) => is_given(options, Opt::Paper),
         Format::Pdf(_, _) => is_given(options, Opt::Scale),
     }
@@ -147,7 +147,7 @@ fn is_picture(format: Format) -> bool
     ensures { result ≡ is_picture format }
 {
     match format {
-        Format::List | Format::Lines => false,
+        Format::List | Format::Lines(_) => false,
         Format::Svg(_) | Format::Png(_) | Format::Pdf(_, _) => true,
     }
 }

@@ -11,48 +11,43 @@ use Rattle.pr_serial.specs.declared.Present.{Present}
 use Rattle.pr_system.specs.declared.outcome.Outcome.{Outcome}
 use Rattle.pr_dots.specs.declared.character_sets.Shapes.{Shapes}
 use Rattle.pr_render.specs.Laws.{PicturesTellPapers, drawn_papers, is_paper}
-use Rattle.pr_render.specs.Parts.{desk, document_about, document_begin, height_begin, notes_begin, paper_piece, units_begin, units_between}
-use Rattle.pr_render.specs.Svg.{definitions_svg, drawn_marks, drawn_of, head_svg, height_of, name_line, notes_svg, picture_svg, sheet_picas, sheet_svg, size_svg, units_svg, width_of}
+use Rattle.pr_render.specs.Parts.{desk, document_about, document_begin, notes_begin, paper_piece, sheet_begin, units_begin}
+use Rattle.pr_render.specs.Svg.{definitions_svg, drawn_marks, drawn_of, head_svg, height_of, name_line, notes_svg, picture_svg, sheet_room, sheet_svg, sheets_picas, size_svg, units_svg}
 use Rattle.pr_render.specs.Words.{text_if}
 use Rattle.pr_render.proofs.Documents.{all-definitions-split, sheet-split}
 use Rattle.pr_render.proofs.Skipped.{after-part, after_line, in-append, in-number, in_line}
 use Rattle.pr_render.proofs.Told.{regroup}
 
 -- the head is passed over
-in-size : (w h : ℕ) → in_line (size_svg w h) ≡ true
-unfolding size_svg document_begin height_begin
-in-size w h =
-    in-append ((document_begin ++ decimal w) ++ height_begin) (decimal h)
-    (in-append (document_begin ++ decimal w) height_begin (in-append document_begin (decimal w) refl (in-number w)) refl) (in-number h)
+in-size : (h : ℕ) → in_line (size_svg h) ≡ true
+unfolding size_svg document_begin
+in-size h = in-append document_begin (decimal h) refl (in-number h)
 
-in-units : (w h : ℕ) → in_line (units_svg w h) ≡ true
-unfolding units_svg units_begin units_between
-in-units w h =
-    in-append ((units_begin ++ decimal (210 * w)) ++ units_between) (decimal (210 * h))
-    (in-append (units_begin ++ decimal (210 * w)) units_between (in-append units_begin (decimal (210 * w)) refl (in-number (210 * w))) refl) (in-number (210 * h))
+in-units : (h : ℕ) → in_line (units_svg h) ≡ true
+unfolding units_svg units_begin
+in-units h = in-append units_begin (decimal (210 * h)) refl (in-number (210 * h))
 
 about-skip : (r : List ℕ) → after_line (after_line (after_line (after_line (after_line (document_about ++ (paper_piece ++ (desk ++ r))))))) ≡ r
 unfolding document_about paper_piece desk
 about-skip r = refl
 
-head-skip : (w h : ℕ) (r : List ℕ) → after_line (after_line (after_line (after_line (after_line (head_svg w h ++ r))))) ≡ r
+head-skip : (h : ℕ) (r : List ℕ) → after_line (after_line (after_line (after_line (after_line (head_svg h ++ r))))) ≡ r
 unfolding head_svg
-head-skip w h r =
-    ap (λ e. after_line (after_line (after_line (after_line (after_line e))))) (regroup (size_svg w h) (units_svg w h) document_about paper_piece desk r)
-    ∙ ap (λ e. after_line (after_line (after_line (after_line e)))) (after-part (size_svg w h) (units_svg w h ++ (document_about ++ (paper_piece ++ (desk ++ r)))) (in-size w h)
-    ∙ after-part (units_svg w h) (document_about ++ (paper_piece ++ (desk ++ r))) (in-units w h))
+head-skip h r =
+    ap (λ e. after_line (after_line (after_line (after_line (after_line e))))) (regroup (size_svg h) (units_svg h) document_about paper_piece desk r)
+    ∙ ap (λ e. after_line (after_line (after_line (after_line e)))) (after-part (size_svg h) (units_svg h ++ (document_about ++ (paper_piece ++ (desk ++ r)))) (in-size h)
+    ∙ after-part (units_svg h) (document_about ++ (paper_piece ++ (desk ++ r))) (in-units h))
     ∙ about-skip r
 
--- a printer's sheet: the lines above its first row, its place in the document, its length, and its paper
+-- a printer's sheet: the lines above its first row, the sheets above it in the document, in picas, and its paper
 record Sheet : Type 0 where
   top : ℕ
   device : ℕ
-  x : ℕ
-  picas : ℕ
+  above : ℕ
   paper : Paper
 
 abbrev sheet-text : Sheet → List ℕ
-sheet-text s = sheet_svg s.top s.device s.x s.picas s.paper
+sheet-text s = sheet_svg s.top s.device s.above s.paper
 
 abbrev told-by : Sheet → ℕ × Paper
 told-by s = (s.device, s.paper)
@@ -68,7 +63,7 @@ abbrev Follows : List ℕ → Type 0
 Follows e = 103 < get_or e 1 0
 
 sheet-no : (s : Sheet) (a b : List ℕ) → Follows a → a ≡ sheet-text s ++ b → ⊥
-unfolding sheet_svg name_line
+unfolding sheet_svg name_line sheet_begin
 sheet-no s a b far is = by (ap (λ e. get_or e 1 0) is)
   where
     by : get_or a 1 0 ≡ 103 → ⊥
@@ -89,7 +84,7 @@ sheets-split (s ∷ ss) (t ∷ ts) a b f g far near is =
     let tf = and_parts (is-sheet t) (list_all is-sheet ts) g in
     let sp = and_parts (nat_lt s.device 10) (is_paper s.paper) sf.0 in
     let tp = and_parts (nat_lt t.device 10) (is_paper t.paper) tf.0 in
-    let first = sheet-split s.top s.device s.x s.picas s.paper t.top t.device t.x t.picas t.paper (flat_map sheet-text ss ++ a) (flat_map sheet-text ts ++ b) sp.1 tp.1
+    let first = sheet-split s.top s.device s.above s.paper t.top t.device t.above t.paper (flat_map sheet-text ss ++ a) (flat_map sheet-text ts ++ b) sp.1 tp.1
     (sym (ap (λ e. e ++ a) (flat_map-cons sheet-text s ss) ∙ append_assoc (sheet-text s) (flat_map sheet-text ss) a)
     ∙ (is ∙ (ap (λ e. e ++ b) (flat_map-cons sheet-text t ts) ∙ append_assoc (sheet-text t) (flat_map sheet-text ts) b))) in
     let devices = decimal_injective s.device t.device (device-small s.device sp.0) (device-small t.device tp.0) first.0 in
@@ -99,10 +94,10 @@ sheets-split (s ∷ ss) (t ∷ ts) a b f g far near is =
 
 -- the sheets of a picture
 abbrev first-sheet : (top : ℕ) → Outcome → Sheet
-first-sheet top outcome = record { top = top; device = 4; x = 630; picas = sheet_picas top outcome; paper = outcome.paper4 }
+first-sheet top outcome = record { top = top; device = 4; above = 0; paper = outcome.paper4 }
 
 abbrev second-sheet : (top : ℕ) → Bool → Outcome → Sheet
-second-sheet top four outcome = record { top = top; device = 5; x = cond four 13860 630; picas = sheet_picas top outcome; paper = outcome.paper5 }
+second-sheet top four outcome = record { top = top; device = 5; above = sheet_room four top outcome.paper4; paper = outcome.paper5 }
 
 abbrev sheets-of : (top : ℕ) → Outcome → (four five : Bool) → List Sheet
 sheets-of top outcome four five = cond four (first-sheet top outcome ∷ []) [] ++ cond five (second-sheet top four outcome ∷ []) []
@@ -135,36 +130,36 @@ sheets-papers top outcome false true = refl
 sheets-papers top outcome false false = refl
 
 -- the document, part by part
-abbrev notes-end : (top : ℕ) → Outcome → List ℕ
-notes-end top outcome = notes_svg (sheet_picas top outcome) outcome ++ codes "</svg>\n"
+abbrev notes-end : (top : ℕ) → Outcome → Present → List ℕ
+notes-end top outcome drawn = notes_svg (sheets_picas top outcome drawn) outcome ++ codes "</svg>\n"
 
-notes-follow : (top : ℕ) (outcome : Outcome) → Follows (notes-end top outcome)
+notes-follow : (top : ℕ) (outcome : Outcome) (drawn : Present) → Follows (notes-end top outcome drawn)
 unfolding notes_svg notes_begin
-notes-follow top outcome = omega arith
+notes-follow top outcome drawn = omega arith
 
 picture-parts : (shapes : Shapes) (top : ℕ) (outcome : Outcome) (drawn : Present) → picture_svg shapes top outcome drawn
-    ≡ head_svg (width_of drawn) (height_of (sheet_picas top outcome) outcome)
-    ++ (definitions_svg shapes (drawn_marks outcome drawn) ++ (flat_map sheet-text (sheets-of top outcome drawn.four drawn.five) ++ notes-end top outcome))
+    ≡ head_svg (height_of (sheets_picas top outcome drawn) outcome)
+    ++ (definitions_svg shapes (drawn_marks outcome drawn) ++ (flat_map sheet-text (sheets-of top outcome drawn.four drawn.five) ++ notes-end top outcome drawn))
 unfolding picture_svg
 picture-parts shapes top outcome drawn =
-    regroup (head_svg (width_of drawn) (height_of (sheet_picas top outcome) outcome)) (definitions_svg shapes (drawn_marks outcome drawn))
+    regroup (head_svg (height_of (sheets_picas top outcome drawn) outcome)) (definitions_svg shapes (drawn_marks outcome drawn))
     (text_if drawn.four (sheet-text (first-sheet top outcome))) (text_if drawn.five (sheet-text (second-sheet top drawn.four outcome)))
-    (notes_svg (sheet_picas top outcome) outcome) (codes "</svg>\n")
-    ∙ ap (λ t. head_svg (width_of drawn) (height_of (sheet_picas top outcome) outcome) ++ (definitions_svg shapes (drawn_marks outcome drawn) ++ t))
-    (sheets-text top outcome drawn.four drawn.five (notes-end top outcome))
+    (notes_svg (sheets_picas top outcome drawn) outcome) (codes "</svg>\n")
+    ∙ ap (λ t. head_svg (height_of (sheets_picas top outcome drawn) outcome) ++ (definitions_svg shapes (drawn_marks outcome drawn) ++ t))
+    (sheets-text top outcome drawn.four drawn.five (notes-end top outcome drawn))
 
 drawn-tell : (shapes other : Shapes) (top lower : ℕ) (these those : Outcome) (drawn kept : Present)
     → is_paper these.paper4 ≡ true → is_paper these.paper5 ≡ true → is_paper those.paper4 ≡ true → is_paper those.paper5 ≡ true
     → picture_svg shapes top these drawn ≡ picture_svg other lower those kept → drawn_papers these drawn ≡ drawn_papers those kept
 drawn-tell shapes other top lower these those drawn kept e f g h is =
-    let headless : definitions_svg shapes (drawn_marks these drawn) ++ (flat_map sheet-text (sheets-of top these drawn.four drawn.five) ++ notes-end top these)
-    ≡ definitions_svg other (drawn_marks those kept) ++ (flat_map sheet-text (sheets-of lower those kept.four kept.five) ++ notes-end lower those)
-    = sym (head-skip (width_of drawn) (height_of (sheet_picas top these) these) _)
+    let headless : definitions_svg shapes (drawn_marks these drawn) ++ (flat_map sheet-text (sheets-of top these drawn.four drawn.five) ++ notes-end top these drawn)
+    ≡ definitions_svg other (drawn_marks those kept) ++ (flat_map sheet-text (sheets-of lower those kept.four kept.five) ++ notes-end lower those kept)
+    = sym (head-skip (height_of (sheets_picas top these drawn) these) _)
     ∙ (ap (λ t. after_line (after_line (after_line (after_line (after_line t))))) (sym (picture-parts shapes top these drawn) ∙ (is ∙ picture-parts other lower those kept))
-    ∙ head-skip (width_of kept) (height_of (sheet_picas lower those) those) _) in
+    ∙ head-skip (height_of (sheets_picas lower those kept) those) _) in
     let sheets = all-definitions-split shapes other (drawn_marks these drawn) (drawn_marks those kept) _ _ headless in
-    let told = sheets-split (sheets-of top these drawn.four drawn.five) (sheets-of lower those kept.four kept.five) (notes-end top these) (notes-end lower those)
-    (sheets-fit top these drawn.four drawn.five e f) (sheets-fit lower those kept.four kept.five g h) (notes-follow top these) (notes-follow lower those) sheets in
+    let told = sheets-split (sheets-of top these drawn.four drawn.five) (sheets-of lower those kept.four kept.five) (notes-end top these drawn) (notes-end lower those kept)
+    (sheets-fit top these drawn.four drawn.five e f) (sheets-fit lower those kept.four kept.five g h) (notes-follow top these drawn) (notes-follow lower those kept) sheets in
     sym (sheets-papers top these drawn.four drawn.five) ∙ (told ∙ sheets-papers lower those kept.four kept.five)
 
 -- pictures determine their papers

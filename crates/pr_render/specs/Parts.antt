@@ -1,21 +1,13 @@
 -- Trusted: the fixed parts of the picture. A unit of the document is 1/1260 inch.
 use Rattle.std.specs.Prelude.{ℕ, List, codes}
 
--- the document's first tag, up to its width
+-- the document's first tag, 11 inches wide, up to its height in picas
 unfoldable pub document_begin : List ℕ
-document_begin = codes "<svg xmlns=\"http://www.w3.org/2000/svg\" version=\"1.1\" width=\""
+document_begin = codes "<svg xmlns=\"http://www.w3.org/2000/svg\" version=\"1.1\" width=\"66pc\" height=\""
 
--- what is between the document's width and its height
-unfoldable pub height_begin : List ℕ
-height_begin = codes "pc\" height=\""
-
--- what is between its size in picas and its size in units
+-- what is between its height in picas and its height in units
 unfoldable pub units_begin : List ℕ
-units_begin = codes "pc\" viewBox=\"0 0 "
-
--- what is between its width and its height in units
-unfoldable pub units_between : List ℕ
-units_between = codes " "
+units_begin = codes "pc\" viewBox=\"0 0 13860 "
 
 -- the rest of that tag, and what the picture shows
 unfoldable pub document_about : List ℕ
@@ -39,9 +31,13 @@ definitions_begin = codes "<defs>\n"
 unfoldable pub definitions_end : List ℕ
 definitions_end = codes "</defs>\n"
 
+-- a sheet's place, half an inch from the left, up to its distance from the top
+unfoldable pub sheet_begin : List ℕ
+sheet_begin = codes "<g transform=\"translate(630 "
+
 -- a sheet's name, up to the printer's number
 unfoldable pub sheet_name : List ℕ
-sheet_name = codes " 1050)\">\n<text font-size=\"210\" fill=\"#555\" y=\"-210\">Printer "
+sheet_name = codes ")\">\n<text font-size=\"210\" fill=\"#555\" y=\"-210\">Printer "
 
 -- a sheet's paper, up to its height
 unfoldable pub sheet_paper : List ℕ

@@ -31,7 +31,7 @@ pdf_showing device (Some sheet) layout = None
 -- a format that shows this part of the pages, if it can: the list and the lines show all pages, without their paper
 abbrev pub showing : Format → Part → Option Format
 showing List part = if_whole List part.device part.sheet
-showing Lines part = if_whole Lines part.device part.sheet
+showing (Lines look) part = if_whole (Lines look) part.device part.sheet
 showing (Svg old) part = Some (Svg part)
 showing (Png old) part = Some (Png part)
 showing (Pdf old paper) part = pdf_showing part.device part.sheet part.layout

@@ -49,14 +49,23 @@ pub struct Part {
     pub scale: Scale,
 }
 
+/// How lines show what is printed in reverse (profile).
+#[derive(Clone, Copy, Debug, PartialEq, Eq)]
+pub enum Look {
+    /// For a file: reversed letters as letters, and reversed blanks as full blocks.
+    Blocks,
+    /// For a terminal: in its reverse video, which SGR 7 of ECMA-48 begins and SGR 27 ends.
+    Video,
+}
+
 /// How pages are written, and what of them (profile).
 #[derive(Clone, Copy, Debug, PartialEq, Eq)]
 pub enum Format {
     /// The page text, a line for each row and each mark.
     List,
     /// Lines of at most 80 columns, for a terminal, mail and `diff`.
-    Lines,
-    /// An SVG document, for a browser: the pages of all printers side by side, those of one printer, or one sheet.
+    Lines(Look),
+    /// An SVG document, for a browser: the pages of all printers one above the other, those of one printer, or one sheet.
     Svg(Part),
     /// A bitmap: the paper of one printer down to its last row, or one sheet.
     Png(Part),
@@ -100,7 +109,7 @@ impl Format {
     {
         match (self, part.device, part.sheet) {
             (Format::List, None, None) => Some(Format::List),
-            (Format::Lines, None, None) => Some(Format::Lines),
+            (Format::Lines(look), None, None) => Some(Format::Lines(look)),
             (Format::Svg(_), _, _) => Some(Format::Svg(part)),
             (Format::Png(_), _, _) => Some(Format::Png(part)),
             (Format::Pdf(_, _), device, None) => Some(Format::Pdf(device, part.layout)),

@@ -5,38 +5,22 @@
 //! an inch long, so its size does not grow with the page.
 
 ghost use Rattle.std.specs.Prelude.{◌≡◌, ◌≤◌, length};
-ghost use Rattle.pr_render.specs.Parts.{definitions_begin, definitions_end, desk, document_about, document_begin, height_begin, held_begin, held_note, ink_begin, letters_fitted, letters_width, mark_begin, mark_path, notes_begin, paper_folds, paper_piece, row_begin, sheet_end, sheet_marks, sheet_name, sheet_paper, single_begin, single_end, single_marks, single_paper, single_size, status_begin, stop_begin, text_end, units_begin, units_between, use_begin, use_end, use_place};
+ghost use Rattle.pr_render.specs.Parts.{definitions_begin, definitions_end, desk, document_about, document_begin, held_begin, held_note, ink_begin, letters_fitted, letters_width, mark_begin, mark_path, notes_begin, paper_folds, paper_piece, row_begin, sheet_begin, sheet_end, sheet_marks, sheet_name, sheet_paper, single_begin, single_end, single_marks, single_paper, single_size, status_begin, stop_begin, text_end, units_begin, use_begin, use_end, use_place};
 
-/// The document's first tag, up to its width.
+/// The document's first tag, 11 inches wide, up to its height in picas.
 #[tactic(auto, unfolding(crate::specs::Parts::document_begin))]
 pub fn document_begin() -> &'static [u8]
     ensures { result.now ≡ document_begin }
 {
-    b"<svg xmlns=\"http://www.w3.org/2000/svg\" version=\"1.1\" width=\""
+    b"<svg xmlns=\"http://www.w3.org/2000/svg\" version=\"1.1\" width=\"66pc\" height=\""
 }
 
-/// Between the document's width and height.
-#[tactic(auto, unfolding(crate::specs::Parts::height_begin))]
-pub fn height_begin() -> &'static [u8]
-    ensures { result.now ≡ height_begin }
-{
-    b"pc\" height=\""
-}
-
-/// Between its size in picas and its size in units.
+/// Between its height in picas and its height in units.
 #[tactic(auto, unfolding(crate::specs::Parts::units_begin))]
 pub fn units_begin() -> &'static [u8]
     ensures { result.now ≡ units_begin }
 {
-    b"pc\" viewBox=\"0 0 "
-}
-
-/// Between its width and height in units.
-#[tactic(auto, unfolding(crate::specs::Parts::units_between))]
-pub fn units_between() -> &'static [u8]
-    ensures { result.now ≡ units_between }
-{
-    b" "
+    b"pc\" viewBox=\"0 0 13860 "
 }
 
 /// The rest of that tag, and what the picture shows.
@@ -79,12 +63,20 @@ pub fn definitions_end() -> &'static [u8]
     b"</defs>\n"
 }
 
+/// A sheet's place, half an inch from the left, up to its distance from the top.
+#[tactic(auto, unfolding(crate::specs::Parts::sheet_begin))]
+pub fn sheet_begin() -> &'static [u8]
+    ensures { result.now ≡ sheet_begin }
+{
+    b"<g transform=\"translate(630 "
+}
+
 /// A sheet's name, up to the printer's number.
 #[tactic(auto, unfolding(crate::specs::Parts::sheet_name))]
 pub fn sheet_name() -> &'static [u8]
     ensures { result.now ≡ sheet_name }
 {
-    b" 1050)\">\n<text font-size=\"210\" fill=\"#555\" y=\"-210\">Printer "
+    b")\">\n<text font-size=\"210\" fill=\"#555\" y=\"-210\">Printer "
 }
 
 /// A sheet's paper, up to its height.

@@ -4,7 +4,7 @@ use crate::text::joined;
 use pr_dots::Shapes;
 use pr_page::{Mark, Paper, Placed, Row, Sequence};
 use pr_render::laws::{discs_are_the_dots, lines_show_each_cell, names_tell_marks};
-use pr_render::{svg, svg_blocks, text};
+use pr_render::{Look, svg, svg_blocks, text};
 use pr_serial::Present;
 use pr_system::Outcome;
 use std::process::Abort;
@@ -61,8 +61,8 @@ const SIZE: &str = "width=\"66pc\" height=\"18pc\" viewBox=\"0 0 13860 3780\"";
 /// Where the first sheet begins.
 const FIRST: &str = "<g transform=\"translate(630 1050)\">\n";
 
-/// Where the second sheet begins.
-const SECOND: &str = "<g transform=\"translate(13860 1050)\">\n";
+/// Where a sheet below it begins.
+const SECOND: &str = "<g transform=\"translate(630 3990)\">\n";
 
 /// The sheet of printer 4 up to the marks of its only row.
 const FOUR_BEGIN: &str =
@@ -78,6 +78,14 @@ const FIVE_SHEET: &str =
 /// What is below the sheets.
 const BELOW: &str =
     "<text font-size=\"210\" fill=\"#555\" transform=\"translate(630 3150)\">\n</text>\n</svg>\n";
+
+/// What is below two of them.
+const BELOW_BOTH: &str =
+    "<text font-size=\"210\" fill=\"#555\" transform=\"translate(630 6090)\">\n</text>\n</svg>\n";
+
+/// What there is without a sheet.
+const ALONE: &str =
+    "<text font-size=\"210\" fill=\"#555\" transform=\"translate(630 210)\">\n</text>\n</svg>\n";
 
 /// An `A` as it is drawn, and as it is searched for.
 pub const A: &str = "<use href=\"#u65\" x=\"0\"/>\n";
@@ -97,7 +105,7 @@ const DISTANCES: &str =
 
 /// Two empty sheets, and what is below them.
 const EMPTY: &str =
-    "<g transform=\"translate(630 1050)\">\n<text font-size=\"210\" fill=\"#555\" y=\"-210\">Printer 4</text>\n<rect width=\"12600\" height=\"1260\" fill=\"url(#paper)\" stroke=\"#b4afa2\" stroke-width=\"10\"/>\n<rect y=\"1260\" width=\"12600\" height=\"0\" fill=\"url(#folds)\"/>\n<g transform=\"translate(1260 630)\">\n<g stroke-width=\"29\" stroke-linecap=\"round\" fill-opacity=\"0\" font-size=\"140\">\n</g>\n</g>\n</g>\n<g transform=\"translate(13860 1050)\">\n<text font-size=\"210\" fill=\"#555\" y=\"-210\">Printer 5</text>\n<rect width=\"12600\" height=\"1260\" fill=\"url(#paper)\" stroke=\"#b4afa2\" stroke-width=\"10\"/>\n<rect y=\"1260\" width=\"12600\" height=\"0\" fill=\"url(#folds)\"/>\n<g transform=\"translate(1260 630)\">\n<g stroke-width=\"29\" stroke-linecap=\"round\" fill-opacity=\"0\" font-size=\"140\">\n</g>\n</g>\n</g>\n<text font-size=\"210\" fill=\"#555\" transform=\"translate(630 2520)\">\n</text>\n</svg>\n";
+    "<g transform=\"translate(630 1050)\">\n<text font-size=\"210\" fill=\"#555\" y=\"-210\">Printer 4</text>\n<rect width=\"12600\" height=\"1260\" fill=\"url(#paper)\" stroke=\"#b4afa2\" stroke-width=\"10\"/>\n<rect y=\"1260\" width=\"12600\" height=\"0\" fill=\"url(#folds)\"/>\n<g transform=\"translate(1260 630)\">\n<g stroke-width=\"29\" stroke-linecap=\"round\" fill-opacity=\"0\" font-size=\"140\">\n</g>\n</g>\n</g>\n<g transform=\"translate(630 3360)\">\n<text font-size=\"210\" fill=\"#555\" y=\"-210\">Printer 5</text>\n<rect width=\"12600\" height=\"1260\" fill=\"url(#paper)\" stroke=\"#b4afa2\" stroke-width=\"10\"/>\n<rect y=\"1260\" width=\"12600\" height=\"0\" fill=\"url(#folds)\"/>\n<g transform=\"translate(1260 630)\">\n<g stroke-width=\"29\" stroke-linecap=\"round\" fill-opacity=\"0\" font-size=\"140\">\n</g>\n</g>\n</g>\n<text font-size=\"210\" fill=\"#555\" transform=\"translate(630 4830)\">\n</text>\n</svg>\n";
 
 /// The end of the picture of `each_growth_refused`.
 const GROWN: &str =
@@ -161,7 +169,7 @@ fn drawn(rt: &(impl Abort + AllocGlobal), outcome: &Outcome, present: Present) -
 
 /// Its lines.
 fn said(rt: &(impl Abort + AllocGlobal), outcome: &Outcome, present: Present) -> Vec<u8> {
-    text(rt.alloc(), outcome, present).expect(rt, "memory")
+    text(rt.alloc(), Look::Blocks, outcome, present).expect(rt, "memory")
 }
 
 /// The picture has these parts, and the lines are these.
@@ -254,10 +262,61 @@ fn wide_cell_at_the_edge(rt: HostRuntime) {
     );
 }
 
+/// A reversed cell.
+const fn reversed(x: u16, code: u8, wide: bool) -> Placed {
+    Placed {
+        x,
+        mark: Mark::Cell {
+            code,
+            lower: false,
+            reverse: true,
+            wide,
+        },
+    }
+}
+
+/// Lines for a file have letters as they are, full blocks for reversed blanks, and a blank beside a wide letter; on a terminal all
+/// that is reversed is in reverse video, but for dots over it.
+#[test]
+fn reversed_cells_in_lines(rt: HostRuntime) {
+    const DOTS: Placed = Placed {
+        x: 66,
+        mark: Mark::Dots(127),
+    };
+    let marks = [
+        reversed(0, 72, true),
+        reversed(12, 73, true),
+        reversed(24, 32, true),
+        cell(48, 65, false),
+        reversed(54, 66, false),
+        reversed(60, 32, false),
+        reversed(66, 67, false),
+        DOTS,
+        reversed(78, 160, false),
+    ];
+    let paper4 = paper(&rt, &[(0, &marks)]);
+    let outcome = printed(&rt, paper4, Sequence::new(rt.alloc()));
+    let rows = [
+        (
+            Look::Blocks,
+            "Printer 4\nH I \u{2588}\u{2588}  AB\u{2588}\u{2591} \u{2588}\n",
+        ),
+        (
+            Look::Video,
+            "Printer 4\n\u{1b}[7mH I   \u{1b}[27m  A\u{1b}[7mB \u{1b}[27m\u{2591} \u{1b}[7m\u{a0}\u{1b}[27m\n",
+        ),
+    ];
+    for (look, lines) in rows {
+        let said = text(rt.alloc(), look, &outcome, FOUR).expect(&rt, "memory");
+        assert!(&rt; said.as_slice() == lines.as_bytes(), "{lines}");
+    }
+}
+
 /// A printer that is not there has no sheet, whatever is on its paper.
 #[test]
 fn printers_that_are_there(rt: HostRuntime) {
-    const WIDE: &str = "width=\"129pc\" height=\"18pc\" viewBox=\"0 0 27090 3780\"";
+    const HIGH: &str = "width=\"66pc\" height=\"32pc\" viewBox=\"0 0 13860 6720\"";
+    const LOW: &str = "width=\"66pc\" height=\"4pc\" viewBox=\"0 0 13860 840\"";
     let paper4 = paper(&rt, &[(0, &[cell(0, 65, false)])]);
     let outcome = printed(&rt, paper4, sequence(&rt, &[cell(0, 65, true)]));
     let rows: [(Present, &[&str], &str); 3] = [
@@ -265,7 +324,7 @@ fn printers_that_are_there(rt: HostRuntime) {
             BOTH,
             &[
                 BEGIN,
-                WIDE,
+                HIGH,
                 ABOUT,
                 DEFINED_A,
                 DEFINED_SMALL_A,
@@ -277,7 +336,7 @@ fn printers_that_are_there(rt: HostRuntime) {
                 FOUR_END,
                 SECOND,
                 FIVE_SHEET,
-                BELOW,
+                BELOW_BOTH,
             ],
             "Printer 4\nA\nPrinter 5\nHeld, not yet printed:\na\n",
         ),
@@ -295,7 +354,7 @@ fn printers_that_are_there(rt: HostRuntime) {
             ],
             "Printer 5\nHeld, not yet printed:\na\n",
         ),
-        (NONE, &[BEGIN, SIZE, ABOUT, DEFINED, BELOW], ""),
+        (NONE, &[BEGIN, LOW, ABOUT, DEFINED, ALONE], ""),
     ];
     for (present, parts, lines) in rows {
         shows(&rt, &outcome, present, parts, lines);
@@ -315,7 +374,7 @@ fn printer_beside_one_that_printed(rt: HostRuntime) {
 /// It has one where no other has.
 #[test]
 fn printers_that_printed_nothing(rt: HostRuntime) {
-    const TWO: &str = "width=\"129pc\" height=\"15pc\" viewBox=\"0 0 27090 3150\"";
+    const TWO: &str = "width=\"66pc\" height=\"26pc\" viewBox=\"0 0 13860 5460\"";
     let parts = [BEGIN, TWO, ABOUT, DEFINED, EMPTY];
     let nothing = holding(&rt, Sequence::new(rt.alloc()));
     shows_paper(&rt, nothing, BOTH, &parts, "Printer 4\nPrinter 5\n");
@@ -359,7 +418,7 @@ fn laws(_rt: HostRuntime) {
 /// How many calls are refused memory. Each other one gives what it gives with ample memory.
 fn refusals(rt: &(impl Abort + AllocGlobal), outcome: &Outcome) -> usize {
     let drawn = svg(rt.alloc(), &Shapes::own(), 3, outcome, FOUR);
-    let said = text(rt.alloc(), outcome, FOUR);
+    let said = text(rt.alloc(), Look::Blocks, outcome, FOUR);
     let mut refused = 0;
     match drawn {
         Ok(picture) => assert!(rt; picture.as_slice().ends_with(GROWN.as_bytes())),

@@ -11,7 +11,7 @@ use pr_jobs::{
     CliFault, Ending, Start, Watched, bus_as_over, bus_over, check_as_over, check_over,
     pages_as_over, pages_over, raw_over,
 };
-use pr_render::{Format, Layout, Part, Size};
+use pr_render::{Format, Layout, Look, Part, Size};
 use pr_report::Report;
 use pr_serial::Present;
 use pr_wire::Choices;
@@ -172,7 +172,7 @@ static ROWS: [Row; 18] = [
         "printer 4\nrow 0\n 0 cell 72\n 6 cell 73\nprinter 5\nstatus 0 0\nscreen\n",
     ),
     (
-        Call::Pages(Format::Lines),
+        Call::Pages(Format::Lines(Look::Blocks)),
         HI,
         "Printer 4\nHI\nPrinter 5\nStatuses: 0 0.\n",
     ),
@@ -182,7 +182,11 @@ static ROWS: [Row; 18] = [
         HI_BYTES,
         "printer 4\nrow 0\n 0 cell 72\n 6 cell 73\nprinter 5\nstatus\nscreen\n",
     ),
-    (Call::Raw(Format::Lines), HI_BYTES, "Printer 4\nHI\n"),
+    (
+        Call::Raw(Format::Lines(Look::Blocks)),
+        HI_BYTES,
+        "Printer 4\nHI\n",
+    ),
     (Call::Raw(SVG), HI_BYTES, PICTURE),
     (Call::TraceText, HI, TRACE_TEXT),
     (Call::Bus(TraceFormat::Vcd), HI, EXAMPLE_DUMP),
