@@ -97,8 +97,16 @@ def moments(*tops):
 
 
 def library_sum(name):
-    """The sum of what lies in a crate's library, which is another one after each build."""
-    return hashlib.sha256(repr(moments(f"{ROOT}/crates/{name}/out/rlib/{name}.rlib")).encode()).hexdigest()[:16]
+    """The sum of what lies in a crate's library, which is another one after each build. Its moments say nothing: another copy of
+    the repository that takes the same library out of the kit's store links its files once more, which changes them."""
+    top, found = f"{ROOT}/crates/{name}/out/rlib/{name}.rlib", hashlib.sha256()
+    for at, folders, files in os.walk(top):
+        folders.sort()
+        for it in sorted(files):
+            found.update(os.path.relpath(f"{at}/{it}", top).encode())
+            with open(f"{at}/{it}", "rb") as file:
+                found.update(hashlib.file_digest(file, "sha256").digest())
+    return found.hexdigest()[:16]
 
 
 def has_gate_libraries(name):

@@ -32,6 +32,8 @@ const WORDS = [
   [/sample rate with --rate, such as --rate 4M,/, 'sample rate in “samples a second”,'],
   [/--rate gives the distance of the samples, such as --rate 4M,/, '“samples a second” gives the distance of the samples,'],
   [/--rate gives one in their place, such as --rate 4M/, '“samples a second” gives one in their place'],
+  [/give --rate, which is/, 'give “samples a second”, which is'],
+  [/such as --rate 500k for/, 'such as 500k for'],
   [/without --rate/, 'without a rate'],
   [/the sample rate \(--rate, or the line that gives it\)/, 'the sample rate (“samples a second”, or the line that gives it)'],
   [/--from-time/, '“starts at”'],

@@ -679,18 +679,32 @@ fn tell_read<R: Read + Drop>(
         Some(name) if aside.is_file => rt.again(name, count),
         _ => kept.into_bytes(),
     };
-    let bytes = bytes?;
+    match bytes {
+        Some(bytes) => tell_bytes(rt, bytes.as_slice(), listing, subject, answer, aside),
+        None => None,
+    }
+}
+
+/// Says the same of the bytes that a job has read.
+fn tell_bytes(
+    rt: &(impl Outside + Eprint + AllocGlobal),
+    bytes: &[u8],
+    listing: Option<Listing<'_>>,
+    subject: Subject<'_>,
+    answer: Result<Answer, CliFault>,
+    aside: Aside<'_>,
+) -> Option<&'static str> {
     if aside.is_explained {
         let end = run_end_of(answer);
-        tell_more(rt, bytes.as_slice(), listing, subject, end);
+        tell_more(rt, bytes, listing, subject, end);
     }
-    if !is_noted {
+    if !aside.is_noted || !has_answer(subject, answer) {
         return None;
     }
     note_listing(rt, aside.note);
     let is_whole = aside.is_explained || aside.count.get() <= NOTED;
-    tell_notes(rt, bytes.as_slice(), is_whole, subject);
-    blank_reason(bytes.as_slice())
+    tell_notes(rt, bytes, is_whole, subject);
+    blank_reason(bytes)
 }
 
 /// Whether a job was done, or refused with a fault of which there may be notes.

@@ -24,8 +24,14 @@ const PDF: &str = "this is a PDF document: save the listing in it as plain text"
 /// What is said of a picture.
 const PICTURE: &str = "this is a picture, which has no listing as text";
 
+/// What is said of a program of another computer.
+const GW_BASIC: &str =
+    "this may be a saved program of GW-BASIC, of a PC: save it as text there, as in SAVE \"NAME\",A";
+
+const BBC_BASIC: &str = "this may be a saved program of BBC BASIC: save it as text there";
+
 /// How files of other kinds begin.
-const BEGINNINGS: [(&[u8], &str); 10] = [
+const BEGINNINGS: [(&[u8], &str); 11] = [
     (b"\x1f\x8b", GZIP),
     (b"\xfd7zXZ\0", XZ),
     (b"BZh", BZIP2),
@@ -36,6 +42,7 @@ const BEGINNINGS: [(&[u8], &str); 10] = [
     (b"%PDF", PDF),
     (b"\x89PNG", PICTURE),
     (b"\xff\xd8\xff", PICTURE),
+    (b"\r\0", BBC_BASIC),
 ];
 
 /// What is said of a file of another kind that is given for a listing; nothing where it may be one. Only a listing that is
@@ -49,10 +56,12 @@ pub fn other_kind(bytes: &[u8]) -> Option<&'static str> {
     image_kind(bytes)
 }
 
-/// The same of an image of a disk, a tape or a cartridge.
+/// The same of an image of a disk, a tape or a cartridge, and of a byte 255, which is no mark of UTF-16.
 fn image_kind(bytes: &[u8]) -> Option<&'static str> {
     if looks_like_disk(bytes) && !looks_like_text(bytes) {
         Some(DISK)
+    } else if bytes.starts_with(b"\xff") && !bytes.starts_with(b"\xff\xfe") {
+        Some(GW_BASIC)
     } else if bytes.starts_with(b"C64-TAPE-RAW") {
         Some(TAPE)
     } else if bytes.starts_with(b"C64 CARTRIDGE") {

@@ -1,9 +1,14 @@
 //! Notes: what is lawful and probably not what was meant, a line each on standard error.
 
 use crate::lacking::{BOTH, hears, holds};
-use pr_basic::cut_line;
-use pr_capture::{Source, TraceInput};
-use pr_explain::{begins_listing, html_instead, repeated_rows, unit_meant};
+use crate::order::note_order;
+use crate::script_lines::{
+    has_line_behind_blank, has_line_in_heading, is_cut_off, label_of, line_with_return, remark_of,
+    wrapped_line,
+};
+use crate::strings::{Noting, noted_in_strings};
+use pr_capture::{Source, Threshold, TraceInput};
+use pr_explain::{Misread, misread_line, repeated_rows, unit_meant};
 use pr_jobs::{HeldMarks, PagesEnd, PaperEnd, RunEnd, shown_of};
 use pr_listing::{
     ListingForm, has_typed_strings, is_p00, is_t64, looks_like_disk, looks_saved, program_in,
@@ -24,83 +29,13 @@ const TYPED_STRINGS: &str =
 
 /// What is said of petcat's text whose strings have more capitals than small letters.
 const PETCAT_CAPITALS: &str =
-    "capitals in the strings of petcat's text print graphics; --from text sends strings as they are";
+    "capitals in the strings of petcat's text are shifted letters, which the graphic set prints as graphics; \
+     --from text sends strings as they are";
 
 /// What is said of petcat's text whose heading seems to have other lines in it.
 const HEADING_RETURNS: &str =
-    "a heading of petcat's text has carriage returns in it, which do not end a line here, so what follows them is no line \
+    "a heading of petcat's text has other line ends than LF in it, which end no line here, so what follows them is no line \
      of the program: if it was meant to be, save the text with LF or CR LF line ends";
-
-/// What is said of a script or a magazine's listing with names of keys in other brackets than braces.
-const BRACKET_NAMES: &str =
-    "names of keys in brackets are printed as they are: a magazine's listing (--from magazine) has them in braces, \
-     as {CLR}, and in [< and >] a key that is typed with the Commodore key, as [<A>]";
-
-/// The names of keys that some magazines print in brackets.
-const KEY_NAMES: [&str; 42] = [
-    "CLR",
-    "CLEAR",
-    "HOME",
-    "UP",
-    "DOWN",
-    "LEFT",
-    "RIGHT",
-    "RVS",
-    "RVSON",
-    "RVSOFF",
-    "SPACE",
-    "SPACES",
-    "SPC",
-    "DEL",
-    "INST",
-    "RETURN",
-    "SS",
-    "PI",
-    "EP",
-    "UPARROW",
-    "BACKARROW",
-    "WHT",
-    "WHITE",
-    "BLK",
-    "BLACK",
-    "RED",
-    "CYN",
-    "CYAN",
-    "PUR",
-    "PURPLE",
-    "GRN",
-    "GREEN",
-    "BLU",
-    "BLUE",
-    "YEL",
-    "YELLOW",
-    "F1",
-    "F3",
-    "F5",
-    "F7",
-    "SHIFT",
-    "CTRL",
-];
-
-/// Words in front of a name of a key that is typed with another one, or has two words.
-const KEY_WORDS: [&str; 9] = [
-    "RVS ", "REVERSE ", "CRSR ", "CTRL ", "SHIFT ", "SHFT ", "SH ", "COMD ", "CBM ",
-];
-
-/// Names of keys in round brackets, which other words are more often, begin so.
-const ROUND_NAMES: [&str; 3] = ["CLR", "RVS", "CRSR"];
-
-/// The most bytes that stand between brackets around the name of a key: a count, a space and a name.
-const LONGEST_NAME: usize = 15;
-
-/// What is said of a script or a magazine's listing whose strings have signs that a C64 has not.
-const OTHER_SIGNS: &str =
-    "some signs in strings print another character: \\ a pound sign, _ a left arrow, ~ pi, or a pattern in the lower \
-     case set, and ` | } graphics";
-
-/// What is said of one with a character by its number, as HTML has it.
-const HTML_NUMBERS: &str =
-    "&# begins HTML's number for a character: save the listing as plain text";
 
 /// What is said of a T64 file with more than one program.
 const TAPE_FILES: &str =
@@ -109,7 +44,7 @@ const TAPE_FILES: &str =
 
 /// What is said of a saved program without its load address.
 const NO_ADDRESS: &str =
-    "the load address, the two bytes 1 and 8, is missing in front of this program: put it there";
+    "the load address, the two bytes 1 and 8, is missing in front of this program, if it is a C64's: put it there";
 
 /// What is said of a saved program with another load address after its own, which of a T64 file is in the directory.
 const TWO_ADDRESSES: &str =
@@ -120,6 +55,20 @@ const BASIC_START: usize = 0x0801;
 
 /// How many bytes a line of a saved program has beside its own: a link, a number and a 0.
 const LINE_FRAME: usize = 5;
+
+/// What is said of times that rise by 1 from row to row, and give no byte.
+const COUNTED: &str =
+    "the times rise by 1 from row to row, as numbers of samples do: if they are, name the column Sample, and give --rate";
+
+/// How many such rows are hardly a chance (profile).
+const COUNTED_ROWS: usize = 16;
+
+/// A volt in microvolts.
+const VOLT: u64 = 1_000_000;
+
+/// What is said of a script that ends within a string, and without a line end.
+const CUT_OFF: &str =
+    "the last line ends within a string, and without a line end: see whether the listing is whole";
 
 /// What is said of a run that a BASIC error stopped.
 const STOPPED: &str = "a BASIC error stopped the run; --explain says which one, and where";
@@ -219,19 +168,50 @@ pub fn note_script(rt: &impl Eprint, script: &[u8], form: ListingForm) {
     if is_braced {
         note(rt, TYPED_STRINGS);
     }
-    if is_script(form) || form == ListingForm::Magazine {
-        if let Some(text) = noted_in_strings(script, is_braced) {
-            note(rt, text);
-        }
+    if form == ListingForm::Program {
+        note_returns(rt, script);
+        return;
     }
+    if let Some(text) = noted_in_strings(script, noting_of(form, is_braced)) {
+        note(rt, text);
+    }
+    note_returns(rt, script);
+    note_lines(rt, script);
+}
+
+/// What may be noted of the strings of a script, of whose braces something was said.
+fn noting_of(form: ListingForm, is_braced: bool) -> Noting {
+    if is_braced {
+        Noting::Unbraced
+    } else if is_script(form) || form == ListingForm::Magazine {
+        Noting::All
+    } else {
+        Noting::Marks
+    }
+}
+
+/// Writes a note of a remark with another line end.
+fn note_returns(rt: &impl Eprint, script: &[u8]) {
     if let Some(line) = line_with_return(script) {
         let _ = rt.eprintln(format_args!(
             "print1525: note: line {line} has a remark with other line ends than LF in it, which end no line here: \
              if lines were meant to end there, save the script with LF or CR LF line ends"
         ));
     }
-    if form != ListingForm::Program {
-        note_order(rt, script);
+}
+
+/// Writes a note of lines that are not whole, or not in order, as it seems.
+fn note_lines(rt: &impl Eprint, script: &[u8]) {
+    if let Some(line) = wrapped_line(script) {
+        let _ = rt.eprintln(format_args!(
+            "print1525: note: line {line} ends within a string, and the next one may be its rest: join the two \
+             where an editor has cut a long line"
+        ));
+        return;
+    }
+    note_order(rt, script);
+    if is_cut_off(script) {
+        note(rt, CUT_OFF);
     }
 }
 
@@ -439,24 +419,21 @@ fn blank_text(pages: PagesEnd, view: View, reason: Option<&'static str>) -> Opti
 
 /// What is to be noted of a blank page by the text of a script that has run, if that shows why no statement prints.
 pub fn blank_reason(script: &[u8]) -> Option<&'static str> {
-    let (first, _) = cut_line(script);
     if has_no_statement(script) {
         Some(NO_STATEMENT)
-    } else if has_line_behind_blank(remark_of(first)) {
+    } else if has_line_behind_blank(remark_of(first_line(script))) {
         Some(JOINED)
     } else {
         None
     }
 }
 
-/// Whether a remark has a line with a number in it, behind a blank.
-fn has_line_behind_blank(remark: &[u8]) -> bool {
-    for i in 0..remark.len() {
-        if remark[i] == b' ' && is_numbered_line(&remark[i..]) {
-            return true;
-        }
+/// The first line of a text.
+fn first_line(text: &[u8]) -> &[u8] {
+    match text.iter().position(|byte| *byte == b'\n') {
+        Some(end) => &text[..end],
+        None => text,
     }
-    false
 }
 
 /// Whether a script that has run has no statement: blanks, colons, line ends and numbers of lines alone.
@@ -616,11 +593,33 @@ pub fn note_unit(rt: &(impl Eprint + AllocGlobal), table: &[u8], input: TraceInp
     let Ok(Some(unit)) = unit_meant(rt.alloc(), table, input) else {
         return false;
     };
+    if counts_up(table) {
+        note(rt, COUNTED);
+        return true;
+    }
     let (word, sign) = (unit.word, unit.sign);
     let _ = rt.eprintln(format_args!(
         "print1525: note: the times may be {word}: name the column Time [{sign}]"
     ));
     true
+}
+
+/// Whether the rows of a table begin with whole numbers that rise by 1, as those of samples do.
+fn counts_up(table: &[u8]) -> bool {
+    let mut before: Option<u64> = None;
+    let mut count: usize = 0;
+    for line in table.split(|byte| *byte == b'\n') {
+        if let Some(number) = label_of(line) {
+            if let Some(last) = before {
+                if number != last.wrapping_add(1) {
+                    return false;
+                }
+                count = count.wrapping_add(1);
+            }
+            before = Some(number);
+        }
+    }
+    count > COUNTED_ROWS
 }
 
 /// Notes how many rows of a table have the time of the row before and other levels, where levels are lost; and gives
@@ -637,6 +636,69 @@ pub fn note_repeats(rt: &(impl Eprint + AllocGlobal), table: &[u8], input: Trace
          save the table with more digits"
     ));
     true
+}
+
+/// Notes a line of a table that is probably not meant as it is read; and gives whether there is one.
+pub fn note_misread(rt: &impl Eprint, table: &[u8], input: TraceInput<'_>) -> bool {
+    let Some(misread) = misread_line(table, input) else {
+        return false;
+    };
+    let (number, said) = misread_text(misread);
+    let _ = rt.eprintln(format_args!("print1525: note: line {number} {said}"));
+    true
+}
+
+/// The number of such a line, and what is noted of it.
+fn misread_text(misread: Misread) -> (usize, &'static str) {
+    match misread {
+        Misread::Names(number) => (
+            number,
+            "is read as the names of the columns, and looks like a row: put a line of names in front",
+        ),
+        Misread::Millivolts(number) => (
+            number,
+            "has mV, and --threshold compares the numbers as they are written: give it in that unit, such as 1500",
+        ),
+        Misread::Rate(number) => (
+            number,
+            "has a rate behind the names, which counts for nothing: make what follows it a recording of its own",
+        ),
+        Misread::Remark(number) => (
+            number,
+            "is left out as a remark, since it begins with ; or #, and has as many cells as the names: write its first cell",
+        ),
+        Misread::Blank(number) => (
+            number,
+            "is blank, and counts for no sample: delete it, or fill it in",
+        ),
+        Misread::Surplus(number) => (
+            number,
+            "has more cells than there are names, and those are left out: see whether a comma in a number separates it",
+        ),
+        Misread::Instant(number) => (
+            number,
+            "has another month or another offset from UTC than the row before, and neither is read",
+        ),
+    }
+}
+
+/// Notes what two voltages mean that look like one with a decimal comma.
+pub fn note_threshold(rt: &impl Eprint, threshold: Option<Threshold>) {
+    let Some(Threshold { low, high }) = threshold else {
+        return;
+    };
+    if low.is_negative
+        || low.micros == high.micros
+        || low.micros % VOLT != 0
+        || high.micros % VOLT != 0
+    {
+        return;
+    }
+    let (low, high) = (low.micros / VOLT, high.micros / VOLT);
+    let _ = rt.eprintln(format_args!(
+        "print1525: note: --threshold {low},{high} is two voltages: 0 below {low} V and 1 from {high} V on; \
+         a decimal is written with a point, as in {low}.{high}"
+    ));
 }
 
 /// Whether a listing in this form is a script's text, or may be.
@@ -657,360 +719,6 @@ fn has_typed_byte(bytes: &[u8]) -> bool {
         }
     }
     false
-}
-
-/// The number, from 1, of the first line of a script whose remark has another line end with a line behind it, as it seems.
-fn line_with_return(script: &[u8]) -> Option<usize> {
-    let mut rest = script;
-    let mut number: usize = 0;
-    while !rest.is_empty() {
-        let (line, more) = cut_line(rest);
-        number = number.wrapping_add(1);
-        if has_line_behind_return(remark_of(line)) {
-            return Some(number);
-        }
-        rest = more;
-    }
-    None
-}
-
-/// Whether a line ends within a string, and not in a remark.
-pub fn ends_in_string(line: &[u8]) -> bool {
-    let mut is_quoted = false;
-    for byte in &line[..line.len().saturating_sub(remark_of(line).len())] {
-        if *byte == b'"' {
-            is_quoted = !is_quoted;
-        }
-    }
-    is_quoted
-}
-
-/// The remark of a line; empty where it has none.
-fn remark_of(line: &[u8]) -> &[u8] {
-    let mut is_quoted = false;
-    for i in 0..line.len() {
-        if line[i] == b'"' {
-            is_quoted = !is_quoted;
-        } else if !is_quoted && begins_remark(&line[i..]) {
-            return &line[i..];
-        }
-    }
-    &line[line.len()..]
-}
-
-/// Whether bytes begin with the keyword of a remark.
-fn begins_remark(bytes: &[u8]) -> bool {
-    bytes.len() >= 3 && bytes[..3].eq_ignore_ascii_case(b"rem")
-}
-
-/// Whether a line end that is none here has what a line begins with behind it, maybe after blanks: a digit, a letter or
-/// `?`. Such ends are the bytes 11 to 13, and UTF-8's next line and line separator; others are signs that text may have
-/// for itself, so behind those it is a line's number and a word of BASIC.
-fn has_line_behind_return(remark: &[u8]) -> bool {
-    let mut is_behind = false;
-    for i in 0..remark.len() {
-        let at = &remark[i..];
-        if is_numbered_line(after_end_sign(at)) {
-            return true;
-        }
-        match at {
-            [11..=13, ..] | [0xc2, 0x85, ..] | [0xe2, 0x80, 0xa8, ..] => is_behind = true,
-            [b' ' | b'\t' | 0x80..=0xbf, ..] => {}
-            [byte, ..] if is_behind && (byte.is_ascii_alphanumeric() || *byte == b'?') =>
-                return true,
-            _ => is_behind = false,
-        }
-    }
-    false
-}
-
-/// Such signs.
-const END_SIGNS: [&[u8]; 7] = [
-    b"\x8d", b"\x9b", b"\\n", b"\\r", b"<br>", b"<br/>", b"<br />",
-];
-
-/// What is behind a sign in front that ends a line for other systems, or in the text of a program or a web page: shifted
-/// return, ATASCII's end of a line, `\n` or `<br>`; nothing where there is none.
-fn after_end_sign(bytes: &[u8]) -> &[u8] {
-    for sign in END_SIGNS {
-        if bytes.len() >= sign.len() && bytes[..sign.len()].eq_ignore_ascii_case(sign) {
-            return &bytes[sign.len()..];
-        }
-    }
-    &[]
-}
-
-/// Whether bytes begin as a line with a number does, maybe after blanks.
-fn is_numbered_line(bytes: &[u8]) -> bool {
-    label_of(bytes).is_some() && begins_listing(bytes)
-}
-
-/// Whether a heading of petcat's text has another line end with a line behind it, as it seems.
-fn has_line_in_heading(text: &[u8]) -> bool {
-    let mut rest = text;
-    while !rest.is_empty() {
-        let (line, more) = cut_line(rest);
-        if line.starts_with(b";") && has_line_behind_return(line) {
-            return true;
-        }
-        rest = more;
-    }
-    false
-}
-
-/// What is to be noted of the strings of a script: names of keys in brackets, HTML's names, or signs that a C64 has not;
-/// of braces nothing more, if something was said of them. What is in a remark is no string.
-fn noted_in_strings(script: &[u8], is_braced: bool) -> Option<&'static str> {
-    if !script.iter().any(|byte| is_noted(*byte)) {
-        return None;
-    }
-    let mut rest = script;
-    while !rest.is_empty() {
-        let (line, more) = cut_line(rest);
-        let before = line.len().saturating_sub(remark_of(line).len());
-        let noted = noted_in_line(&line[..before], is_braced);
-        if noted.is_some() {
-            return noted;
-        }
-        rest = more;
-    }
-    None
-}
-
-/// Whether something may be noted of a byte in a string.
-fn is_noted(byte: u8) -> bool {
-    matches!(
-        byte,
-        b'[' | b'<' | b'(' | b'&' | b'\\' | b'_' | b'`' | b'|' | b'}' | b'~'
-    )
-}
-
-/// What is to be noted of the strings in the part of a line before its remark.
-fn noted_in_line(front: &[u8], is_braced: bool) -> Option<&'static str> {
-    let mut is_quoted = false;
-    for i in 0..front.len() {
-        if front[i] == b'"' {
-            is_quoted = !is_quoted;
-        } else if is_quoted {
-            let noted = noted_at(&front[i..], is_braced);
-            if noted.is_some() {
-                return noted;
-            }
-        }
-    }
-    None
-}
-
-/// What is to be noted of what is in front in a string.
-fn noted_at(bytes: &[u8], is_braced: bool) -> Option<&'static str> {
-    match bytes {
-        [b'[', name @ ..] if begins_name(name, b']') => Some(BRACKET_NAMES),
-        [b'<', name @ ..] if begins_name(name, b'>') => Some(BRACKET_NAMES),
-        [b'(', name @ ..] if begins_with_one(name, &ROUND_NAMES) && begins_name(name, b')') => {
-            Some(BRACKET_NAMES)
-        }
-        [b'}', ..] if is_braced => None,
-        [b'\\' | b'_' | b'`' | b'|' | b'}' | b'~', ..] => Some(OTHER_SIGNS),
-        [b'&', b'#', b'0'..=b'9' | b'x', ..] => Some(HTML_NUMBERS),
-        _ => html_instead(bytes),
-    }
-}
-
-/// Whether bytes begin with one of these words, in capitals or not.
-fn begins_with_one(bytes: &[u8], words: &[&str]) -> bool {
-    for word in words {
-        let word = word.as_bytes();
-        if bytes.len() >= word.len() && bytes[..word.len()].eq_ignore_ascii_case(word) {
-            return true;
-        }
-    }
-    false
-}
-
-/// Whether bytes begin with the name of a key and this bracket behind it.
-fn begins_name(bytes: &[u8], bracket: u8) -> bool {
-    for (i, byte) in bytes.iter().enumerate() {
-        if *byte == bracket {
-            return is_name(&bytes[..i]);
-        }
-        if i == LONGEST_NAME || *byte == b'"' {
-            return false;
-        }
-    }
-    false
-}
-
-/// Whether a name between brackets is a key's, maybe behind a count: a word, or one byte between `<` and `>`.
-fn is_name(name: &[u8]) -> bool {
-    if matches!(name, [b'<', _, b'>'] | [b'<', _, b' ', _, b'>']) {
-        return true;
-    }
-    let word = after_count(name);
-    if begins_with_one(word, &KEY_WORDS) {
-        return true;
-    }
-    for known in KEY_NAMES {
-        if word.eq_ignore_ascii_case(known.as_bytes()) {
-            return true;
-        }
-    }
-    false
-}
-
-/// What is behind the digits and spaces in front.
-fn after_count(name: &[u8]) -> &[u8] {
-    for (i, byte) in name.iter().enumerate() {
-        if !byte.is_ascii_digit() && *byte != b' ' {
-            return &name[i..];
-        }
-    }
-    name
-}
-
-/// How many line numbers BASIC has.
-const LABELS: usize = 64000;
-
-/// Line numbers of a script, a bit for each.
-#[derive(Drop)]
-struct Labels {
-    bits: [u8; LABELS / 8],
-}
-
-impl Labels {
-    /// None.
-    fn new() -> Labels {
-        Labels {
-            bits: [0; LABELS / 8],
-        }
-    }
-
-    /// Whether a number is one of them.
-    fn has(&self, number: u64) -> bool {
-        match self.bits.get((number / 8) as usize) {
-            Some(bits) => *bits & bit_of(number) != 0,
-            None => false,
-        }
-    }
-
-    /// Adds a number, if BASIC has it.
-    fn add(&mut self, number: u64) {
-        if let Some(bits) = self.bits.get_mut((number / 8) as usize) {
-            *bits |= bit_of(number);
-        }
-    }
-}
-
-/// The bit of a number in its byte.
-fn bit_of(number: u64) -> u8 {
-    1 << (number % 8) as u32
-}
-
-/// A line of a script that a C64 has elsewhere, or has not; each line by its place, from 1, and its number.
-#[derive(Clone, Copy)]
-enum Misplaced {
-    /// The later line has no greater number.
-    Unsorted {
-        first: (usize, u64),
-        second: (usize, u64),
-    },
-    /// A number alone, which a line before it has.
-    Deleting {
-        place: usize,
-        number: u64,
-    },
-}
-
-/// Says which line has a number that is not greater than the one before it, or is a number alone that a line has, if one
-/// does.
-fn note_order(rt: &impl Eprint, script: &[u8]) {
-    let _ = match misplaced_in(script) {
-        None => return,
-        Some(Misplaced::Unsorted { first, second }) => {
-            let (at, before) = first;
-            let (line, number) = second;
-            rt.eprintln(format_args!(
-                "print1525: note: line {line} has the number {number}, after {before} in line {at}: \
-                 lines run in the order of the file, where a C64 sorts them and keeps the last of each number; \
-                 put them in order, or leave one out"
-            ))
-        }
-        Some(Misplaced::Deleting { place, number }) => rt.eprintln(format_args!(
-            "print1525: note: line {place} is the number {number} alone: on a C64 it deletes the line of that number, \
-             and here it does nothing; leave out both"
-        )),
-    };
-}
-
-/// The first line of a script with a number that is not greater than the last one before it, or that is a number alone
-/// which a line before it has. Any other number alone does nothing, here and on a C64.
-fn misplaced_in(script: &[u8]) -> Option<Misplaced> {
-    let mut rest = script;
-    let mut place: usize = 0;
-    let mut last: Option<(usize, u64)> = None;
-    let mut seen = Labels::new();
-    while !rest.is_empty() {
-        let (line, more) = cut_line(rest);
-        place = place.wrapping_add(1);
-        if let Some(number) = label_of(line) {
-            let this = (place, number);
-            let found = misplaced_at(this, is_label_alone(line), last, &seen);
-            if found.is_some() {
-                return found;
-            }
-            if !is_label_alone(line) {
-                seen.add(number);
-                last = Some(this);
-            }
-        }
-        rest = more;
-    }
-    None
-}
-
-/// What is wrong with a line that has a number, after this one and those of these numbers.
-fn misplaced_at(
-    line: (usize, u64),
-    is_alone: bool,
-    last: Option<(usize, u64)>,
-    seen: &Labels,
-) -> Option<Misplaced> {
-    match last {
-        _ if is_alone => {
-            let (place, number) = line;
-            if seen.has(number) {
-                Some(Misplaced::Deleting { place, number })
-            } else {
-                None
-            }
-        }
-        Some(first) if line.1 <= first.1 => Some(Misplaced::Unsorted {
-            first,
-            second: line,
-        }),
-        _ => None,
-    }
-}
-
-/// Whether a line of a script with a number has nothing else.
-fn is_label_alone(line: &[u8]) -> bool {
-    line.iter()
-        .all(|byte| matches!(*byte, b' ' | b'\t' | b'\r' | b'0'..=b'9'))
-}
-
-/// The number with which a line of a script begins, if it does; the greatest one where it is too large.
-fn label_of(line: &[u8]) -> Option<u64> {
-    let mut number: Option<u64> = None;
-    for byte in line {
-        match *byte {
-            b' ' | b'\t' if number.is_none() => {}
-            b'0'..=b'9' => {
-                let digit = u64::from(*byte - b'0');
-                number = Some(number.unwrap_or(0).saturating_mul(10).saturating_add(digit));
-            }
-            _ => break,
-        }
-    }
-    number
 }
 
 /// Whether the strings of petcat's text have more capitals than small letters. What is between braces is a name.

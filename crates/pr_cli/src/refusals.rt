@@ -31,7 +31,7 @@ pub const TAPE: &str =
 
 /// What is said of a sequential file behind a header, and of others.
 const SEQUENTIAL: &str =
-    "this is a sequential file, which has data and no program, behind a header of 26 bytes";
+    "this is a sequential file, which has data, or a listing as text, behind a header of 26 bytes";
 
 const USER: &str =
     "this is a user file, which has data and no program, behind a header of 26 bytes";

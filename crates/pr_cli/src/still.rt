@@ -1,8 +1,9 @@
-//! What is to be noted of a recording in which a line never changes.
+//! What is to be noted of a recording in which a line never changes, or lines change always.
 
-use pr_capture::{Probes, Signals, Threshold, TraceInput, Volts};
+use pr_capture::{Probes, Signals, Source, Threshold, TraceInput, Volts};
+use pr_decode::{Decoder, Reading, Transfer};
 use pr_explain::{read_input, rows_change};
-use pr_wire::Edge;
+use pr_wire::{Edge, Levels, NoMemory};
 use std::alloc::{AllocError, Global};
 
 /// What is noted where a shorter time, or none, of each option shows changes.
@@ -27,12 +28,26 @@ const CLOCK_STAYS: &str =
 const DATA_STAYS: &str =
     "DATA never changes by this --threshold: compare it with that line's volts, and see whether --names chooses its signal";
 
+/// What is noted where lines change in every sample.
+pub const EACH_SAMPLE: &str =
+    "a line changes in every sample: if rows are left out where nothing changes, save all samples, or times with them";
+
 /// What is noted of any other recording.
 const NO_CHANGE: &str = "no line changes in this recording: --names chooses other signals";
 
 /// What is noted of a table where levels change within one microsecond alone.
 const ONE_MOMENT: &str =
-    "lines change within one microsecond alone, whose last row counts: the times may be in a longer unit, such as Time [s]";
+    "lines change within one microsecond alone, whose last row counts: the times may be in a longer unit than the one by which they are read";
+
+/// The levels before a recording begins: all lines are released.
+const FIRST: Levels = Levels {
+    atn: true,
+    clock: true,
+    line: true,
+};
+
+/// How many edges at one distance are hardly the bus's own (profile).
+const MANY: usize = 16;
 
 /// The volts between a 0 and a 1 on a bus of 5 volts that is recorded as it is.
 const HALF: Volts = Volts {
@@ -40,33 +55,8 @@ const HALF: Volts = Volts {
     micros: 1_500_000,
 };
 
-/// What is to be noted of a whole recording that is read so, if its lines never change, or by a threshold one of them: which
-/// option hides the changes, or which one to try. None of one that cannot be read to its end.
-///
-/// # Errors
-///
-/// [`AllocError`] where memory was refused.
-pub fn still_note(
-    alloc: Global,
-    recording: &[u8],
-    input: TraceInput<'_>,
-) -> Result<Option<&'static str>, AllocError> {
-    let said = read_input(alloc, recording, input)?;
-    if said.fault.is_some() {
-        return Ok(None);
-    }
-    match said.edges.as_slice() {
-        [] => Ok(None),
-        [_] => unchanged_note(alloc, recording, input),
-        [first, rest @ ..] if input.signals.probes.threshold.is_some() => Ok(line_note(
-            *first, rest,
-        )),
-        _ => Ok(None),
-    }
-}
-
 /// What is to be noted of edges by a threshold, if a line has the same level in all of them.
-fn line_note(first: Edge, rest: &[Edge]) -> Option<&'static str> {
+pub fn line_note(first: Edge, rest: &[Edge]) -> Option<&'static str> {
     let start = first.levels;
     if rest.iter().all(|edge| edge.levels.atn == start.atn) {
         Some(ATN_STAYS)
@@ -79,8 +69,12 @@ fn line_note(first: Edge, rest: &[Edge]) -> Option<&'static str> {
     }
 }
 
-/// What is to be noted of a recording in which no line changes.
-fn unchanged_note(
+/// What is to be noted of a recording in which no line changes: which option hides the changes, or which one to try.
+///
+/// # Errors
+///
+/// [`AllocError`] where memory was refused.
+pub fn still_note(
     alloc: Global,
     recording: &[u8],
     input: TraceInput<'_>,
@@ -103,6 +97,102 @@ fn unchanged_note(
         Ok(Some(BY_HALF))
     } else {
         Ok(Some(BY_NONE))
+    }
+}
+
+/// Whether all edges of a table have one distance, so that lines change in every sample.
+pub fn changes_always(source: Source, edges: &[Edge]) -> bool {
+    let [first, second, rest @ ..] = edges else {
+        return false;
+    };
+    let distance = second.time.wrapping_sub(first.time);
+    let mut before = second.time;
+    for edge in rest {
+        let this = edge.time.wrapping_sub(before);
+        if this.max(distance).wrapping_sub(this.min(distance)) > 1 {
+            return false;
+        }
+        before = edge.time;
+    }
+    source == Source::Csv && edges.len() > MANY
+}
+
+/// What seems to be wrong with a byte of a recording, by the moment of it.
+#[derive(Clone, Copy)]
+pub enum WrongByte {
+    /// From then on CLOCK is released eight times, at least, in no byte that is read: its beginning is not there.
+    Lost(u64),
+    /// DATA changes then, while CLOCK is released, between the pulls of CLOCK that enclose a byte's bits.
+    Changed(u64),
+}
+
+/// The first byte with which something seems to be wrong.
+///
+/// # Errors
+///
+/// [`NoMemory`] where memory was refused.
+pub fn wrong_byte(alloc: Global, edges: &[Edge]) -> Result<Option<WrongByte>, NoMemory> {
+    let mut decoder = Decoder::new();
+    let mut releases = Vec::new(alloc);
+    let mut changes = Vec::new(alloc);
+    let mut before = FIRST;
+    for edge in edges {
+        let levels = edge.levels;
+        if levels.clock && !before.clock {
+            releases.push(edge.time)?;
+        } else if levels.clock && levels.line != before.line {
+            changes.push(edge.time)?;
+        }
+        before = levels;
+        if let Ok(Some(reading)) = decoder.take(*edge) {
+            let wrong = wrong_with(
+                transfer_of(reading),
+                releases.as_slice(),
+                changes.as_slice(),
+            );
+            if wrong.is_some() {
+                return Ok(wrong);
+            }
+            releases = Vec::new(alloc);
+            changes = Vec::new(alloc);
+        }
+    }
+    match decoder.finish() {
+        Some(reading) => Ok(wrong_with(
+            transfer_of(reading),
+            releases.as_slice(),
+            changes.as_slice(),
+        )),
+        None => Ok(lost_before(releases.as_slice(), u64::MAX)),
+    }
+}
+
+/// A byte that is read, as far as it came.
+fn transfer_of(reading: Reading) -> Transfer {
+    match reading {
+        Reading::Frame(transfer, _) => transfer,
+        Reading::IncompleteByte(transfer, _) => transfer,
+    }
+}
+
+/// What seems to be wrong with a byte, or with what comes before it, by the moments of CLOCK's releases and of DATA's changes
+/// since the byte before.
+fn wrong_with(transfer: Transfer, releases: &[u64], changes: &[u64]) -> Option<WrongByte> {
+    for time in changes {
+        if transfer.pull < *time && *time < transfer.last_pull {
+            return Some(WrongByte::Changed(*time));
+        }
+    }
+    lost_before(releases, transfer.opening.ready_to_send)
+}
+
+/// Whether a byte is lost, by the moments of CLOCK's releases before another one begins.
+fn lost_before(releases: &[u64], beginning: u64) -> Option<WrongByte> {
+    match releases {
+        [first, _, _, _, _, _, _, eighth, ..] if *eighth < beginning => Some(WrongByte::Lost(
+            *first,
+        )),
+        _ => None,
     }
 }
 

@@ -2,15 +2,16 @@
 
 use crate::kinds::other_kind;
 use crate::notes::{
-    address_note, ends_in_string, is_script, is_typed, listing_text, note_brief, note_bytes,
-    note_repeats, note_script, note_unit,
+    address_note, is_script, is_typed, listing_text, note_brief, note_bytes, note_misread,
+    note_repeats, note_script, note_threshold, note_unit,
 };
-use crate::still::still_note;
+use crate::script_lines::is_continued;
+use crate::still::{EACH_SAMPLE, WrongByte, changes_always, line_note, still_note, wrong_byte};
 use pr_basic::{ScriptFault, StatusMode, cut_line};
 use pr_capture::{Source, TraceFormat, TraceInput};
 use pr_explain::{
-    Explanation, ScriptPlace, begins_listing, explain_letter, explain_line, explain_reading,
-    explain_script, explain_stop, explain_trace, html_instead, remark_on,
+    Explanation, ScriptPlace, explain_letter, explain_line, explain_reading, explain_script,
+    explain_stop, explain_trace, html_instead, read_input, remark_on,
 };
 use pr_jobs::{CliFault, PictureFault, RunEnd};
 use pr_listing::{
@@ -22,6 +23,7 @@ use pr_recording::Heard;
 use pr_render::Format;
 use pr_report::{Oddities, Report, push_oddities};
 use pr_serial::Present;
+use pr_wire::Edge;
 use std::alloc::{AllocError, Global};
 
 /// What is said of a refused script that looks like a saved program.
@@ -202,15 +204,53 @@ pub fn tell_notes(
         Subject::Script(job) => note_script(rt, bytes, job.form),
         Subject::Bytes => note_bytes(rt, bytes),
         Subject::Trace(input) | Subject::Recording(input) => {
+            note_threshold(rt, input.signals.probes.threshold);
             let has_unit = note_unit(rt, bytes, input);
             let has_repeats = note_repeats(rt, bytes, input);
-            if is_whole && !has_unit && !has_repeats {
-                if let Ok(note) = still_note(rt.alloc(), bytes, input) {
-                    show_note(rt, note);
-                }
+            let is_misread = note_misread(rt, bytes, input);
+            if is_whole && !has_unit && !has_repeats && !is_misread {
+                note_edges(rt, bytes, input);
             }
         }
     }
+}
+
+/// Writes what is to be noted of the edges of a whole recording, which can be read to its end.
+fn note_edges(rt: &(impl Eprint + AllocGlobal), recording: &[u8], input: TraceInput<'_>) {
+    let Ok(said) = read_input(rt.alloc(), recording, input) else {
+        return;
+    };
+    if said.fault.is_some() {
+        return;
+    }
+    match said.edges.as_slice() {
+        [] => {}
+        [_] => {
+            if let Ok(note) = still_note(rt.alloc(), recording, input) {
+                show_note(rt, note);
+            }
+        }
+        [first, rest @ ..] if input.signals.probes.threshold.is_some() => {
+            show_note(rt, line_note(*first, rest));
+        }
+        edges if changes_always(input.source, edges) => show_note(rt, Some(EACH_SAMPLE)),
+        edges => note_wrong(rt, edges),
+    }
+}
+
+/// Notes with which byte something is wrong, as it seems.
+fn note_wrong(rt: &(impl Eprint + AllocGlobal), edges: &[Edge]) {
+    let _ = match wrong_byte(rt.alloc(), edges) {
+        Ok(Some(WrongByte::Lost(time))) => rt.eprintln(format_args!(
+            "print1525: note: a byte may be lost at {time} us, where CLOCK goes up and down and no byte begins: lines that change \
+             in one sample hide its beginning, and so does a row that is missing; record faster"
+        )),
+        Ok(Some(WrongByte::Changed(time))) => rt.eprintln(format_args!(
+            "print1525: note: DATA changes at {time} us within a bit, while CLOCK is up, so the byte may be another one: \
+             --glitch TIME leaves out shorter pulses"
+        )),
+        Ok(None) | Err(_) => return,
+    };
 }
 
 /// Whether an input is kept for notes: of a trace or a recording there are some only where it is a file, or is kept for
@@ -376,17 +416,15 @@ fn file_of<'a>(script: &'a [u8], listing: Option<Listing<'a>>) -> &'a [u8] {
     }
 }
 
-/// Whether a script is refused for a line that seems to be the rest of the one before it: that ends within a string, and
-/// this one begins with no number and no statement.
+/// Whether a script is refused for a line that seems to be the rest of the one before it.
 fn is_wrapped(script: &[u8], fault: ScriptFault) -> bool {
-    let ScriptFault::UnknownWord(number) = fault else {
-        return false;
-    };
-    let line = line_numbered(script, number);
-    number > 1
-        && !matches!(line, [] | [b'0'..=b'9', ..])
-        && !begins_listing(line)
-        && ends_in_string(line_numbered(script, number.saturating_sub(1)))
+    match line_number(fault) {
+        Some(number) if number > 1 => {
+            let before = line_numbered(script, number.saturating_sub(1));
+            is_continued(before, line_numbered(script, number))
+        }
+        _ => false,
+    }
 }
 
 /// Whether a script has two bytes a letter: a mark says so in front, or two letters do.

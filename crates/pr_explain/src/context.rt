@@ -106,7 +106,9 @@ fn expected_in_list(before: &[u8], rest: &[u8]) -> &'static str {
 /// What to do about a fault between these bytes of a line, where that is known.
 pub fn advice_at(before: &[u8], rest: &[u8], fault: ScriptFault) -> Option<&'static str> {
     if has_name(before, rest, fault) {
-        return Some("a printer's OPEN takes no file name");
+        return Some(
+            "OPEN takes no file name here: there are printers and the screen, and no disk drive",
+        );
     }
     match fault {
         ScriptFault::BadByte(_) if cut_before(before).is_in_string => {

@@ -74,7 +74,7 @@ const CUT: &str =
 /// What a message says of a table without a line of names whose signals are numbers.
 const NUMBERS: &str =
     "numbers in --names count the columns below a line of names: put one in front, such as Time [us],ATN,CLOCK,DATA, \
-     and leave out --names";
+     or without times ATN,CLOCK,DATA, and leave out --names";
 
 /// What a message says of an archive.
 const ARCHIVE: &str =
@@ -383,6 +383,9 @@ fn push_table_fault(
     } else if !heading.has_units_at(number) && !(unit.is_some() && is_untimed(fault)) {
         push_table_rule(text, bytes, input, fault, number)?;
     }
+    if heading.counts_samples(bytes) {
+        return heading.push_samples(text, number);
+    }
     heading.push_units(text, number, unit.unwrap_or("s"))
 }
 
@@ -653,7 +656,7 @@ fn rule_of_tables(fault: CaptureFault) -> &'static str {
              multiples of one sample's"
         }
         CaptureFault::GoesBack(_) => {
-            "this time is earlier than the one before it; of instants, month and year are not read"
+            "this time is earlier than the one before it; of instants, the month, the year and the offset from UTC are not read"
         }
         CaptureFault::TwoSignals(_, _) => {
             "two columns have this name, in capitals or not: rename one, or choose others with --names"

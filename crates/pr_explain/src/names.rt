@@ -213,7 +213,7 @@ pub fn has_times_behind(separator: u8, line: &[u8]) -> bool {
 }
 
 /// Whether a table has a column that this name means, by the line of its names: one that is called so, or, where it is a number, one
-/// with this number, from 0. Columns of times in front do not count.
+/// with this number, from 0, unless one is called by a number. Columns of times in front do not count.
 pub fn has_column(separator: u8, line: &[u8], name: &[u8]) -> bool {
     let (first, later) = split_field(separator, line);
     let mut rest = if is_front(unframed(first)) {
@@ -221,7 +221,11 @@ pub fn has_column(separator: u8, line: &[u8], name: &[u8]) -> bool {
     } else {
         line
     };
-    let mut left = number_of(name);
+    let mut left = if has_number_as_name(separator, rest) {
+        None
+    } else {
+        number_of(name)
+    };
     while !rest.is_empty() {
         let (field, more) = split_field(separator, rest);
         rest = more;
@@ -232,6 +236,19 @@ pub fn has_column(separator: u8, line: &[u8], name: &[u8]) -> bool {
             Some(number) => number.checked_sub(1),
             None => None,
         };
+    }
+    false
+}
+
+/// Whether one of these columns is called by a number.
+fn has_number_as_name(separator: u8, columns: &[u8]) -> bool {
+    let mut rest = columns;
+    while !rest.is_empty() {
+        let (field, more) = split_field(separator, rest);
+        rest = more;
+        if number_of(unframed(field)).is_some() {
+            return true;
+        }
     }
     false
 }

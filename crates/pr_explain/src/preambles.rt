@@ -165,6 +165,30 @@ impl Heading {
         sign_of(cell)
     }
 
+    /// Whether the line of units says that the first column has the numbers of samples.
+    pub fn counts_samples(self, bytes: &[u8]) -> bool {
+        let Some(units) = self.units else {
+            return false;
+        };
+        let line = line_with(bytes, units);
+        begins_with(
+            first_field(separator_of(line).unwrap_or(b','), line),
+            b"sequence",
+        )
+    }
+
+    /// Adds what to do with numbers of samples, if the line of units is not before that of this number.
+    pub fn push_samples(self, text: &mut String, number: usize) -> Result<(), NoMemory> {
+        match self.units {
+            Some(units) if number <= units => write!(
+                text,
+                "  the first column has the numbers of samples: call it Sample, delete line {units}, and give --rate, which is \
+                 1 by the seconds between two samples, such as --rate 500k for 2.0e-6\n"
+            ),
+            _ => Ok(()),
+        }
+    }
+
     /// Adds which line has units, if one has that is not before that of this number, and the sign of a unit of times.
     pub fn push_units(self, text: &mut String, number: usize, sign: &str) -> Result<(), NoMemory> {
         match self.units {

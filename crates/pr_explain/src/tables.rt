@@ -121,7 +121,7 @@ fn is_meta(line: &[u8]) -> bool {
 }
 
 /// Whether a line has the word rate in it, or a longer one, and then a digit.
-fn has_word_of_rates(line: &[u8]) -> bool {
+pub fn has_word_of_rates(line: &[u8]) -> bool {
     for i in 0..line.len() {
         if begins_with(&line[i..], b"rate") {
             return has_digit(&line[i..]);

@@ -69,7 +69,7 @@ pub fn table_of(lines: &[u8]) -> Option<TimedTable<'_>> {
 }
 
 /// The last field of a line, with what is around it. A separator between quotation marks does not end one.
-fn last_field(separator: u8, line: &[u8]) -> &[u8] {
+pub fn last_field(separator: u8, line: &[u8]) -> &[u8] {
     let mut last = line;
     let mut is_quoted = false;
     for (i, byte) in line.iter().enumerate() {

@@ -69,9 +69,9 @@ enum Times {
 const LONGER: [TimeUnit; 3] = [SECOND, MILLI, MICRO];
 
 /// The unit in which a table's times may be: the column of its times is called by a word for time without a unit, all its
-/// times are numbers, and no byte is acknowledged but by times in this unit. A unit in that name is doubted only where no
-/// line changes by it, or no byte is acknowledged and the times look as if a mark were before their last three digits. Of
-/// the table the first lines are enough.
+/// times are numbers, and no byte is acknowledged but by times in this unit. A unit in that name is doubted where no line
+/// changes by it, or no byte is acknowledged; the times may then have a mark before their last three digits. Of the table
+/// the first lines are enough.
 ///
 /// # Errors
 ///
@@ -103,10 +103,16 @@ pub fn unit_meant(
     if is_still(alloc, lines, input)? {
         return fitting_of(alloc, table, input, &LONGER);
     }
-    if !are_thousands(table) || has_byte(alloc, lines, input)? {
+    if has_byte(alloc, lines, input)? {
         return Ok(None);
     }
-    fitting_of(alloc, table, input, &[THOUSANDS])
+    if are_thousands(table) {
+        return fitting_of(alloc, table, input, &[THOUSANDS]);
+    }
+    match times {
+        Times::Whole => fitting_of(alloc, table, input, &WHOLE),
+        Times::Decimal => fitting_of(alloc, table, input, &DECIMAL),
+    }
 }
 
 /// The first of some units by which a byte is acknowledged.

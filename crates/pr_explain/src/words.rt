@@ -216,8 +216,33 @@ const QUOTED: &str = "mail puts > before the lines that it quotes: delete it";
 /// What a message says of the C64's prompt.
 const READY: &str = "READY. is the C64's prompt and no line of a program: delete it";
 
-/// What a message says of a word with a digit in it that looks like a letter.
-const ZERO: &str = "this word has a zero in the place of the letter O";
+/// What a message says of a word with a sign in it that looks like its letter.
+const LOOK_ALIKE: &str =
+    "a sign in this word only looks like the right one, as 0 like O and 1 like I";
+
+/// Such words, as they are read from paper.
+const LOOK_ALIKES: [&[u8]; 4] = [b"0PEN", b"CL0SE", b"PR1NT", b"CHRS("];
+
+/// What a message says of what prints in another BASIC.
+const OTHER_PRINT: &str = "this prints in another BASIC; on a C64 OPEN 4,4 and then PRINT#4, do";
+
+/// Words that print in another BASIC.
+const OTHER_PRINTS: [&[u8]; 3] = [b"LPRINT", b"PR#", b"LLIST"];
+
+/// What a message says of a remark as other languages have it.
+const OTHER_REMARK: &str = "a remark begins with REM";
+
+/// Signs of such a remark.
+const OTHER_REMARKS: [&[u8]; 3] = [b"//", b"<-", b"/*"];
+
+/// What a message says of the signs of mail.
+const MAIL: &str = "this is mail's quoted-printable text: save the listing as plain text";
+
+/// What a message says of a pound sign outside a string.
+const POUND: &str = "this is a pound sign; in the place of #, as in PRINT#, type #";
+
+/// A pound sign in UTF-8 and in one byte.
+const POUNDS: [&[u8]; 2] = [b"\xc2\xa3", b"\xa3"];
 
 /// What a message says of a number with a letter in it that looks like a digit.
 const NO_DIGIT: &str = "a number has digits alone, and this letter only looks like one";
@@ -264,7 +289,7 @@ pub fn foreign_word(before: &[u8], rest: &[u8], wants_number: bool) -> Option<Fo
         [b'+' | b'-' | b'*' | b'/' | b'^' | b'=' | b'<' | b'>', ..] => {
             "operators are not supported; write the result"
         }
-        [b'\'', ..] => "a string begins and ends with \"",
+        [b'\'', ..] => "a string begins and ends with \", and a remark begins with REM",
         [b'$', digits @ ..] if is_hexadecimal(digits) => {
             "hexadecimal numbers are not supported; write decimal numbers"
         }
@@ -296,38 +321,49 @@ fn marked_instead(before: &[u8], rest: &[u8]) -> Option<&'static str> {
         Some(CHECKSUM)
     } else if is_tag(rest) {
         Some(TAG)
-    } else if begins(rest, b"0PEN") || begins(rest, b"CL0SE") {
-        Some(ZERO)
+    } else if is_mail(rest) {
+        Some(MAIL)
     } else if is_no_digit(before, rest) {
         Some(NO_DIGIT)
-    } else if begins_with_end(rest) {
-        Some(OTHER_END)
-    } else if last_of(before).is_none() {
-        first_instead(rest)
-    } else {
-        None
-    }
-}
-
-/// What to say of such at the front of a line.
-fn first_instead(rest: &[u8]) -> Option<&'static str> {
-    if rest.starts_with(b">") {
+    } else if last_of(before).is_none() && rest.starts_with(b">") {
         Some(QUOTED)
-    } else if begins(rest, b"READY.") {
+    } else if last_of(before).is_none() && begins(rest, b"READY.") {
         Some(READY)
     } else {
+        begun_instead(rest)
+    }
+}
+
+/// What to say of such by how it begins.
+fn begun_instead(rest: &[u8]) -> Option<&'static str> {
+    if begins_with_one(rest, &LOOK_ALIKES) {
+        Some(LOOK_ALIKE)
+    } else if begins_with_one(rest, &OTHER_PRINTS) {
+        Some(OTHER_PRINT)
+    } else if begins_with_one(rest, &OTHER_REMARKS) {
+        Some(OTHER_REMARK)
+    } else if begins_with_one(rest, &POUNDS) {
+        Some(POUND)
+    } else if begins_with_one(rest, &OTHER_ENDS) {
+        Some(OTHER_END)
+    } else {
         None
     }
 }
 
-/// Whether what is in front ends a line for other systems.
-fn begins_with_end(rest: &[u8]) -> bool {
-    for end in OTHER_ENDS {
-        if rest.starts_with(end) {
+/// Whether one of these is in front, whichever of its letters are capitals.
+fn begins_with_one(rest: &[u8], words: &[&[u8]]) -> bool {
+    for word in words {
+        if begins(rest, *word) {
             return true;
         }
     }
     false
+}
+
+/// Whether a line ends with what mail puts there, or `=` as mail writes it is in front.
+fn is_mail(rest: &[u8]) -> bool {
+    matches!(rest, [b'='] | [b'=', b'2', b'0']) || begins(rest, b"=3D")
 }
 
 /// Whether a tag of HTML is in front.
@@ -360,28 +396,47 @@ fn is_no_digit(before: &[u8], rest: &[u8]) -> bool {
     };
     match before {
         [] => digit_count(number) > 0 && begins_listing(number),
-        [.., digit] => digit.is_ascii_digit()
-            && (number.starts_with(b" ") || digit_count(number) > 0),
+        [.., digit] => digit.is_ascii_digit() && goes_on(number),
     }
 }
 
-/// What to say of HTML's name for a character in front.
+/// Whether a number may go on so, or end.
+fn goes_on(rest: &[u8]) -> bool {
+    matches!(rest, [] | [b' ' | b',' | b')' | b'0'..=b'9', ..])
+}
+
+/// HTML's names for characters, with what to say of each.
+const HTML_NAMES: [(&[u8], &str); 5] = [
+    (
+        b"&quot;",
+        "&quot; is HTML's for \": save the listing as plain text",
+    ),
+    (
+        b"&lt;",
+        "&lt; is HTML's for <: save the listing as plain text",
+    ),
+    (
+        b"&gt;",
+        "&gt; is HTML's for >: save the listing as plain text",
+    ),
+    (
+        b"&amp;",
+        "&amp; is HTML's for &: save the listing as plain text",
+    ),
+    (
+        b"&nbsp;",
+        "&nbsp; is HTML's for a space: save the listing as plain text",
+    ),
+];
+
+/// What to say of HTML's name for a character in front, whichever of its letters are capitals.
 pub fn html_instead(rest: &[u8]) -> Option<&'static str> {
-    let sentence = match rest {
-        [b'&', b'q', b'u', b'o', b't', b';', ..] => {
-            "&quot; is HTML's for \": save the listing as plain text"
+    for (name, sentence) in HTML_NAMES {
+        if begins(rest, name) {
+            return Some(sentence);
         }
-        [b'&', b'l', b't', b';', ..] => "&lt; is HTML's for <: save the listing as plain text",
-        [b'&', b'g', b't', b';', ..] => "&gt; is HTML's for >: save the listing as plain text",
-        [b'&', b'a', b'm', b'p', b';', ..] => {
-            "&amp; is HTML's for &: save the listing as plain text"
-        }
-        [b'&', b'n', b'b', b's', b'p', b';', ..] => {
-            "&nbsp; is HTML's for a space: save the listing as plain text"
-        }
-        _ => return None,
-    };
-    Some(sentence)
+    }
+    None
 }
 
 /// Whether what is in front, after the bytes `before` of its line, is for a checksum program, as it seems: it is before the

@@ -1,5 +1,5 @@
 use Rattle.std.proofs.Common.{length}
-use Rattle.pr_cli.proofs.notes.line_with_return.Given as goal
+use Rattle.pr_explain.proofs.names.has_number_as_name.Given as goal
 
 abbrev pub decreases-loop-rest : goal.decreases-loop-rest
 decreases-loop-rest l = length l.rest
