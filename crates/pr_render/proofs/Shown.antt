@@ -64,17 +64,17 @@ trimmed-at blanks (c ∷ cs) zero = by (is_bare (seen_in c)) refl
         → slice_index_or (cond b (trimmed (blanks + 1) cs) (replicate blanks bare ++ seen_in c ∷ trimmed 0 cs)) (blanks + 0) bare ≡ seen_in c
     by true e = trimmed-front (blanks + 1) cs (blanks + 0) (omega arith) ∙ sym (bare-is (seen_in c) e)
     by false e = blank-past blanks 0 (seen_in c ∷ trimmed 0 cs)
-trimmed-at blanks (c ∷ cs) (suc k) = by (is_bare (seen_in c))
+trimmed-at blanks (c ∷ cs) (suc k) = by (is_bare (seen_in c)) (trimmed-at (blanks + 1) cs k) (trimmed-at 0 cs k)
   where
-    by : (b : Bool)
+    by : (b : Bool) → slice_index_or (trimmed (blanks + 1) cs) (blanks + 1 + k) bare ≡ seen_in (slice_index_or cs k empty_column)
+        → slice_index_or (trimmed 0 cs) (0 + k) bare ≡ seen_in (slice_index_or cs k empty_column)
         → slice_index_or (cond b (trimmed (blanks + 1) cs) (replicate blanks bare ++ seen_in c ∷ trimmed 0 cs)) (blanks + suc k) bare
         ≡ seen_in (slice_index_or cs k empty_column)
-    by true =
-        let e : blanks + suc k ≡ blanks + 1 + k = omega arith in
-        ap (λ i. slice_index_or (trimmed (blanks + 1) cs) i bare) e ∙ trimmed-at (blanks + 1) cs k
-    by false =
+    by true more none =
+        let e : blanks + suc k ≡ blanks + 1 + k = omega arith in ap (λ i. slice_index_or (trimmed (blanks + 1) cs) i bare) e ∙ more
+    by false more none =
         let e : k ≡ 0 + k = omega arith in
-        blank-past blanks (suc k) (seen_in c ∷ trimmed 0 cs) ∙ ap (λ i. slice_index_or (trimmed 0 cs) i bare) e ∙ trimmed-at 0 cs k
+        blank-past blanks (suc k) (seen_in c ∷ trimmed 0 cs) ∙ ap (λ i. slice_index_or (trimmed 0 cs) i bare) e ∙ none
 
 -- putting into a column keeps how many there are
 put-length : (k : ℕ) (c : Column) (cs : List Column) → length (put k c cs) ≡ length cs
