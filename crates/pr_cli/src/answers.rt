@@ -13,7 +13,7 @@ use crate::jobs::{Answer, do_job, found_job, seen_job};
 use crate::lacking::strict_of;
 use crate::notes::{
     ListingNote, View, blank_reason, note_listing, note_overheard, note_pages, note_reprinted,
-    note_stop, petcat_note, program_note, view_of,
+    note_stop, petcat_note, program_note, text_note, view_of,
 };
 use crate::outside::Outside;
 use crate::progress::{Progress, clear};
@@ -541,7 +541,8 @@ fn listing_note(listing: Option<Listing<'_>>) -> ListingNote {
     match listing.form {
         ListingForm::Petcat => petcat_note(listing.bytes),
         ListingForm::Program => program_note(listing.bytes),
-        ListingForm::Text | ListingForm::Magazine | ListingForm::Auto => ListingNote::Nothing,
+        ListingForm::Magazine => text_note(listing.bytes),
+        ListingForm::Text | ListingForm::Auto => ListingNote::Nothing,
     }
 }
 

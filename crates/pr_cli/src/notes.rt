@@ -224,6 +224,8 @@ pub enum ListingNote {
     HeadingReturns,
     /// The strings of petcat's text have more capitals than small letters.
     PetcatCapitals,
+    /// A text ends within a string, and without a line end.
+    CutOff,
     /// A saved program has no load address, as it seems.
     NoAddress,
     /// It has two.
@@ -238,6 +240,15 @@ pub fn petcat_note(text: &[u8]) -> ListingNote {
         ListingNote::HeadingReturns
     } else if has_more_capitals(text) {
         ListingNote::PetcatCapitals
+    } else {
+        text_note(text)
+    }
+}
+
+/// What is to be noted of a listing's text in any form but a script's, whose own bytes are looked at.
+pub fn text_note(text: &[u8]) -> ListingNote {
+    if is_cut_off(text) {
+        ListingNote::CutOff
     } else {
         ListingNote::Nothing
     }
@@ -285,6 +296,7 @@ pub fn listing_text(noted: ListingNote) -> Option<&'static str> {
         ListingNote::Nothing => None,
         ListingNote::HeadingReturns => Some(HEADING_RETURNS),
         ListingNote::PetcatCapitals => Some(PETCAT_CAPITALS),
+        ListingNote::CutOff => Some(CUT_OFF),
         ListingNote::NoAddress => Some(NO_ADDRESS),
         ListingNote::TwoAddresses => Some(TWO_ADDRESSES),
         ListingNote::TapeFiles => Some(TAPE_FILES),

@@ -3,6 +3,7 @@
 use pr_capture::{Probes, Signals, Source, Threshold, TraceInput, Volts};
 use pr_decode::{Decoder, Reading, Transfer};
 use pr_explain::{read_input, rows_change};
+use pr_report::is_acknowledged;
 use pr_wire::{Edge, Levels, NoMemory};
 use std::alloc::{AllocError, Global};
 
@@ -120,7 +121,8 @@ pub fn changes_always(source: Source, edges: &[Edge]) -> bool {
 /// What seems to be wrong with a byte of a recording, by the moment of it.
 #[derive(Clone, Copy)]
 pub enum WrongByte {
-    /// From then on CLOCK is released eight times, at least, in no byte that is read: its beginning is not there.
+    /// From then on CLOCK is released eight times, at least, in no byte that is read: its beginning is not there. Only where
+    /// another byte is acknowledged.
     Lost(u64),
     /// DATA changes then, while CLOCK is released, between the pulls of CLOCK that enclose a byte's bits.
     Changed(u64),
@@ -135,6 +137,8 @@ pub fn wrong_byte(alloc: Global, edges: &[Edge]) -> Result<Option<WrongByte>, No
     let mut decoder = Decoder::new();
     let mut releases = Vec::new(alloc);
     let mut changes = Vec::new(alloc);
+    let mut lost = None;
+    let mut has_byte = false;
     let mut before = FIRST;
     for edge in edges {
         let levels = edge.levels;
@@ -145,25 +149,23 @@ pub fn wrong_byte(alloc: Global, edges: &[Edge]) -> Result<Option<WrongByte>, No
         }
         before = levels;
         if let Ok(Some(reading)) = decoder.take(*edge) {
-            let wrong = wrong_with(
-                transfer_of(reading),
-                releases.as_slice(),
-                changes.as_slice(),
-            );
-            if wrong.is_some() {
-                return Ok(wrong);
+            has_byte = has_byte || is_acknowledged(&reading);
+            let transfer = transfer_of(reading);
+            if let Some(time) = changed_within(transfer, changes.as_slice()) {
+                return Ok(Some(WrongByte::Changed(time)));
             }
+            lost = lost.or(lost_before(releases.as_slice(), transfer.opening.ready_to_send));
             releases = Vec::new(alloc);
             changes = Vec::new(alloc);
         }
     }
-    match decoder.finish() {
-        Some(reading) => Ok(wrong_with(
-            transfer_of(reading),
-            releases.as_slice(),
-            changes.as_slice(),
-        )),
-        None => Ok(lost_before(releases.as_slice(), u64::MAX)),
+    let end = match decoder.finish() {
+        Some(reading) => transfer_of(reading).opening.ready_to_send,
+        None => u64::MAX,
+    };
+    match lost.or(lost_before(releases.as_slice(), end)) {
+        Some(time) if has_byte => Ok(Some(WrongByte::Lost(time))),
+        _ => Ok(None),
     }
 }
 
@@ -175,23 +177,20 @@ fn transfer_of(reading: Reading) -> Transfer {
     }
 }
 
-/// What seems to be wrong with a byte, or with what comes before it, by the moments of CLOCK's releases and of DATA's changes
-/// since the byte before.
-fn wrong_with(transfer: Transfer, releases: &[u64], changes: &[u64]) -> Option<WrongByte> {
+/// The first of these moments between the pulls of CLOCK that enclose a byte's bits.
+fn changed_within(transfer: Transfer, changes: &[u64]) -> Option<u64> {
     for time in changes {
         if transfer.pull < *time && *time < transfer.last_pull {
-            return Some(WrongByte::Changed(*time));
+            return Some(*time);
         }
     }
-    lost_before(releases, transfer.opening.ready_to_send)
+    None
 }
 
-/// Whether a byte is lost, by the moments of CLOCK's releases before another one begins.
-fn lost_before(releases: &[u64], beginning: u64) -> Option<WrongByte> {
+/// The first of some moments, if eight of them are before the beginning of a byte.
+fn lost_before(releases: &[u64], beginning: u64) -> Option<u64> {
     match releases {
-        [first, _, _, _, _, _, _, eighth, ..] if *eighth < beginning => Some(WrongByte::Lost(
-            *first,
-        )),
+        [first, _, _, _, _, _, _, eighth, ..] if *eighth < beginning => Some(*first),
         _ => None,
     }
 }

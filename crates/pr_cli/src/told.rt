@@ -46,6 +46,10 @@ const END_MARK: &str = "the byte 26 is an end mark of old systems; save the list
 const WRAPPED: &str =
     "the line before ends within a string: if an editor has wrapped a longer line there, join the two";
 
+/// The same where mail has done so.
+const SOFT_BREAK: &str =
+    "the line before ends with =, by which mail breaks long lines: join the two without it, or save the listing as plain text";
+
 /// What is said of a saved program without its load address, or that ends within a line.
 const PROGRAM_FORM: &str = "a saved program is a load address of two bytes, then lines: \
      a link and a number of two bytes each, the line's bytes and 0; a link of 0 ends it";
@@ -401,10 +405,8 @@ fn script_hint(
         && !is_letter(script, fault)
     {
         Some(PETCAT_TEXT)
-    } else if is_wrapped(script, fault) {
-        Some(WRAPPED)
     } else {
-        None
+        wrapped_hint(script, fault)
     }
 }
 
@@ -416,14 +418,19 @@ fn file_of<'a>(script: &'a [u8], listing: Option<Listing<'a>>) -> &'a [u8] {
     }
 }
 
-/// Whether a script is refused for a line that seems to be the rest of the one before it.
-fn is_wrapped(script: &[u8], fault: ScriptFault) -> bool {
-    match line_number(fault) {
-        Some(number) if number > 1 => {
-            let before = line_numbered(script, number.saturating_sub(1));
-            is_continued(before, line_numbered(script, number))
-        }
-        _ => false,
+/// What is said of a script that is refused for a line that seems to be the rest of the one before it.
+fn wrapped_hint(script: &[u8], fault: ScriptFault) -> Option<&'static str> {
+    let number = line_number(fault)?;
+    if number < 2 {
+        return None;
+    }
+    let before = line_numbered(script, number.saturating_sub(1));
+    if !is_continued(before, line_numbered(script, number)) {
+        None
+    } else if before.ends_with(b"=") {
+        Some(SOFT_BREAK)
+    } else {
+        Some(WRAPPED)
     }
 }
 
