@@ -23,6 +23,9 @@ _print1525() {
         pages/--as) words='list text svg png pdf bytes' ;;
         pages/--device) words='4 5' ;;
         pages/--sheet) return ;;
+        pages/--scale) return ;;
+        pages/--top) return ;;
+        pages/--paper) words='continuous a4 letter' ;;
         bus/--from) words='auto text prg petcat magazine' ;;
         bus/--present) words='none 4 5 both' ;;
         bus/--delays) return ;;
@@ -44,6 +47,9 @@ _print1525() {
         decode/--as) words='list text svg png pdf json bytes' ;;
         decode/--device) words='4 5' ;;
         decode/--sheet) return ;;
+        decode/--scale) return ;;
+        decode/--top) return ;;
+        decode/--paper) words='continuous a4 letter' ;;
         decode/--bounds) words='profile guide' ;;
         decode/--listening) return ;;
         decode/--set) words='upper lower' ;;
@@ -51,15 +57,18 @@ _print1525() {
         raw/--as) words='list text svg png pdf' ;;
         raw/--device) words='4 5' ;;
         raw/--sheet) return ;;
+        raw/--scale) return ;;
+        raw/--top) return ;;
+        raw/--paper) words='continuous a4 letter' ;;
         */-o | */--output) ;;
         *)
             if [[ $word == -* ]]; then
                 case $command in
-                pages) words='-o --output --from --present --delays --status --as --explain -q --quiet --device --sheet --characters -h --help' ;;
+                pages) words='-o --output --from --present --delays --status --as --explain -q --quiet --device --sheet --scale --top --paper --holes --characters -h --help' ;;
                 bus) words='-o --output --from --present --delays --status --as --explain -q --quiet -h --help' ;;
                 check) words='-o --output --from --names --invert --from-time --glitch --rate --threshold --as --explain -q --quiet -h --help' ;;
-                decode) words='-o --output --from --names --invert --from-time --glitch --rate --threshold --as --explain -q --quiet --device --sheet --characters --intervals --bounds --listening --set --strict -h --help' ;;
-                raw) words='-o --output --set --as --explain -q --quiet --device --sheet --characters -h --help' ;;
+                decode) words='-o --output --from --names --invert --from-time --glitch --rate --threshold --as --explain -q --quiet --device --sheet --scale --top --paper --holes --characters --intervals --bounds --listening --set --strict -h --help' ;;
+                raw) words='-o --output --set --as --explain -q --quiet --device --sheet --scale --top --paper --holes --characters -h --help' ;;
                 esac
             fi
             ;;

@@ -170,7 +170,7 @@ enum print1525_fault {
     PRINT1525_FAULT_BAD_LEVEL = 49,
     /* refused: a sheet that the pages do not have; `place` is how many they have */
     PRINT1525_FAULT_NO_SUCH_SHEET = 50,
-    /* refused: a document that is longer than its format allows; `place` is 0 */
+    /* refused: a document that is longer than its format allows, or a PNG file that is too high; `place` is 0 */
     PRINT1525_FAULT_DOCUMENT_TOO_LARGE = 51,
     /* refused: of a file of characters; `place` is the line, from 1 */
     PRINT1525_FAULT_BAD_CHARACTER_LINE = 52,
@@ -238,14 +238,22 @@ enum print1525_from {
     PRINT1525_FROM_MAGAZINE = 3,
     PRINT1525_FROM_AUTO = 4
 };
-/* `page`: a line for each row and mark, lines of 80 columns, an SVG document, a sheet of eleven inches as a PNG file,
- * or a PDF document of all sheets. */
+/* `page`: a line for each row and mark, lines of 80 columns, an SVG document, the paper of one printer as a PNG file, or a
+ * PDF document of all sheets. */
 enum print1525_page {
     PRINT1525_PAGE_LIST = 0,
     PRINT1525_PAGE_TEXT = 1,
     PRINT1525_PAGE_SVG = 2,
     PRINT1525_PAGE_PNG = 3,
     PRINT1525_PAGE_PDF = 4
+};
+/* `paper` of a document: continuous paper of 9.5 by 11 inches, the same with its holes and perforations, A4 with a sheet
+ * in true size in its middle, or letter with a sheet at 95 %. A PNG file has holes or none. */
+enum print1525_paper {
+    PRINT1525_PAPER_CONTINUOUS = 0,
+    PRINT1525_PAPER_HOLES = 1,
+    PRINT1525_PAPER_A4 = 2,
+    PRINT1525_PAPER_LETTER = 3
 };
 /* `trace`: a line for each edge, or a Value Change Dump. */
 enum print1525_trace { PRINT1525_TRACE_TEXT = 0, PRINT1525_TRACE_VCD = 1 };
@@ -289,15 +297,18 @@ typedef struct {
     uint8_t page;                     /* --as of pages: enum print1525_page */
     uint8_t trace;                    /* --as of bus: enum print1525_trace */
     uint8_t set;                      /* --set: enum print1525_set */
-    uint8_t printer;                  /* --device: 4 or 5, the pages of this printer alone; 0: all, in a PNG file the
-                                       * first printer that printed */
+    uint8_t printer;                  /* --device: 4 or 5, the pages of this printer alone; 0: all, in a PNG file those of
+                                       * the first printer that printed */
     uint8_t recording;                /* --from of check and decode: enum print1525_recording */
     uint8_t words;                    /* --as of check and decode: enum print1525_words */
     uint8_t intervals;                /* --intervals: 1: also those outside their bounds, and a table; 0: not */
     uint8_t bounds;                   /* --bounds: enum print1525_bounds */
     uint8_t inverted;                 /* --invert: 1: the levels of a dump or a table are inverted; 0: not */
-    uint8_t reserved[4];              /* 0 */
-    uint64_t sheet;                   /* --sheet: this sheet alone, from 1; 0: all, in a PNG file the first */
+    uint8_t paper;                    /* --paper and --holes: enum print1525_paper */
+    uint8_t top;                      /* --top: the lines from the paper's upper edge to the first row, at most 65; 3 */
+    uint8_t scale;                    /* --scale: the pixels of a PNG file for the place of a dot, 1 to 8; 2 */
+    uint8_t reserved[1];              /* 0 */
+    uint64_t sheet;                   /* --sheet: this sheet alone, from 1; 0: all */
     uint64_t start;                   /* --from-time: the microsecond at which a dump or a table starts */
     uint64_t rate;                    /* --rate: samples in a second, of a table without times; 0: it says it */
     print1525_delays computer_delays; /* --delays: those of the computer, of printer 4 and of printer 5 */
@@ -315,7 +326,7 @@ typedef struct {
     {                                                                                                               \
         sizeof(print1525_settings), PRINT1525_PRESENT_BOTH, PRINT1525_MODE_EACH, PRINT1525_FROM_TEXT,               \
             PRINT1525_PAGE_LIST, PRINT1525_TRACE_TEXT, PRINT1525_SET_UPPER, 0, PRINT1525_RECORDING_TEXT,            \
-            PRINT1525_WORDS_LIST, 0, PRINT1525_BOUNDS_PROFILE, 0, {0, 0, 0, 0}, 0, 0, 0, {NULL, 0}, {NULL, 0},      \
+            PRINT1525_WORDS_LIST, 0, PRINT1525_BOUNDS_PROFILE, 0, 0, 3, 2, {0}, 0, 0, 0, {NULL, 0}, {NULL, 0},      \
             {NULL, 0}, {NULL, 0}, {NULL, 0}, {NULL, 0}, NULL, 0, {0, 0, 0, 0, 0}                                    \
     }
 
@@ -323,20 +334,21 @@ typedef struct {
 
 /* Runs a script and gives its pages.
  *
- * Reads: a script of at most 16,777,216 bytes; present, mode, from, page, printer, sheet, the delays (which change no
- * page) and characters.
+ * Reads: a script of at most 16,777,216 bytes; present, mode, from, page, printer, sheet, top, paper, scale, the delays
+ * (which change no page) and characters.
  * Gives: the text that `print1525 pages` writes. Status 1 comes with the BASIC error that stopped the run; what was
  * printed until then is in the text.
- * Refuses: present (22), mode (23) and page with printer and sheet (24), in this order: SVG and PNG show any part of
- * the pages, PDF one printer, and the others all of them; characters, by their first bad line (52); from (60) and a
+ * Refuses: present (22), mode (23) and page with printer, sheet, top, paper and scale (24), in this order: SVG and PNG show any
+ * part of the pages, PDF one printer, and the others all of them; characters, by their first bad line (52); from (60) and a
  * listing, as print1525_listing; a script above the limit (9), or by its first fault (1 to 7); after the run a sheet
- * that does not exist (50), with how many there are, and a document that is too large (51). */
+ * that does not exist (50), with how many there are, and a document that is too large or a PNG file of more than 1,000,000
+ * lines of pixels (51). */
 PRINT1525_CALL int print1525_pages(const void *script, size_t length, const print1525_settings *settings, void *buffer,
                                    size_t capacity, print1525_details *details);
 
 /* Runs a script and gives the trace of its run on the serial bus.
  *
- * Reads: what print1525_pages reads, with trace instead of page, printer, sheet and characters.
+ * Reads: what print1525_pages reads, with trace instead of page, printer, sheet, top, paper, scale and characters.
  * Gives: the text that `print1525 bus` writes. Status 1 comes with the BASIC error that stopped the run.
  * Refuses: as print1525_pages. */
 PRINT1525_CALL int print1525_bus(const void *script, size_t length, const print1525_settings *settings, void *buffer,
@@ -354,10 +366,10 @@ PRINT1525_CALL int print1525_listing(const void *listing, size_t length, const p
 
 /* Prints the bytes that a printer gets.
  *
- * Reads: at most 4,294,967,295 bytes; set, page, printer, sheet and characters.
+ * Reads: at most 4,294,967,295 bytes; set, page, printer, sheet, top, paper, scale and characters.
  * Gives: the text that `print1525 raw` writes, the page as that of printer 4.
- * Refuses: set (25) and page with printer and sheet (24), in this order; characters, by their first bad line (52); then
- * bytes above the limit (9); and a picture (50, 51), as print1525_pages. */
+ * Refuses: set (25) and page with printer, sheet, top, paper and scale (24), in this order; characters, by their first bad line
+ * (52); then bytes above the limit (9); and a picture (50, 51), as print1525_pages. */
 PRINT1525_CALL int print1525_raw(const void *bytes, size_t length, const print1525_settings *settings, void *buffer,
                                  size_t capacity, print1525_details *details);
 
@@ -366,13 +378,13 @@ enum print1525_input { PRINT1525_SELECT_UPPER = 256, PRINT1525_SELECT_LOWER = 25
 
 /* Prints what a printer receives: bytes, and between them selections of a character set.
  *
- * Reads: at most 4,294,967,296 inputs; page, printer, sheet and characters. An emulator gives PRINT1525_SELECT_UPPER
- * for each LISTEN to the printer, and PRINT1525_SELECT_LOWER directly after it if secondary address 7 follows, as for
+ * Reads: at most 4,294,967,296 inputs; page, printer, sheet, top, paper, scale and characters. An emulator gives
+ * PRINT1525_SELECT_UPPER for each LISTEN to the printer, and PRINT1525_SELECT_LOWER directly after it if secondary address 7 follows, as for
  * a file opened by OPEN 4,4,7. Before the first selection the graphic/upper case set is selected.
  * Gives: the text of the page, as that of printer 4. Of a selection and bytes after it this is what print1525_raw
  * gives for that set and these bytes.
- * Refuses: page with printer and sheet (24); characters, by their first bad line (52); inputs above the limit (9); then
- * the first number above 257 (28) with its index, before any memory is taken; and a picture (50, 51). */
+ * Refuses: page with printer, sheet, top, paper and scale (24); characters, by their first bad line (52); inputs above the limit
+ * (9); then the first number above 257 (28) with its index, before any memory is taken; and a picture (50, 51). */
 PRINT1525_CALL int print1525_print(const uint16_t *inputs, size_t length, const print1525_settings *settings,
                                    void *buffer, size_t capacity, print1525_details *details);
 
@@ -400,10 +412,10 @@ PRINT1525_CALL int print1525_readings(const void *recording, size_t length, cons
 
 /* Gives the pages that printers 4 and 5 print of a recording.
  *
- * Reads: a recording, as print1525_readings; page, printer, sheet and characters.
+ * Reads: a recording, as print1525_readings; page, printer, sheet, top, paper, scale and characters.
  * Gives: the text that `print1525 decode --as text` and the others write, with page as its format.
- * Refuses: recording with inverted (29), page with printer and sheet (24), in this order; characters, by their first
- * bad line (52); a recording of more than 4,000,000,000 bytes (9); a picture (50, 51), as print1525_pages,
+ * Refuses: recording with inverted (29), page with printer, sheet, top, paper and scale (24), in this order; characters, by
+ * their first bad line (52); a recording of more than 4,000,000,000 bytes (9); a picture (50, 51), as print1525_pages,
  * also where the recording has a fault too; and a recording, as print1525_readings, with the pages of what comes before the
  * fault. */
 PRINT1525_CALL int print1525_reprint(const void *recording, size_t length, const print1525_settings *settings,
@@ -797,8 +809,9 @@ typedef struct {
 void print1525_plain_listing(const uint8_t *bytes, size_t bytes_length, uint8_t form, uint8_t *buffer, size_t capacity,
                              print1525_plain_numbers *answer);
 void print1525_plain_print(const uint16_t *inputs, size_t inputs_length, uint8_t format, uint8_t device,
-                           uint64_t sheet, const uint8_t *characters, size_t characters_length, uint8_t *buffer,
-                           size_t capacity, print1525_plain_numbers *answer);
+                           uint64_t sheet, uint8_t top, uint8_t paper, uint8_t scale, const uint8_t *characters,
+                           size_t characters_length, uint8_t *buffer, size_t capacity,
+                           print1525_plain_numbers *answer);
 void print1525_plain_check(const uint8_t *bytes, size_t bytes_length, uint8_t source, const uint8_t *atn,
                            size_t atn_length, const uint8_t *clock, size_t clock_length, const uint8_t *line,
                            size_t line_length, uint8_t inverted, uint64_t start, uint64_t rate, uint8_t words,
@@ -810,8 +823,9 @@ void print1525_plain_readings(const uint8_t *bytes, size_t bytes_length, uint8_t
 void print1525_plain_reprint(const uint8_t *bytes, size_t bytes_length, uint8_t source, const uint8_t *atn,
                              size_t atn_length, const uint8_t *clock, size_t clock_length, const uint8_t *line,
                              size_t line_length, uint8_t inverted, uint64_t start, uint64_t rate, uint8_t format,
-                             uint8_t device, uint64_t sheet, const uint8_t *characters, size_t characters_length,
-                             uint8_t *buffer, size_t capacity, print1525_plain_numbers *answer);
+                             uint8_t device, uint64_t sheet, uint8_t top, uint8_t paper, uint8_t scale,
+                             const uint8_t *characters, size_t characters_length, uint8_t *buffer, size_t capacity,
+                             print1525_plain_numbers *answer);
 void print1525_plain_explain_script(const uint8_t *script, size_t script_length, uint8_t *buffer, size_t capacity,
                                     print1525_plain_numbers *answer);
 void print1525_plain_explain_stop(const uint8_t *script, size_t script_length, uint8_t kept, uint8_t stop,
@@ -914,7 +928,7 @@ PRINT1525_CALL const char *print1525_strerror(int fault) {
     case PRINT1525_FAULT_LEVEL_Z: return "level z";
     case PRINT1525_FAULT_BAD_LEVEL: return "bad level";
     case PRINT1525_FAULT_NO_SUCH_SHEET: return "no such sheet";
-    case PRINT1525_FAULT_DOCUMENT_TOO_LARGE: return "document too large";
+    case PRINT1525_FAULT_DOCUMENT_TOO_LARGE: return "picture too large";
     case PRINT1525_FAULT_BAD_CHARACTER_LINE: return "bad character line";
     case PRINT1525_FAULT_NO_SUCH_FORM: return "no such form";
     case PRINT1525_FAULT_NOT_SAVED: return "not a saved program";
@@ -1096,7 +1110,7 @@ PRINT1525_OWN print1525_own_call *print1525_own_begin(print1525_own_call *call, 
     print1525_settings *const s = &call->settings;
     int is_known = settings == NULL || settings->size == sizeof defaults;
     *s = settings != NULL && is_known ? *settings : defaults;
-    is_known = is_known && !(s->reserved[0] | s->reserved[1] | s->reserved[2] | s->reserved[3]);
+    is_known = is_known && s->reserved[0] == 0;
     call->fault = is_known ? PRINT1525_FAULT_NONE : PRINT1525_FAULT_BAD_SETTINGS;
     call->nothing[0] = call->nothing[1] = 0;
     call->input = print1525_own_input(call, input, size, buffer, capacity);
@@ -1168,6 +1182,21 @@ PRINT1525_OWN void print1525_own_words(print1525_own_text *to, int of, const pri
         print1525_own_option(to, "--sheet", "");
         print1525_own_add_number(to, s->sheet);
     }
+    if (s->page >= PRINT1525_PAGE_SVG || s->top > 65) {
+        print1525_own_option(to, "--top", "");
+        print1525_own_add_number(to, s->top);
+    }
+    if (s->page == PRINT1525_PAGE_PDF || s->paper > PRINT1525_PAPER_LETTER)
+        print1525_own_option(to, "--paper",
+                             s->paper == PRINT1525_PAPER_A4       ? "a4"
+                             : s->paper == PRINT1525_PAPER_LETTER ? "letter"
+                             : s->paper < PRINT1525_PAPER_A4      ? "continuous"
+                                                                  : "");
+    if (s->page >= PRINT1525_PAGE_PNG && s->paper == PRINT1525_PAPER_HOLES) print1525_own_word(to, "--holes");
+    if (s->page == PRINT1525_PAGE_PNG || s->scale < 1 || s->scale > 8) {
+        print1525_own_option(to, "--scale", "");
+        print1525_own_add_number(to, s->scale);
+    }
     if (s->page >= PRINT1525_PAGE_SVG && s->characters_length > 0) print1525_own_option(to, "--characters", "given");
 }
 
@@ -1225,7 +1254,7 @@ PRINT1525_OWN print1525_plain_numbers print1525_own_run(const print1525_own_call
         const uint16_t no_input = 0;
         uint8_t nothing[1];
         print1525_plain_numbers answer;
-        print1525_plain_print(&no_input, 0, s->page, s->printer, s->sheet,
+        print1525_plain_print(&no_input, 0, s->page, s->printer, s->sheet, 0, 0, 2,
                               PRINT1525_OWN_AS(const uint8_t *, call->characters), s->characters_length, nothing, 0,
                               &answer);
         if (answer.code == 2 || answer.code == 3) return answer;
@@ -1306,8 +1335,8 @@ PRINT1525_CALL int print1525_print(const uint16_t *inputs, size_t length, const 
     if (print1525_own_begin(&call, inputs, size, settings, buffer, capacity)->fault != PRINT1525_FAULT_NONE)
         return print1525_own_refuse(details, call.fault);
     print1525_plain_print(PRINT1525_OWN_AS(const uint16_t *, call.input), length, call.settings.page,
-                               call.settings.printer, call.settings.sheet,
-                               PRINT1525_OWN_AS(const uint8_t *, call.characters), call.settings.characters_length,
+                               call.settings.printer, call.settings.sheet, call.settings.top, call.settings.paper,
+                               call.settings.scale, PRINT1525_OWN_AS(const uint8_t *, call.characters), call.settings.characters_length,
                                PRINT1525_OWN_AS(uint8_t *, call.buffer), capacity, &answer);
     return print1525_own_answer(details, answer);
 }
@@ -1349,7 +1378,8 @@ PRINT1525_OWN print1525_plain_numbers print1525_own_recording(const print1525_ow
         break;
     case PRINT1525_OWN_REPRINT:
         print1525_plain_reprint(bytes, length, s->recording, atn, a, clock, c, data, d, s->inverted, s->start, s->rate,
-                                s->page, s->printer, s->sheet, PRINT1525_OWN_AS(const uint8_t *, call->characters),
+                                s->page, s->printer, s->sheet, s->top, s->paper, s->scale,
+                                PRINT1525_OWN_AS(const uint8_t *, call->characters),
                                 s->characters_length, buffer, capacity, &answer);
         break;
     case PRINT1525_OWN_EXPLAIN_TRACE:

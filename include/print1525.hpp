@@ -53,6 +53,21 @@ struct settings : print1525_settings {
         sheet = one_sheet;
         return *this;
     }
+    // How many lines the first row is below the upper edge of the paper.
+    settings &lowers(std::uint8_t lines) {
+        top = lines;
+        return *this;
+    }
+    // The paper of a document, or whether a PNG file has holes.
+    settings &prints_on(print1525_paper sheets) {
+        paper = static_cast<std::uint8_t>(sheets);
+        return *this;
+    }
+    // The pixels of a PNG file for the place of a dot, across and down.
+    settings &scales(std::uint8_t pixels) {
+        scale = pixels;
+        return *this;
+    }
     settings &reads(print1525_recording format) {
         recording = static_cast<std::uint8_t>(format);
         return *this;

@@ -8,7 +8,7 @@ import { ready } from './controls.js';
 /** What the program is asked for a picture of an example, and its input. */
 function pictureOf({ kind = 'text', text, bytes, isRecording }) {
   const words = kind === 'raw' ? ['raw'] : isRecording ? ['decode', '--from', 'text'] : ['pages', '--from', kind === 'script' ? 'text' : kind];
-  return { words: [...words, '--as', 'png'], input: bytes ? fromBase64(bytes) : encode(text) };
+  return { words: [...words, '--as', 'png', '--sheet', '1'], input: bytes ? fromBase64(bytes) : encode(text) };
 }
 
 async function draw(card, example) {

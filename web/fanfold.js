@@ -5,33 +5,35 @@ import { SHEET_TOP } from './sheets.js';
 
 const SHEET_WIDTH = 12600;         // nine and a half inches and a margin, in the picture's units
 export const SHEET_HEIGHT = 13860;      // eleven inches
-const EDGE = 630;                  // what is seen of the sheet before the first fold and of the one after the last; the strips with the holes
+const EDGE = 630;                  // what is seen of the sheet after the last fold; the lines above the first row; the strips with the holes
+export const WIDTH_BESIDE = 27090;      // the width of a desk with two sheets beside each other
 const NAMESPACE = 'http://www.w3.org/2000/svg';
 
-/** How high the paper of a sheet is: whole sheets, and an edge of the paper above and below. */
-const heightOf = sheet => 2 * EDGE + SHEET_HEIGHT * Math.max(Math.ceil((sheet.height - 2 * EDGE) / SHEET_HEIGHT), 1);
+/** How high the paper of a sheet is: whole sheets, and an edge of the paper below. */
+const heightOf = sheet => EDGE + SHEET_HEIGHT * Math.max(Math.ceil((sheet.height - EDGE) / SHEET_HEIGHT), 1);
 
 /**
  * Where the sheets lie, one below the other where `isStacked`: `{ sheets, width, height, left, notes }`. Each sheet is
- * `{ sheet, right, down, height }`, how far it lies to the right and further down than in the picture; so do the notes, which are
- * `enlarged` times as high.
+ * `{ sheet, right, down, height }`, how far it lies to the right and further down than in the picture, where all lie one below the
+ * other; the notes lie further down too, and are `enlarged` times as high.
  */
 export function arrange(picture, isStacked, enlarged = 1) {
-  const [first] = picture.sheets, placed = [];
-  let bottom = SHEET_TOP;
+  const placed = [];
+  let bottom = 0, beside = 0;
   for (const sheet of picture.sheets) {
-    const height = heightOf(sheet), isBelow = isStacked && sheet !== first, down = isBelow ? bottom : 0;
-    placed.push({ sheet, right: isBelow ? first.x - sheet.x : 0, down, height });
-    bottom = Math.max(bottom, SHEET_TOP + down + height);
+    const height = heightOf(sheet), y = isStacked ? bottom + SHEET_TOP : SHEET_TOP;
+    placed.push({ sheet, right: beside, down: y - sheet.y, height });
+    bottom = Math.max(bottom, y + height);
+    if (!isStacked) beside += SHEET_WIDTH + EDGE;
   }
   if (!placed.length) return { sheets: placed, left: 0, width: picture.width, height: picture.height, notes: 0 };
-  const under = picture.height - SHEET_TOP - Math.max(...picture.sheets.map(sheet => sheet.height)), width = isStacked || placed.length === 1 ? SHEET_WIDTH + 2 * EDGE : picture.width;
-  return { sheets: placed, left: width === picture.width ? 0 : first.x - EDGE, width, height: bottom + under * enlarged, notes: bottom + under - picture.height };
+  const last = picture.sheets.at(-1), under = picture.height - last.y - last.height, width = isStacked || placed.length === 1 ? picture.width : WIDTH_BESIDE;
+  return { sheets: placed, left: 0, width, height: bottom + under * enlarged, notes: bottom + under - picture.height };
 }
 
 /** The sheet at a place of the desk, or undefined. */
 export const sheetAt = ({ sheets }, x, y) => sheets.find(({ sheet, right, down, height }) => (
-  x >= sheet.x + right && x < sheet.x + right + SHEET_WIDTH && y >= SHEET_TOP + down && y < SHEET_TOP + down + height));
+  x >= sheet.x + right && x < sheet.x + right + SHEET_WIDTH && y >= sheet.y + down && y < sheet.y + down + height));
 
 /** An element of a picture with its attributes. */
 export function drawn(name, attributes, ...parts) {
@@ -43,9 +45,9 @@ export function drawn(name, attributes, ...parts) {
 
 /** The paper of one printer. */
 function paperOf({ sheet, right, down, height }, hasBars) {
-  const folds = Array.from({ length: Math.round((height - 2 * EDGE) / SHEET_HEIGHT) + 1 }, (_, fold) => `M0 ${EDGE + fold * SHEET_HEIGHT}h${SHEET_WIDTH}`);
+  const folds = Array.from({ length: Math.round((height - EDGE) / SHEET_HEIGHT) }, (_, fold) => `M0 ${(fold + 1) * SHEET_HEIGHT}h${SHEET_WIDTH}`);
   const bars = drawn('rect', { width: SHEET_WIDTH, height, fill: 'url(#fanfold-bars)' });
-  return drawn('g', { transform: `translate(${sheet.x + right} ${SHEET_TOP + down})` },
+  return drawn('g', { transform: `translate(${sheet.x + right} ${sheet.y + down})` },
     drawn('rect', { class: 'sheet', width: SHEET_WIDTH, height }),
     ...(hasBars ? [bars] : []),
     drawn('rect', { width: SHEET_WIDTH, height, fill: 'url(#fanfold-holes)' }),

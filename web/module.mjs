@@ -189,7 +189,7 @@ export const loadPrint1525 = (() => {
   const RECORDING = ['bytes', 'source', 'names', 'inverted', 'start', 'rate'];
   const SETTINGS = {
     answer: ['words', 'explained', 'input', 'characters'], names: ['words'], listing: ['bytes', 'form'],
-    print: ['inputs', 'format', 'device', 'sheet', 'characters'], edges: RECORDING, edgeDelays: RECORDING, readingRows: [...RECORDING, 'detail'],
+    print: ['inputs', 'format', 'device', 'sheet', 'top', 'paper', 'scale', 'characters'], edges: RECORDING, edgeDelays: RECORDING, readingRows: [...RECORDING, 'detail'],
     intervals: RECORDING, bounds: [], statementLines: ['script'], scriptFault: ['script'],
   };
 
@@ -290,11 +290,14 @@ export const loadPrint1525 = (() => {
           code === REFUSED ? { column: length, text: NOTHING } : { column: 0, ...text(memory, at, length) }), 1);
       },
       // The pages of what a printer hears: 0 to 255 a byte, 256 and 257 the selection of the graphic/upper case or the lower/upper
-      // case set. `format` is 0 the page text, 1 lines, 2 SVG, 3 PNG, 4 PDF; `device` and `sheet` show a part, where it can.
-      print({ inputs, format = 0, device = 0, sheet = 0, characters = NOTHING }) {
+      // case set. `format` is 0 the page text, 1 lines, 2 SVG, 3 PNG, 4 PDF; `device` and `sheet` show a part, where it can; `top` is
+      // the lines above the first row, `paper` 0 continuous paper, 1 the same with holes, 2 A4, 3 letter, and `scale` the pixels of
+      // a PNG for the place of a dot.
+      print({ inputs, format = 0, device = 0, sheet = 0, top = 3, paper = 0, scale = 2, characters = NOTHING }) {
         const given = heard(inputs), room = Math.max(ROOM, Math.min(WIDER * given.length, KEPT / 4));
         const printer = device === 0 ? 0 : numberOf('device', device, 4, 5);
         const part = [numberOf('format', format, 0, 4), printer, BigInt(numberOf('sheet', sheet, 0, LARGEST))];
+        part.push(numberOf('top', top, 0, 65), numberOf('paper', paper, 0, 3), numberOf('scale', scale, 1, 8));
         return numbered('print1525_print', [given, ...part, bytesOf('characters', characters)], room, text, 1);
       },
       // The edges of a recording, up to its fault: the moment and the levels of each.

@@ -1,8 +1,8 @@
 // The sheets: the picture that the module gives, as it is. Of a long one only the rows are in the page that can
 // be seen; they are cut from its text, and nothing is drawn anew.
 
-import { DOT, LETTER_HEIGHT, markAt, MARKS_LEFT, MARKS_TOP, SHEET_TOP, sheetsOf, STEP } from './sheets.js';
-import { arrange, drawn, fanfold, SHEET_HEIGHT, sheetAt } from './fanfold.js';
+import { DOT, LETTER_HEIGHT, markAt, MARKS_DOWN, MARKS_LEFT, SHEET_TOP, sheetsOf, STEP } from './sheets.js';
+import { arrange, drawn, fanfold, SHEET_HEIGHT, sheetAt, WIDTH_BESIDE } from './fanfold.js';
 import { whenResized, whenSharper } from './basics.js';
 import { HIGHEST } from './reader.js';
 
@@ -119,7 +119,7 @@ export class Paper {
   placeSheets() {
     const { sheets, notes } = this.places, groups = [...this.svg.querySelectorAll(':scope > g[transform]')];
     sheets.forEach(({ sheet, right, down }, index) => {
-      groups[index].setAttribute('transform', `translate(${sheet.x + right} ${SHEET_TOP + down})`);
+      groups[index].setAttribute('transform', `translate(${sheet.x + right} ${sheet.y + down})`);
       // (its heading begins where its lines do, so that it is seen with them)
       const heading = groups[index].querySelector(':scope > text');
       heading.setAttribute('x', String(MARKS_LEFT));
@@ -127,7 +127,7 @@ export class Paper {
     });
     const words = this.picture.notes && this.svg.querySelector(':scope > text');
     if (words) words.setAttribute('transform', `translate(630 ${this.picture.notes.y + notes}) scale(${this.enlarged})`);
-    const name = JSON.stringify([sheets.map(({ sheet, right, down, height }) => [sheet.x, right, down, height]), this.hasBars]);
+    const name = JSON.stringify([sheets.map(({ sheet, right, down, height }) => [sheet.x + right, sheet.y + down, height]), this.hasBars]);
     if (this.back && name === this.backName) return;
     this.backName = name;
     this.back = fanfold(this.places, this.hasBars);
@@ -156,15 +156,15 @@ export class Paper {
     if (!this.places?.sheets.length) return null;
     const { across, down } = this.scales(), { clientWidth, clientHeight, scrollLeft, scrollTop } = this.element;
     const x = this.places.left + (scrollLeft + clientWidth / 2) / across, y = (scrollTop + Math.min(clientHeight, 300) / 2) / down;
-    const placed = sheetAt(this.places, x, y) ?? this.places.sheets[0], row = (y - placed.down - MARKS_TOP) / SHEET_HEIGHT;
-    const last = Math.max(...placed.sheet.rows.map(row => row.y * STEP), 0);
+    const placed = sheetAt(this.places, x, y) ?? this.places.sheets[0], row = (y - placed.down - placed.sheet.y) / SHEET_HEIGHT;
+    const last = Math.max(...placed.sheet.rows.map(row => row.y * STEP), 0) + MARKS_DOWN;
     return { printer: placed.sheet.printer, number: 1 + Math.min(Math.max(Math.floor(row), 0), Math.floor(last / SHEET_HEIGHT)) };
   }
 
   /** Scrolls to a printer's sheet. */
   turnTo(printer) {
     const placed = this.places?.sheets.find(({ sheet }) => sheet.printer === printer);
-    if (placed) this.element.scrollTop = (placed.down + SHEET_TOP / 2) * this.scales().down;
+    if (placed) this.element.scrollTop = (placed.sheet.y + placed.down - SHEET_TOP / 2) * this.scales().down;
   }
 
   /** Scrolls to the dots, where the whole sheet is wider than the window, when the sheets are others than before. */
@@ -183,7 +183,7 @@ export class Paper {
   /** Gives the picture its size, and its sheets their places. */
   lay() {
     if (!this.picture || !this.element.clientWidth) return;
-    const isStacked = this.picture.sheets.length > 1 && this.element.clientWidth < this.picture.width * LEAST_BESIDE;
+    const isStacked = this.picture.sheets.length > 1 && this.element.clientWidth < WIDTH_BESIDE * LEAST_BESIDE;
     this.places = arrange(this.picture, isStacked);
     this.enlarged = Math.max(HEADING / PICA / this.scale(), 1);
     this.places = arrange(this.picture, isStacked, this.enlarged);
@@ -241,7 +241,7 @@ export class Paper {
     if (!this.picture) return null;
     const box = this.room.getBoundingClientRect(), { across, down } = this.scales(), right = this.places.left + (x - box.left) / across, under = (y - box.top) / down;
     const placed = sheetAt(this.places, right, under);
-    return placed ? markAt(this.text, this.picture, right - placed.right, under - placed.down) : null;
+    return placed ? markAt(this.text, placed.sheet, right - placed.right, under - placed.down) : null;
   }
 
   /** Draws the part of a long picture around what can be seen: `around` times as much above and below, which comes a little later in a new one. */
@@ -264,14 +264,14 @@ export class Paper {
     const { notes } = this.picture, parts = [], rows = [];
     let at = 0;
     this.places.sheets.forEach(({ sheet, down }, number) => {
-      const [first, end] = [from - down, to - down];
+      const marks = sheet.y + down + MARKS_DOWN, [first, end] = [from - marks, to - marks];
       parts.push(this.text.slice(at, sheet.from));
       let low = 0, high = sheet.rows.length;
       while (low < high) {
         const middle = (low + high) >> 1;
-        if (MARKS_TOP + sheet.rows[middle].y * STEP + 2 * LETTER_HEIGHT < first) low = middle + 1; else high = middle;
+        if (sheet.rows[middle].y * STEP + 2 * LETTER_HEIGHT < first) low = middle + 1; else high = middle;
       }
-      for (; low < sheet.rows.length && MARKS_TOP + sheet.rows[low].y * STEP < end + LETTER_HEIGHT; low++) {
+      for (; low < sheet.rows.length && sheet.rows[low].y * STEP < end + LETTER_HEIGHT; low++) {
         const row = sheet.rows[low];
         if (row.held) break;
         const text = `<g transform="translate(0 ${row.y * STEP})">\n${this.text.slice(row.from, row.to)}</g>`;
@@ -295,7 +295,7 @@ export class Paper {
   boxesOf(marks) {
     return marks.flatMap(({ printer, row, x, width }) => {
       const placed = this.places?.sheets.find(({ sheet }) => sheet.printer === printer), line = placed?.sheet.rows[row];
-      return line ? [{ x: placed.sheet.x + placed.right + MARKS_LEFT + x * DOT, y: MARKS_TOP + placed.down + line.y * STEP, width: width * DOT }] : [];
+      return line ? [{ x: placed.sheet.x + placed.right + MARKS_LEFT + x * DOT, y: placed.sheet.y + placed.down + MARKS_DOWN + line.y * STEP, width: width * DOT }] : [];
     });
   }
 

@@ -69,9 +69,10 @@ export interface Print1525 {
   /**
    * the pages of what a printer hears: bytes, and 256 and 257, which select the graphic/upper case or the lower/upper case set.
    * `format` is 0 the page text (the default), 1 lines, 2 SVG, 3 PNG, 4 PDF; `device` (4 or 5) and `sheet` (from 1) show a part,
-   * where the format can
+   * where the format can; `top` is the lines above the first row (3), `paper` 0 continuous paper (the default), 1 the same with
+   * holes, 2 A4, 3 letter, and `scale` the pixels of a PNG for the place of a dot (2)
    */
-  print(asked: { inputs: number[] | Uint8Array | Uint16Array; format?: 0 | 1 | 2 | 3 | 4; device?: 0 | 4 | 5; sheet?: number | bigint; characters?: Bytes }): Answer & { text: Uint8Array };
+  print(asked: { inputs: number[] | Uint8Array | Uint16Array; format?: 0 | 1 | 2 | 3 | 4; device?: 0 | 4 | 5; sheet?: number | bigint; top?: number; paper?: 0 | 1 | 2 | 3; scale?: 1 | 2 | 3 | 4 | 5 | 6 | 7 | 8; characters?: Bytes }): Answer & { text: Uint8Array };
   /** the edges of a recording, up to its fault: moments in microseconds, and levels (4 for ATN, 2 for CLOCK, 1 for DATA, where released) */
   edges(asked: Recording): Answer & { times: Float64Array; levels: Uint8Array };
   /**

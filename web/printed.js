@@ -1,6 +1,6 @@
 // What a printer of today gets: each sheet of eleven inches on a page of its own, at true size, one printer after the other.
 
-import { LETTER_HEIGHT, MARKS_TOP, SHEET_TOP, STEP } from './sheets.js';
+import { LETTER_HEIGHT, MARKS_DOWN, STEP } from './sheets.js';
 import { $ } from './basics.js';
 import { paper } from './page.js';
 
@@ -13,17 +13,17 @@ const MOST_PAGES = 120;        // a browser takes too long for more
 function printedSheets(picture) {
   const printed = picture.sheets.filter(sheet => sheet.rows.some(row => !row.held));
   return (printed.length ? printed : picture.sheets.slice(0, 1)).flatMap(sheet => {
-    const last = sheet.rows.findLast(row => !row.held), height = last ? last.y * STEP + LETTER_HEIGHT : 1;
+    const last = sheet.rows.findLast(row => !row.held), height = last ? MARKS_DOWN + last.y * STEP + LETTER_HEIGHT : 1;
     return Array.from({ length: Math.ceil(height / SHEET_HEIGHT) }, (_, index) => ({ sheet, index }));
   });
 }
 
 /** One sheet as a picture of its own: the rows that are on it, and both halves of one that the fold cuts. */
 function printedSheet(svg, { sheet, index }) {
-  const top = index * SHEET_HEIGHT, isOn = row => !row.held && row.y * STEP + LETTER_HEIGHT > top && row.y * STEP < top + SHEET_HEIGHT;
+  const top = index * SHEET_HEIGHT - MARKS_DOWN, isOn = row => !row.held && row.y * STEP + LETTER_HEIGHT > top && row.y * STEP < top + SHEET_HEIGHT;
   const frame = /<g [^>]*>\n<g [^>]*>\n$/.exec(svg.slice(sheet.from - 400, sheet.from))[0];
   const rows = sheet.rows.filter(isOn).map(row => `<g transform="translate(0 ${row.y * STEP})">\n${svg.slice(row.from, row.to)}</g>\n`);
-  return `<svg viewBox="${PAGE_LEFT} ${MARKS_TOP - SHEET_TOP + top} ${PAGE_WIDTH} ${SHEET_HEIGHT}">${frame}${rows.join('')}</g></g></svg>`;
+  return `<svg viewBox="${PAGE_LEFT} ${MARKS_DOWN + top} ${PAGE_WIDTH} ${SHEET_HEIGHT}">${frame}${rows.join('')}</g></g></svg>`;
 }
 
 /** All pages, after the shapes of the characters, and words for sheets that are left out. */

@@ -4,23 +4,23 @@
 export const DOT = 21;            // a dot column
 export const STEP = 10;           // 1/126 inch down
 export const MARKS_LEFT = 1260;   // from a sheet's left edge to its marks
-export const SHEET_TOP = 1050;    // from the picture's top to the sheets
-export const MARKS_TOP = 1680;    // from the picture's top to the marks
+export const SHEET_TOP = 1050;    // from the picture's top, or from the end of the sheet above, to a sheet; its printer's name is there
+export const MARKS_DOWN = 630;    // from a sheet's upper edge to its marks
 export const LETTER_HEIGHT = 140; // seven dots
 
 /**
- * The sheets of a picture: `{ width, height, sheets, notes }`. A sheet is `{ printer, x, height, from, to, rows }`: its
- * number, its left edge, how high it is drawn, where the text of its rows begins and ends, and its rows as `{ y, from, to, held }`: the
+ * The sheets of a picture: `{ width, height, sheets, notes }`. A sheet is `{ printer, x, y, height, from, to, rows }`: its
+ * number, its left and its upper edge, how high it is drawn, where the text of its rows begins and ends, and its rows as `{ y, from, to, held }`: the
  * distance from the top in 1/126 inch, and where the text of its marks begins and ends. `notes` is `{ y, from, to }`
  * for the lines below the sheets, or null where there are none.
  */
 export function sheetsOf(svg) {
   const size = /viewBox="0 0 (\d+) (\d+)"/.exec(svg.slice(0, 400));
   const picture = { width: Number(size[1]), height: Number(size[2]), sheets: [], notes: null };
-  const sheetStart = /<g transform="translate\((\d+) 1050\)">\n<text [^>]*>Printer (\d)<\/text>\n<rect width="\d+" height="(\d+)" [^>]*>\n<rect [^>]*>\n<g [^>]*>\n<g [^>]*>\n/g;
+  const sheetStart = /<g transform="translate\((\d+) (\d+)\)">\n<text [^>]*>Printer (\d)<\/text>\n<rect width="\d+" height="(\d+)" [^>]*>\n<rect [^>]*>\n<g [^>]*>\n<g [^>]*>\n/g;
   let start;
   while ((start = sheetStart.exec(svg))) {
-    const sheet = { printer: Number(start[2]), x: Number(start[1]), height: Number(start[3]), from: sheetStart.lastIndex, to: 0, rows: [] };
+    const [x, y, printer, height] = start.slice(1).map(Number), sheet = { printer, x, y, height, from: sheetStart.lastIndex, to: 0, rows: [] };
     sheetStart.lastIndex = readRows(svg, sheet);
     picture.sheets.push(sheet);
   }
@@ -88,17 +88,15 @@ export function marksMore(before, after) {
   return more;
 }
 
-/** The mark at a place of a picture, in its units: `{ printer, row, name }`, or null. */
-export function markAt(svg, picture, x, y) {
-  for (const sheet of picture.sheets) {
-    const dots = (x - sheet.x - MARKS_LEFT) / DOT;
-    if (dots < -1 || dots > 481) continue;
-    for (let number = sheet.rows.length - 1; number >= 0; number--) {
-      const row = sheet.rows[number], down = y - MARKS_TOP - row.y * STEP;
-      if (down < -10 || down > LETTER_HEIGHT + 20) continue;
-      const hit = marksIn(svg.slice(row.from, row.to)).reverse().find(mark => dots >= mark.x && dots < mark.x + mark.width);
-      if (hit) return { printer: sheet.printer, row: number, name: [sheet.printer, number, hit.x, hit.width, hit.what].join(' ') };
-    }
+/** The mark at a place of a sheet, in the picture's units: `{ printer, row, name }`, or null. */
+export function markAt(svg, sheet, x, y) {
+  const dots = (x - sheet.x - MARKS_LEFT) / DOT;
+  if (dots < -1 || dots > 481) return null;
+  for (let number = sheet.rows.length - 1; number >= 0; number--) {
+    const row = sheet.rows[number], down = y - sheet.y - MARKS_DOWN - row.y * STEP;
+    if (down < -10 || down > LETTER_HEIGHT + 20) continue;
+    const hit = marksIn(svg.slice(row.from, row.to)).reverse().find(mark => dots >= mark.x && dots < mark.x + mark.width);
+    if (hit) return { printer: sheet.printer, row: number, name: [sheet.printer, number, hit.x, hit.width, hit.what].join(' ') };
   }
   return null;
 }

@@ -40,6 +40,7 @@ NAMES = {
     "intervals": ("no", "yes"),
     "bounds": ("profile", "guide"),
     "inverted": ("no", "yes"),
+    "paper": ("continuous", "holes", "a4", "letter"),
 }
 NUMBERS = ("sheet", "start", "rate")
 SIGNALS = ("atn", "clock", "data")
@@ -62,7 +63,7 @@ class Name(Structure):
 class Settings(Structure):
     _fields_ = [("size", c_size_t)]
     _fields_ += [(name, c_uint8) for name in NAMES]
-    _fields_ += [("reserved", c_uint8 * 4)]
+    _fields_ += [("top", c_uint8), ("scale", c_uint8), ("reserved", c_uint8)]
     _fields_ += [(name, c_uint64) for name in NUMBERS]
     _fields_ += [(f"{party}_delays", Delays) for party in ("computer", "printer4", "printer5")]
     _fields_ += [(name, Name) for name in SIGNALS]
@@ -151,13 +152,15 @@ def _numbers(values, what):
 
 def _settings(words):
     """The structure of some settings, by their names (`from_` for `from`), values by name or number, delays as lists."""
-    made = Settings(size=ctypes.sizeof(Settings), present=NAMES["present"].index("both"))
+    made = Settings(size=ctypes.sizeof(Settings), present=NAMES["present"].index("both"), top=3, scale=2)
     for word, value in words.items():
         name = word.rstrip("_")
         if name in NAMES and isinstance(value, str) and value not in NAMES[name] and not value.isdigit():
             raise ValueError(f"{word} is none of {', '.join(NAMES[name])}: {value}")
         if name in NAMES:
             setattr(made, name, NAMES[name].index(value) if value in NAMES[name] else _number(value, 255, word))
+        elif name in ("top", "scale"):
+            setattr(made, name, _number(value, 255, word))
         elif name in NUMBERS:
             setattr(made, name, _number(value, 2**64 - 1, word))
         elif name in SIGNALS:

@@ -44,7 +44,10 @@ struct RawSettings {
     intervals: u8,
     bounds: u8,
     inverted: u8,
-    reserved: [u8; 4],
+    paper: u8,
+    top: u8,
+    scale: u8,
+    reserved: [u8; 1],
     sheet: u64,
     start: u64,
     rate: u64,
@@ -344,6 +347,16 @@ pub enum Bounds {
     Guide = 1,
 }
 
+/// The paper of a document: continuous paper without or with its holes, A4 or letter.
+#[derive(Clone, Copy, Debug, Default, PartialEq, Eq)]
+pub enum Paper {
+    #[default]
+    Continuous = 0,
+    Holes = 1,
+    A4 = 2,
+    Letter = 3,
+}
+
 /// What the options of the program say; `default()` has the program's defaults, with a trace text for a recording.
 #[derive(Clone, Copy, Debug, Default)]
 pub struct Settings<'a> {
@@ -356,6 +369,12 @@ pub struct Settings<'a> {
     /// The part of the pages that is shown: one printer, and one sheet from 1; 0 for all.
     pub printer: Device,
     pub sheet: u64,
+    /// How many lines the first row is below the upper edge of the paper; 3 if none are given.
+    pub top: Option<u8>,
+    /// How many pixels a PNG file has for the place of a dot, from 1 to 8; 2 if none are given.
+    pub scale: Option<u8>,
+    /// The paper of a document, or whether a PNG file has holes.
+    pub paper: Paper,
     /// What a recording is: its format, the names of ATN, CLOCK and DATA (empty: the usual ones), whether levels are
     /// inverted, the microsecond at which it starts, and samples in a second, or 0.
     pub recording: Recording,
@@ -389,7 +408,10 @@ impl Settings<'_> {
             intervals: u8::from(self.intervals),
             bounds: self.bounds as u8,
             inverted: u8::from(self.inverted),
-            reserved: [0; 4],
+            top: self.top.unwrap_or(3),
+            paper: self.paper as u8,
+            scale: self.scale.unwrap_or(2),
+            reserved: [0; 1],
             sheet: self.sheet,
             start: self.start,
             rate: self.rate,

@@ -721,13 +721,13 @@ static void try_settings(void) {
     }
     /* Settings of another size, as memory that nobody began, and bytes that are not used yet. */
     for (row = 0; row < sizeof all / sizeof *all; row++)
-        for (change = 0; change < 7; change++) {
+        for (change = 0; change < 4; change++) {
             j.name = all[row];
             j.settings = defaults;
             if (change == 0) memset(&j.settings, 0, sizeof j.settings);
             if (change == 1) j.settings.size--;
             if (change == 2) j.settings.size++;
-            if (change > 2) j.settings.reserved[change - 3] = 1;
+            if (change == 3) j.settings.reserved[0] = 1;
             if (!is_answer(call(&j, buffer.bytes, buffer.size), PRINT1525_REFUSED, PRINT1525_FAULT_BAD_SETTINGS, 0, 0) ||
                 !is_untouched(buffer.bytes, buffer.size))
                 is_wrong("settings of another size, call", row);
@@ -1097,6 +1097,9 @@ static void set_more(job *j) {
     const char *const names = getenv("NAMES");
     if (getenv("PRINTER")) s->printer = (uint8_t)atoi(getenv("PRINTER"));
     if (getenv("SHEET")) s->sheet = strtoul(getenv("SHEET"), NULL, 10);
+    if (getenv("TOP")) s->top = (uint8_t)atoi(getenv("TOP"));
+    if (getenv("SCALE")) s->scale = (uint8_t)atoi(getenv("SCALE"));
+    if (getenv("PAPER")) s->paper = (uint8_t)atoi(getenv("PAPER"));
     if (getenv("INVERTED")) s->inverted = 1;
     if (getenv("START")) s->start = strtoul(getenv("START"), NULL, 10);
     if (getenv("RATE")) s->rate = strtoul(getenv("RATE"), NULL, 10);

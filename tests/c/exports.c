@@ -60,7 +60,7 @@ static void readings(const text_row *row, print1525_plain_numbers *answer) {
 
 /* As SVG, of all printers and sheets, with this project's characters. */
 static void reprint(const text_row *row, print1525_plain_numbers *answer) {
-    print1525_plain_reprint(RECORDING(row), 2, 0, 0, bytes(""), 0, text, row->room, answer);
+    print1525_plain_reprint(RECORDING(row), 2, 0, 0, 3, 0, 2, bytes(""), 0, text, row->room, answer);
 }
 
 static void explain_script(const text_row *row, print1525_plain_numbers *answer) {
@@ -99,7 +99,7 @@ static void print(const text_row *row, print1525_plain_numbers *answer) {
     size_t n;
     for (n = 0; n < length; n++)
         inputs[n] = row->input[n] == 's' ? 257 : row->input[n] == 'x' ? 258 : bytes(row->input)[n];
-    print1525_plain_print(inputs, length, 0, 0, 0, bytes(""), 0, text, row->room, answer);
+    print1525_plain_print(inputs, length, 0, 0, 0, 3, 0, 2, bytes(""), 0, text, row->room, answer);
 }
 
 static const text_row text_rows[] = {

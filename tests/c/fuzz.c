@@ -16,7 +16,7 @@
 #define ROOM (1 << 18)
 #define UNTOUCHED 0xA5
 /* How many settings are numbers of a byte, from `present` on. */
-#define SETTINGS 12
+#define SETTINGS 14
 /* Where a printer has no room for a line more: only one of damaged numbers comes there. */
 #define LAST_LINE (((uint64_t)1 << 63) - 9999)
 
@@ -132,6 +132,9 @@ static print1525_settings made_settings(uint8_t *memories[4]) {
         made.bounds = (uint8_t)below(2);
         made.inverted = (uint8_t)below(2);
         made.sheet = below(4) ? 0 : below(3);
+        made.top = (uint8_t)(below(8) ? below(66) : drawn());
+        made.scale = (uint8_t)(below(8) ? 1 + below(8) : drawn());
+        made.paper = (uint8_t)(below(8) ? below(4) : drawn());
         made.start = below(4) ? 0 : below(2000);
         made.rate = below(4) ? 0 : drawn() >> below(64);
         made.present = (uint8_t)below(4);

@@ -18,6 +18,7 @@ OPTIONS = {
     "recording": ("FROM", ("found", "found-or-csv"), ("auto",)),
     "words": ("REPORT_AS", ("list",), ("frames",)),
     "bounds": ("BOUNDS", (), ()),
+    "paper": ("PAPER", ("holes",), ()),
 }
 # The lists of their values elsewhere: what they are called there.
 PAGE = {"PRESENT": "present", "STATUS": "mode", "SETS": "set", "SOURCES": "recording", "FORMS": "from"}
@@ -126,7 +127,7 @@ def settings():
 
 def drawn():
     """The formats that draw characters, and the page's buttons for printers and the status."""
-    said = re.search(r"--characters goes with --as ([^\"]*)\"", text_of("crates/pr_options/src/command_line.rt")).group(1)
+    said = re.search(r"--characters and --top go with --as ([^\"]*)\"", text_of("crates/pr_options/src/command_line.rt")).group(1)
     own = lists_in(text_of("web/worker.js"), "DRAWN")
     wrong = differ("DRAWN of web/worker.js and pr_options", own, re.split(r", | or ", said))
     asked, page = text_of("web/asked.js"), text_of("web/page.html")

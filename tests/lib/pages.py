@@ -1,9 +1,10 @@
 #!/usr/bin/env python3
-"""pages.py svg|text|dots [present=both|4|5|none] [characters=FILE] [sheet=PRINTER,NUMBER] [PAGE-TEXT]: a page text drawn once more.
+"""pages.py svg|text|terminal|dots [present=both|4|5|none] [characters=FILE] [sheet=PRINTER,NUMBER] [top=LINES] [PAGE-TEXT]: a page text drawn once more.
 
 It is written from docs/DEFINITIONS.md, and stays apart from the program on purpose: it takes nothing from the crates, and the
 crates nothing from it. The pictures and lines of the program have to be the same, byte for byte. The shapes are those of
-examples/characters.txt unless FILE has others. With `sheet` svg is one sheet of a printer. `dots` writes a line `PRINTER X Y`
+examples/characters.txt unless FILE has others. With `sheet` svg is one sheet of a printer. The first row is LINES lines of 1/6
+inch below the upper edge of the paper, 3 unless said. `terminal` is the text as a terminal gets it. `dots` writes a line `PRINTER X Y`
 for each dot. PAGE-TEXT is a file, or standard input."""
 
 import os
@@ -21,10 +22,11 @@ PAPER = """<desc>Pages of VIC-1525 printers. Each dot is where the hammer strike
 <pattern id="paper" width="12600" height="630" patternUnits="userSpaceOnUse"><rect width="12600" height="630" fill="#fff"/><g \
 fill="#e9e6df" stroke="#b4afa2" stroke-width="10"><circle cx="315" cy="315" r="100"/><circle cx="12285" cy="315" r="100"/><path \
 stroke-dasharray="35" d="M630 0v630M11970 0v630"/></g></pattern>
-<pattern id="folds" y="7560" width="12600" height="13860" patternUnits="userSpaceOnUse"><path stroke="#b4afa2" stroke-width="10" \
+<pattern id="folds" y="6930" width="12600" height="13860" patternUnits="userSpaceOnUse"><path stroke="#b4afa2" stroke-width="10" \
 stroke-dasharray="70" d="M0 6930h12600"/></pattern>
 """
-INK = '<g stroke-width="22" stroke-linecap="round" fill-opacity="0" font-size="140">\n'
+TOP = 3  # lines above the first row
+INK = '<g stroke-width="29" stroke-linecap="round" fill-opacity="0" font-size="140">\n'
 
 
 def shapes_of(path):
@@ -93,8 +95,10 @@ class Paper:
     def marks(self):
         return [mark for _, marks in self.rows for mark in marks] + (self.held or [])
 
-    def end(self):
-        return (self.rows[-1][0] + 21 if self.rows else 0) + 42 * (self.held is not None)
+    def length(self, top):
+        """How long it is drawn, in sixths of an inch, with this many lines above its first row."""
+        end = (self.rows[-1][0] + 21 if self.rows else 0) + 42 * (self.held is not None)
+        return 3 * ((end + 21 * top + 125) // 63)
 
 
 class Pages:
@@ -166,11 +170,12 @@ def row_at(y, marks, front="<g"):
     return f'{front} transform="translate(0 {10 * y})">\n{uses(marks)}{letters(marks)}</g>\n'
 
 
-def paper_drawn(printer, paper, x, lines):
-    """The continuous paper of a printer, this many twelfths of an inch long."""
-    text = f'<g transform="translate({x} 1050)">\n<text font-size="210" fill="#555" y="-210">Printer {printer}</text>\n'
+def paper_drawn(printer, paper, above, top):
+    """The continuous paper of a printer, below that of others with their names, which take so many sixths of an inch."""
+    lines = paper.length(top)
+    text = f'<g transform="translate(630 {210 * (above + 5)})">\n<text font-size="210" fill="#555" y="-210">Printer {printer}</text>\n'
     text += f'<rect width="12600" height="{210 * lines}" fill="url(#paper)" stroke="#b4afa2" stroke-width="10"/>\n'
-    text += f'<rect y="1260" width="12600" height="{210 * (lines - 6)}" fill="url(#folds)"/>\n<g transform="translate(1260 630)">\n{INK}'
+    text += f'<rect y="1260" width="12600" height="{210 * (lines - 6)}" fill="url(#folds)"/>\n<g transform="translate(1260 {210 * top})">\n{INK}'
     text += "".join(row_at(y, marks) for y, marks in paper.rows)
     y = paper.rows[-1][0] + 21 if paper.rows else 0
     if paper.held is not None:
@@ -182,60 +187,81 @@ def paper_drawn(printer, paper, x, lines):
     return text + "</g>\n</g>\n"
 
 
-def svg(pages, present):
+def svg(pages, present, top=TOP):
     """The picture of the pages."""
     there = [it for it in ("4", "5") if present in ("both", it)]
     shown = [it for it in there if pages.papers[it].rows or pages.papers[it].held is not None] or there
-    lines = 3 * ((max(it.end() for it in pages.papers.values()) + 188) // 63)
-    width, noted = 129 if len(shown) > 1 else 66, pages.noted()
-    height = lines + 9 + (pages.stop != "") + (noted != "")
-    text = f'<svg xmlns="http://www.w3.org/2000/svg" version="1.1" width="{width}pc" height="{height}pc" viewBox="0 0 {210 * width} {210 * height}">\n'
+    papers, noted = "", pages.noted()
+    lines = 0
+    for it in shown:
+        papers += paper_drawn(it, pages.papers[it], lines, top)
+        lines += 5 + pages.papers[it].length(top)
+    height = lines + 4 + (pages.stop != "") + (noted != "")
+    text = f'<svg xmlns="http://www.w3.org/2000/svg" version="1.1" width="66pc" height="{height}pc" viewBox="0 0 13860 {210 * height}">\n'
     text += PAPER + '<rect width="100%" height="100%" fill="#e9e6df"/>\n<defs>\n'
     defined = set()
-    text += "".join(definitions(pages.papers[it].marks(), defined) for it in shown) + "</defs>\n"
-    text += "".join(paper_drawn(it, pages.papers[it], 630 + 13230 * at, lines) for at, it in enumerate(shown))
-    text += f'<text font-size="210" fill="#555" transform="translate(630 {210 * (lines + 6)})">\n'
+    text += "".join(definitions(pages.papers[it].marks(), defined) for it in shown) + "</defs>\n" + papers
+    text += f'<text font-size="210" fill="#555" transform="translate(630 {210 * (lines + 1)})">\n'
     text += f'<tspan x="0" dy="210" fill="#a33">{pages.stop}</tspan>\n' * (pages.stop != "")
     text += f'<tspan x="0" dy="210">Status {noted}</tspan>\n' * (noted != "")
     return text + "</text>\n</svg>\n"
 
 
-def sheet_svg(pages, printer, number):
+def sheet_svg(pages, printer, number, top=TOP):
     """One sheet of a printer, from 1: the rows that reach it."""
     begin = 13860 * (number - 1) + 630
-    rows = [it for it in pages.papers[printer].rows if number - 1 in (it[0] // 1386, (it[0] + 13) // 1386)]
+    lowered = [(y + 21 * top, marks) for y, marks in pages.papers[printer].rows]
+    rows = [it for it in lowered if number - 1 in (it[0] // 1386, (it[0] + 13) // 1386)]
     text = f'<svg xmlns="http://www.w3.org/2000/svg" version="1.1" width="60pc" height="66pc" viewBox="0 {begin} 12600 13860">\n{PAPER}<defs>\n'
     text += definitions([mark for _, marks in rows for mark in marks], set())
     text += f'</defs>\n<rect y="{begin}" width="12600" height="13860" fill="url(#paper)"/>\n<g transform="translate(1260 630)">\n{INK}'
     return text + "".join(row_at(y, marks) for y, marks in rows) + "</g>\n</g>\n</svg>\n"
 
 
-def line(marks):
-    """Marks as a line of eighty columns."""
-    made = ""
-    for at in range(80):
-        sign, ink = 32, 0
-        for it in marks:
-            if not it.is_cell:
-                ink += bin(it.code & 127).count("1") if it.place // 6 == at else 0
-                continue
-            blank = 9608 if it.reverse else 32
-            shown = blank if it.sign in (32, 160) else it.sign
-            if shown != 32 and it.place // 6 == at:
-                sign, ink = shown, 0
-            elif shown != 32 and it.wide and it.place // 6 + 1 == at:
-                sign, ink = blank, 0
-        made += chr(9617 if ink < 12 else 9618 if ink < 23 else 9619 if ink < 34 else 9608) if ink else chr(sign)
-    return made.rstrip(" ") + "\n"
+def signs_of(mark, is_seen):
+    """What a cell shows in its columns: each a character and whether a terminal shows it in reverse video; none where it changes nothing."""
+    blank = mark.sign in (32, 160)
+    if blank and not mark.reverse:
+        return []
+    if is_seen:
+        return [(mark.sign, mark.reverse), (32, mark.reverse)][: 1 + mark.wide]
+    return [(9608, False) if blank else (mark.sign, False), (9608 if blank else 32, False)][: 1 + mark.wide]
 
 
-def paper_lines(printer, paper):
+def line(marks, is_seen):
+    """Marks as a line of eighty columns, for a terminal or a file."""
+    columns = [((32, False), 0)] * 80
+    for it in marks:
+        at = it.place // 6
+        if it.is_cell:
+            for column, sign in enumerate(signs_of(it, is_seen), at):
+                columns[column : column + 1] = [(sign, 0)] * (column < 80)
+        elif it.code & 127:
+            sign, ink = columns[at]
+            columns[at] = sign, ink + bin(it.code & 127).count("1")
+    made, blanks, video = "", "", False
+    for sign, ink in columns:
+        if ink:
+            sign = 9617 if ink < 12 else 9618 if ink < 23 else 9619 if ink < 34 else 9608, False
+        if sign == (32, False):
+            blanks += " "
+            continue
+        if blanks and video:
+            made, video = made + "\33[27m", False
+        made += blanks
+        if sign[1] != video:
+            made, video = made + ("\33[7m" if sign[1] else "\33[27m"), sign[1]
+        made, blanks = made + chr(sign[0]), ""
+    return made + "\33[27m" * video + "\n"
+
+
+def paper_lines(printer, paper, is_seen):
     text, free = f"Printer {printer}\n", 0
     for y, marks in paper.rows:
         while free + 21 <= y:
             text, free = text + "\n", free + 21
-        text, free = text + line(marks), y + 21
-    return text + ("Held, not yet printed:\n" + line(paper.held) if paper.held is not None else "")
+        text, free = text + line(marks, is_seen), y + 21
+    return text + ("Held, not yet printed:\n" + line(paper.held, is_seen) if paper.held is not None else "")
 
 
 def numbers(name, listed):
@@ -244,8 +270,8 @@ def numbers(name, listed):
     return name + "".join(("\n" if at % 18 == 0 else "") + f" {it}" for at, it in enumerate(words, 1)) + ".\n"
 
 
-def text_lines(pages, present):
-    text = "".join(paper_lines(it, pages.papers[it]) for it in ("4", "5") if present in ("both", it))
+def text_lines(pages, present, is_seen=False):
+    text = "".join(paper_lines(it, pages.papers[it], is_seen) for it in ("4", "5") if present in ("both", it))
     text += numbers("Statuses:", pages.statuses) if pages.statuses else ""
     text += numbers("Screen:", pages.screen) if pages.screen else ""
     return text + (f"{pages.stop}.\n" if pages.stop else "")
@@ -263,19 +289,20 @@ def dots(pages):
 
 
 def main(form, *words):
-    options = dict(it.split("=", 1) for it in words if it.startswith(("present=", "characters=", "sheet=")))
-    files = [it for it in words if not it.startswith(("present=", "characters=", "sheet="))]
+    options = dict(it.split("=", 1) for it in words if it.startswith(("present=", "characters=", "sheet=", "top=")))
+    files = [it for it in words if not it.startswith(("present=", "characters=", "sheet=", "top="))]
     with open(files[0] if files else 0, encoding="ascii") as file:
         pages = Pages(file.read(), shapes_of(options.get("characters", CHARACTERS)))
     if form == "dots":
         return "".join(f"{printer} {x} {y}\n" for printer, x, y in dots(pages))
     if "sheet" in options:
         printer, number = options["sheet"].split(",")
-        return sheet_svg(pages, printer, int(number))
-    return (svg if form == "svg" else text_lines)(pages, options.get("present", "both"))
+        return sheet_svg(pages, printer, int(number), int(options.get("top", TOP)))
+    present = options.get("present", "both")
+    return svg(pages, present, int(options.get("top", TOP))) if form == "svg" else text_lines(pages, present, form == "terminal")
 
 
 if __name__ == "__main__":
-    if len(sys.argv) < 2 or sys.argv[1] not in ("svg", "text", "dots"):
+    if len(sys.argv) < 2 or sys.argv[1] not in ("svg", "text", "terminal", "dots"):
         sys.exit(__doc__)
     sys.stdout.buffer.write(main(*sys.argv[1:]).encode())

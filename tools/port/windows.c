@@ -105,6 +105,12 @@ static BOOL WINAPI interrupted(DWORD event) {
     TerminateProcess(GetCurrentProcess(), 130);
     return TRUE;
 }
+/* A console takes the sequences by which the program clears a line and shows reverse (ENABLE_VIRTUAL_TERMINAL_PROCESSING). */
+static void take_sequences(int fd) {
+    const HANDLE console = (HANDLE)_get_osfhandle(fd);
+    DWORD mode;
+    if (GetConsoleMode(console, &mode)) SetConsoleMode(console, mode | 4);
+}
 /* Standard streams are bytes. */
 int main(void) {
     wchar_t **given;
@@ -118,6 +124,8 @@ int main(void) {
         if (!is_names(i)) turn_round(words[i]);
     }
     SetConsoleOutputCP(CP_UTF8);
+    take_sequences(1);
+    take_sequences(2);
     SetConsoleCtrlHandler(interrupted, TRUE);
     return print1525_program();
 }

@@ -12,6 +12,7 @@ use Rattle.pr_report.specs.declared.report.Report.TheVariants as report
 use Rattle.pr_dots.specs.declared.character_sets.Shapes.{Shapes}
 use Rattle.pr_render.specs.declared.format.Format.{Format}
 use Rattle.pr_render.specs.declared.format.Format.TheVariants as format
+use Rattle.pr_render.specs.declared.format.Look.TheVariants.{Video}
 use Rattle.pr_listing.specs.declared.form.ListingForm.{ListingForm}
 use Rattle.pr_listing.specs.declared.form.ListingForm.TheVariants.{Text}
 use Rattle.pr_listing.specs.declared.input.TextFault.{TextFault}
@@ -75,6 +76,18 @@ abbrev pub restarted_job : (start : ℕ) → Job → Job
 restarted_job start (Check is_found input f) = Check is_found (record input { start = start }) f
 restarted_job start (Decode is_found input f) = Decode is_found (record input { start = start }) f
 restarted_job start job = job
+
+-- a format for a terminal: lines show what is printed in reverse in its reverse video
+abbrev pub seen_format : Format → Format
+seen_format (format.Lines look) = format.Lines Video
+seen_format other = other
+
+-- a job whose pages go to a terminal; all else of it stays
+abbrev pub seen_job : Job → Job
+seen_job (Pages form present delays mode (output.Pages f)) = Pages form present delays mode (output.Pages (seen_format f))
+seen_job (Decode is_found input (reading.Pages f hearing)) = Decode is_found input (reading.Pages (seen_format f) hearing)
+seen_job (Raw lower f) = Raw lower (seen_format f)
+seen_job job = job
 
 -- what `check` answers: the frames of a trace text, or else a report on an input of any format
 abbrev pub AnswersFrames :
@@ -209,10 +222,10 @@ both = record { four = true; five = true }
 
 abbrev pub shown_in : Format → Present
 shown_in format.List = both
-shown_in format.Lines = both
+shown_in (format.Lines look) = both
 shown_in (format.Svg part) = shown_of part.device both
 shown_in (format.Png part) = shown_of part.device both
-shown_in (format.Pdf device) = shown_of device both
+shown_in (format.Pdf device layout) = shown_of device both
 
 -- the printers of which nothing is to be left out of a recording, if a job is strict: those whose pages or bytes are written
 abbrev pub strict_if : Bool → Present → Option Present

@@ -9,7 +9,7 @@ ghost use Rattle.pr_cli.specs.Statuses.{answer_end, fault_status, job_end, statu
 ghost use Rattle.pr_cli.specs.declared.statuses.End.TheVariants as end;
 
 use crate::characters::{shapes_for, shapes_given};
-use crate::jobs::{Answer, do_job, found_job};
+use crate::jobs::{Answer, do_job, found_job, seen_job};
 use crate::lacking::strict_of;
 use crate::notes::{
     ListingNote, View, blank_reason, note_listing, note_overheard, note_pages, note_reprinted,
@@ -83,6 +83,8 @@ pub struct Manner {
     pub is_watched: bool,
     /// Standard output is a terminal.
     pub is_seen: bool,
+    /// It shows reverse in its reverse video.
+    pub is_reversing: bool,
 }
 
 /// What is said of a task over memory beside a fault.
@@ -138,15 +140,20 @@ pub fn answer_task(
         Ok(shapes) => shapes,
         Err(fault) => return End::Characters(fault).status(),
     };
+    let names = Names {
+        input,
+        output: output.filter(|name| !is_standard_output(name)),
+    };
+    let job = if manner.is_reversing && names.output.is_none() {
+        seen_job(job)
+    } else {
+        job
+    };
     let work = Work {
         job,
         before,
         shapes: &shapes,
         is_located: manner.is_explained,
-    };
-    let names = Names {
-        input,
-        output: output.filter(|name| !is_standard_output(name)),
     };
     answer_named(rt, names, work, manner)
 }
@@ -254,12 +261,12 @@ fn is_for_a_file(job: &Job<'_>) -> bool {
             _,
             _,
             _,
-            PagesOutput::Pages(Format::Png(_) | Format::Pdf(_))
+            PagesOutput::Pages(Format::Png(_) | Format::Pdf(_, _))
         ) | Job::Decode {
-            output: DecodeOutput::Pages(Format::Png(_) | Format::Pdf(_), _),
+            output: DecodeOutput::Pages(Format::Png(_) | Format::Pdf(_, _), _),
             ..
         } | Job::Raw {
-            format: Format::Png(_) | Format::Pdf(_),
+            format: Format::Png(_) | Format::Pdf(_, _),
             ..
         }
     )
@@ -622,7 +629,7 @@ fn answer_over<R: Read + Drop, W: Write + Drop>(
 }
 
 /// Notes what pages that were drawn have not, or a printer's bytes: of a run's, and of bytes given, what the printers hold,
-/// other sheets, and why they are blank, if notes are written; of a recording's, all that is left out, unless it is quiet.
+/// the other printer, and why they are blank, if notes are written; of a recording's, all that is left out, unless it is quiet.
 fn tell_lacking(
     rt: &impl Eprint,
     view: View,

@@ -20,6 +20,9 @@ use std::{env, io};
 /// The environment's variable that, with the value 1, asks for the same as `--explain`.
 const EXPLAIN_VARIABLE: &str = "PRINT1525_EXPLAIN";
 
+/// The environment's variable that, with any value but an empty one, keeps sequences that change how text looks from terminals.
+const PLAIN_VARIABLE: &str = "NO_COLOR";
+
 /// The longest word of a command line that is shown where it is not UTF-8, in bytes.
 const SHOWN: usize = 4096;
 
@@ -86,7 +89,8 @@ fn answer_words(
 ) -> Result<u8, AllocError> {
     let texts = texts_of(rt.alloc(), words)?;
     let texts = meant(rt.alloc(), texts.as_slice())?;
-    let is_explained = explains(texts.as_slice()) || is_variable_set(rt)?;
+    let is_explained = explains(texts.as_slice()) || is_explaining(rt)?;
+    let is_reversing = terminals.output && !is_plain(rt)?;
     let is_quiet = is_quiet(texts.as_slice());
     match read_task(rt.alloc(), texts.as_slice()) {
         Ok(task) => {
@@ -96,6 +100,7 @@ fn answer_words(
                 is_typed: terminals.input,
                 is_watched: terminals.error,
                 is_seen: terminals.output,
+                is_reversing,
             };
             let note = ending_note(texts.as_slice(), &task);
             let status = answer_task(rt, task, manner);
@@ -121,10 +126,20 @@ fn texts_of(alloc: Global, words: &[String]) -> Result<Vec<&str>, AllocError> {
 }
 
 /// Whether the environment asks for explanations.
-fn is_variable_set(rt: &(impl Env + AllocGlobal)) -> Result<bool, AllocError> {
+fn is_explaining(rt: &(impl Env + AllocGlobal)) -> Result<bool, AllocError> {
     match env::var(rt, EXPLAIN_VARIABLE) {
         Ok(value) => Ok(value.as_str() == "1"),
         Err(VarError::OutOfMemory) => Err(AllocError),
         Err(VarError::NotPresent | VarError::NotUnicode) => Ok(false),
+    }
+}
+
+/// Whether the environment asks for text that looks plain on a terminal, as <https://no-color.org> has it.
+fn is_plain(rt: &(impl Env + AllocGlobal)) -> Result<bool, AllocError> {
+    match env::var(rt, PLAIN_VARIABLE) {
+        Ok(value) => Ok(!value.is_empty()),
+        Err(VarError::OutOfMemory) => Err(AllocError),
+        Err(VarError::NotUnicode) => Ok(true),
+        Err(VarError::NotPresent) => Ok(false),
     }
 }

@@ -6,7 +6,7 @@ ghost use Rattle.pr_jobs.specs.Does.{AreFresh, DoesJob};
 ghost use Rattle.pr_jobs.specs.Pages.{AnswersPages, IsRunFault, ReadsToEnd, WritesNothing};
 ghost use Rattle.pr_jobs.specs.Report.{IsReportFault};
 ghost use Rattle.pr_input.specs.Watched.{wrapped};
-ghost use Rattle.pr_cli.specs.Jobs.{AnswersJob, AnswersRecording, AnswersRun, AnswersTrace, AnswersTraced, IsJobFault, IsPrintFault, IsRecordingFault, KeepsOutput, KeepsRun, KeepsTrace, ReadsInput, ReadsRecording, ReadsTrace, found_input, found_job, listening_of, restarted_job};
+ghost use Rattle.pr_cli.specs.Jobs.{AnswersJob, AnswersRecording, AnswersRun, AnswersTrace, AnswersTraced, IsJobFault, IsPrintFault, IsRecordingFault, KeepsOutput, KeepsRun, KeepsTrace, ReadsInput, ReadsRecording, ReadsTrace, found_input, found_job, listening_of, restarted_job, seen_format, seen_job};
 
 use pr_capture::{Source, TraceFormat, TraceInput, found_source};
 use pr_dots::Shapes;
@@ -19,7 +19,7 @@ use pr_recording::{
     Heard, Listening, Overheard, Reprinted, Wording, bytes_over, check_json_over, decode_over,
     reprint_over, run_bytes_over,
 };
-use pr_render::Format;
+use pr_render::{Format, Look};
 use pr_report::{Oddities, Report};
 use std::alloc::Global;
 use std::io::{Read, Write};
@@ -105,6 +105,45 @@ pub fn restarted_job<'a>(job: Job<'a>, start: u64) -> Job<'a>
             is_found,
             input: TraceInput { start, ..input },
             output,
+        },
+        _ => job,
+    }
+}
+
+/// The format for a terminal: lines show what is printed in reverse in its reverse video.
+fn seen_format(format: Format) -> Format
+    ensures { result ≡ seen_format format }
+{
+    match format {
+        Format::Lines(_) => Format::Lines(Look::Video),
+        _ => format,
+    }
+}
+
+/// Returns the job with its pages as they are for a terminal, where it writes pages. All else that the job says stays.
+pub fn seen_job<'a>(job: Job<'a>) -> Job<'a>
+    ensures { result ≡ seen_job job.entry }
+{
+    match job {
+        Job::Pages(form, present, delays, mode, PagesOutput::Pages(format)) => Job::Pages(
+            form,
+            present,
+            delays,
+            mode,
+            PagesOutput::Pages(seen_format(format)),
+        ),
+        Job::Decode {
+            is_found,
+            input,
+            output: DecodeOutput::Pages(format, hearing),
+        } => Job::Decode {
+            is_found,
+            input,
+            output: DecodeOutput::Pages(seen_format(format), hearing),
+        },
+        Job::Raw { lower, format } => Job::Raw {
+            lower,
+            format: seen_format(format),
         },
         _ => job,
     }

@@ -52,9 +52,9 @@ fn shown_in(format: Format) -> Present
     ensures { result ≡ shown_in format }
 {
     match format {
-        Format::List | Format::Lines => BOTH,
+        Format::List | Format::Lines(_) => BOTH,
         Format::Svg(part) | Format::Png(part) => shown_of(part.device, BOTH),
-        Format::Pdf(device) => shown_of(device, BOTH),
+        Format::Pdf(device, _) => shown_of(device, BOTH),
     }
 }
 

@@ -141,9 +141,9 @@ const JOINED: &str =
 /// What is said of a blank page of a printer's bytes.
 const NO_PRINTED_BYTE: &str = "the page is blank: the input has no byte that prints";
 
-/// What is said of a sheet of printer 4 where printer 5 has printed and none of both was chosen.
+/// What is said of a picture of printer 4's paper where printer 5 has printed and none of both was chosen.
 const FIVE_TOO: &str =
-    "this sheet is printer 4's, and printer 5 has printed, too: --device 5 draws its sheets";
+    "this picture is printer 4's, and printer 5 has printed, too: --device 5 draws its pages";
 
 /// What a note says to do about bytes that the list has.
 const LISTED: &str = "--as list shows where";
@@ -343,10 +343,8 @@ impl Display for Unprinted {
 pub struct View {
     /// The printers whose pages are drawn, in lines or in a picture. A list of marks draws none.
     drawn: Present,
-    /// It is one sheet, of one of these printers.
+    /// It is the paper of one of these printers, or a sheet of it.
     is_single: bool,
-    /// The sheet was not chosen.
-    is_first: bool,
     /// The page is that of a printer's bytes.
     is_of_bytes: bool,
 }
@@ -375,17 +373,16 @@ pub fn view_of(job: &Job<'_>) -> View {
 fn view_in(format: Format, present: Present) -> View {
     match format {
         Format::List => whole_view(NO_PRINTER),
-        Format::Lines => whole_view(present),
+        Format::Lines(_) => whole_view(present),
         Format::Svg(part) => View {
             is_single: part.sheet.is_some(),
             ..whole_view(shown_of(part.device, present))
         },
         Format::Png(part) => View {
             is_single: true,
-            is_first: part.sheet.is_none(),
             ..whole_view(shown_of(part.device, present))
         },
-        Format::Pdf(device) => whole_view(shown_of(device, present)),
+        Format::Pdf(device, _) => whole_view(shown_of(device, present)),
     }
 }
 
@@ -394,19 +391,18 @@ fn whole_view(drawn: Present) -> View {
     View {
         drawn,
         is_single: false,
-        is_first: false,
         is_of_bytes: false,
     }
 }
 
-/// Writes what is to be noted of pages that were written: marks that a printer holds, that the page is blank, and which
-/// sheets there are beside the one that is drawn. Of a script its text may say why nothing prints.
+/// Writes what is to be noted of pages that were written: marks that a printer holds, that the page is blank, and that another
+/// printer has printed, too. Of a script its text may say why nothing prints.
 pub fn note_pages(rt: &impl Eprint, pages: PagesEnd, view: View, reason: Option<&'static str>) {
     note_held(rt, pages, view.drawn);
     if let Some(text) = blank_text(pages, view, reason) {
         note(rt, text);
     }
-    note_others(rt, pages, view);
+    note_other(rt, pages, view);
 }
 
 /// What is to be noted of a page on which nothing is, if it is one. Where a BASIC error stopped the run, that is the reason,
@@ -459,27 +455,16 @@ fn has_no_statement(script: &[u8]) -> bool {
 
 /// Whether a printer has printed a row, or holds marks.
 fn has_marks(paper: PaperEnd) -> bool {
-    paper.sheets > 0 || holds(paper.held)
+    paper.is_printed || holds(paper.held)
 }
 
-/// Writes a note of each kind of sheets that there are beside the one that is drawn: those of the same printer, if nobody
-/// chose one, and those of the other printer.
-fn note_others(rt: &impl Eprint, pages: PagesEnd, view: View) {
-    if !view.is_single {
-        return;
-    }
-    let has_four = view.drawn.four && pages.four.sheets > 0;
-    let sheets = if has_four {
-        pages.four.sheets
-    } else {
-        pages.five.sheets
-    };
-    if view.is_first && sheets > 1 {
-        let _ = rt.eprintln(format_args!(
-            "print1525: note: this is sheet 1 of {sheets}; --sheet 2 draws the next, and --as pdf has all"
-        ));
-    }
-    if has_four && view.drawn.five && pages.five.sheets > 0 {
+/// Writes a note where one printer's paper is drawn and the other one has printed, too.
+fn note_other(rt: &impl Eprint, pages: PagesEnd, view: View) {
+    let have_both = view.drawn.four
+        && view.drawn.five
+        && pages.four.is_printed
+        && pages.five.is_printed;
+    if view.is_single && have_both {
         note(rt, FIVE_TOO);
     }
 }
@@ -524,14 +509,13 @@ pub fn note_brief(rt: &impl Eprint, count: u64, source: Source) {
     };
 }
 
-/// Writes what the pages of these printers lack that a recording has, and which sheets there are beside the one that is
-/// drawn.
+/// Writes what the pages of these printers lack that a recording has, and that another printer has printed, too.
 pub fn note_reprinted(rt: &impl Eprint, said: Reprinted, view: View) {
     let drawn = view.drawn;
     note_left(rt, said.left, drawn);
     note_nothing(rt, drawn, said.present);
     note_held(rt, said.end, drawn);
-    note_others(rt, said.end, view);
+    note_other(rt, said.end, view);
 }
 
 /// Writes what the bytes of this printer lack that a recording has.

@@ -101,8 +101,8 @@ fn print(alloc: Global, inputs: &[u16], format: Format, shapes: &Shapes, out: &m
 
 /// Puts the text of the page that a printer prints of its inputs, or of a part of it, at the front of the caller's buffer. The
 /// inputs are numbers: 0 to 255 a byte, 256 the selection of the graphic/upper case set, 257 that of the lower/upper case set;
-/// before the first selection the former is selected. `format`, `device`, `sheet` and `characters` are those of
-/// [`crate::print1525_reprint`], with their refusals.
+/// before the first selection the former is selected. `format`, `device`, `sheet`, `top`, `paper`, `scale` and `characters` are
+/// those of [`crate::print1525_reprint`], with their refusals.
 ///
 /// It is refused for more than 2^32 inputs, exactly; then exactly where a number is above 257, with the index of the first, from
 /// 0, before any memory is taken; where memory was refused; and where the text has more bytes than the buffer has room for, with
@@ -114,16 +114,19 @@ pub extern "C" fn print1525_print(
     format: u8,
     device: u8,
     sheet: u64,
+    top: u8,
+    paper: u8,
+    scale: u8,
     characters: &[u8],
     out: &mut [u8],
     answer: &mut Answer,
 )
     ensures tells { WithShapes characters.now (λ shapes.
-        TellsPrint (shown_of format device sheet) shapes inputs.now out.old out.new answer.new) }
+        TellsPrint (shown_of format device sheet top paper scale) shapes inputs.now out.old out.new answer.new) }
     ensures length { length out.new ≡ length out.old }
 {
     let shapes = shapes_for(characters);
-    let Some(format) = shown_for(format, device, sheet) else {
+    let Some(format) = shown_for(format, device, sheet, top, paper, scale) else {
         *answer = refused(24, 0);
         return;
     };

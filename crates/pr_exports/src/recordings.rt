@@ -168,11 +168,13 @@ pub extern "C" fn print1525_readings(
 /// recording that cannot be read to its end, the pages of what comes before the fault are in the
 /// buffer.
 ///
-/// `format` is 0 for the page text, 1 for lines of 80 columns, 2 for an SVG document, 3 for a sheet
-/// as a PNG file, 4 for a PDF document. `device` is 4 or 5 for the pages of one printer, `sheet` is
-/// the number of one sheet from 1; 0 means all of them. Pictures draw the characters of the file `characters`, or the
-/// project's own where it is empty. Numbers that mean no such format are refused, and so are a file of characters with a
-/// bad line, a sheet past the last one and a document that is too large.
+/// `format` is 0 for the page text, 1 for lines of 80 columns, 2 for an SVG document, 3 for a PNG file, 4 for a PDF document.
+/// `device` is 4 or 5 for the pages of one printer, `sheet` is the number of one sheet from 1; 0 means all of them. `top` is how
+/// many lines the first row is below the upper edge of the paper, at most 65, and `paper` that of a document or a PNG file: 0
+/// continuous paper without and 1 with its holes, 2 A4, 3 letter, which a PNG file does not show. `scale` is how many pixels a PNG
+/// file has for the place of a dot, from 1 to 8. Pictures draw the characters of the file `characters`, or the project's own where
+/// it is empty. Numbers that mean no such format are refused, and so are a file of characters with a bad line, a sheet past the
+/// last one and a picture that is too large.
 #[unsafe(no_mangle)]
 pub extern "C" fn print1525_reprint(
     alloc: Global,
@@ -187,12 +189,15 @@ pub extern "C" fn print1525_reprint(
     format: u8,
     device: u8,
     sheet: u64,
+    top: u8,
+    paper: u8,
+    scale: u8,
     characters: &[u8],
     out: &mut [u8],
     answer: &mut Answer,
 )
     ensures tells { WithShapes characters.now (λ shapes. TellsReprint (source_of source bytes.now) atn.now clock.now line.now inverted start rate
-        (shown_of format device sheet) shapes bytes.now out.old out.new answer.new) }
+        (shown_of format device sheet top paper scale) shapes bytes.now out.old out.new answer.new) }
     ensures length { length out.new ≡ length out.old }
 {
     let shapes = shapes_for(characters);
@@ -200,7 +205,7 @@ pub extern "C" fn print1525_reprint(
         *answer = refused(29, 0);
         return;
     };
-    let Some(format) = shown_for(format, device, sheet) else {
+    let Some(format) = shown_for(format, device, sheet, top, paper, scale) else {
         *answer = refused(24, 0);
         return;
     };

@@ -2,17 +2,17 @@
 
 ghost use Rattle.std.specs.Prelude.{◌≡◌, take};
 ghost use Rattle.pr_capture.specs.Found.{found_source};
-ghost use Rattle.pr_exports.specs.Settings.{AsksShapes, IsInput, check_of, detail_of, device_of, form_of, format_of, mode_of, presence, rate_of, sheet_of, shown_of, source_of, stop_of, wording_of};
+ghost use Rattle.pr_exports.specs.Settings.{AsksShapes, IsInput, check_of, detail_of, device_of, form_of, format_of, layout_of, mode_of, paper_of, presence, rate_of, scale_of, sheet_of, shown_of, source_of, stop_of, wording_of};
 
 use pr_basic::StatusMode;
 use pr_capture::{Probes, Signals, Source, TraceInput, found_source};
 use pr_channels::Stop;
 use pr_characters::{CharactersFault, read_shapes};
-use pr_dots::Shapes;
+use pr_dots::{Scale, Shapes};
 use pr_listing::ListingForm;
 use pr_options::CheckOutput;
 use pr_recording::Wording;
-use pr_render::{Device, Format, Part};
+use pr_render::{Device, Format, Layout, Look, Part, Size};
 use pr_report::{Bounds, Detail, Report};
 use pr_serial::Present;
 
@@ -108,17 +108,16 @@ pub fn mode_for(is_kept: bool) -> StatusMode
     }
 }
 
-/// The format of pages: 0 the page text, 1 lines of 80 columns, 2 an SVG document, 3 a sheet as a PNG file, 4 a PDF
-/// document.
+/// The format of pages: 0 the page text, 1 lines of 80 columns, 2 an SVG document, 3 a PNG file, 4 a PDF document.
 fn format_for(number: u8) -> Option<Format>
     ensures { result ≡ format_of number }
 {
     match number {
         0 => Some(Format::List),
-        1 => Some(Format::Lines),
+        1 => Some(Format::Lines(Look::Blocks)),
         2 => Some(Format::Svg(Part::whole())),
         3 => Some(Format::Png(Part::whole())),
-        4 => Some(Format::Pdf(None)),
+        4 => Some(Format::Pdf(None, Layout::usual())),
         _ => None,
     }
 }
@@ -145,10 +144,64 @@ fn sheet_for(number: u64) -> Option<u64>
     }
 }
 
-/// The format of pages and what of them it shows: one printer or all (0), one sheet or all (0). `None` where a number
-/// means no such setting, or the format cannot show this part.
-pub fn shown_for(format: u8, device: u8, sheet: u64) -> Option<Format>
-    ensures { result ≡ shown_of format device sheet }
+/// The pixels of a bitmap for the place of a dot, across and down: 1 to 8.
+fn scale_for(number: u8) -> Option<Scale>
+    ensures { result ≡ scale_of number }
+{
+    match number {
+        1 => Some(Scale::One),
+        2 => Some(Scale::Two),
+        3 => Some(Scale::Three),
+        4 => Some(Scale::Four),
+        5 => Some(Scale::Five),
+        6 => Some(Scale::Six),
+        7 => Some(Scale::Seven),
+        8 => Some(Scale::Eight),
+        _ => None,
+    }
+}
+
+/// The paper of a document, and whether it and a bitmap show its holes: 0 continuous paper without and 1 with them, 2 A4, 3
+/// letter.
+fn paper_for(number: u8) -> Option<(Size, bool)>
+    ensures { result ≡ paper_of number }
+{
+    match number {
+        0 => Some((Size::Continuous, false)),
+        1 => Some((Size::Continuous, true)),
+        2 => Some((Size::A4, false)),
+        3 => Some((Size::Letter, false)),
+        _ => None,
+    }
+}
+
+/// How the pages lie on their paper: this many lines above the first row; `None` where a sheet has no more, or there is no such
+/// paper.
+fn layout_for(top: u8, paper: u8) -> Option<Layout>
+    ensures { result ≡ layout_of top paper }
+{
+    let Some((size, holes)) = paper_for(paper) else {
+        return None;
+    };
+    if top < 66 {
+        Some(Layout { top, size, holes })
+    } else {
+        None
+    }
+}
+
+/// The format of pages, what of them it shows: one printer or all (0), one sheet or all (0), the lines above the first row, the
+/// paper of a document and the pixels of a bitmap for the place of a dot. `None` where a number means no such setting, or the
+/// format cannot show this part.
+pub fn shown_for(
+    format: u8,
+    device: u8,
+    sheet: u64,
+    top: u8,
+    paper: u8,
+    scale: u8,
+) -> Option<Format>
+    ensures { result ≡ shown_of format device sheet top paper scale }
 {
     let Some(format) = format_for(format) else {
         return None;
@@ -156,9 +209,17 @@ pub fn shown_for(format: u8, device: u8, sheet: u64) -> Option<Format>
     let Some(device) = device_for(device) else {
         return None;
     };
+    let Some(layout) = layout_for(top, paper) else {
+        return None;
+    };
+    let Some(scale) = scale_for(scale) else {
+        return None;
+    };
     format.showing(Part {
         device,
         sheet: sheet_for(sheet),
+        layout,
+        scale,
     })
 }
 

@@ -108,7 +108,7 @@ IsPictureFault fault = IsRunFault fault
 -- a fault of pages in a format: a list of marks and lines are no pictures
 abbrev pub IsPagesFault : Format → CliFault → Type 0
 IsPagesFault format.List fault = IsRunFault fault
-IsPagesFault format.Lines fault = IsRunFault fault
+IsPagesFault (format.Lines look) fault = IsRunFault fault
 IsPagesFault _ fault = IsPictureFault fault
 
 -- the input has been read to its end, unless it is too large, a read failed or memory was refused

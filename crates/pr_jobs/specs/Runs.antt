@@ -1,10 +1,9 @@
 -- Trusted: how a run begins, and how it ends.
-use Rattle.std.specs.Prelude.{ℕ, Bool, true, false, not, List, count_by, length, nat_lt, if◌then◌else◌, Option, Some, None}
+use Rattle.std.specs.Prelude.{ℕ, Bool, true, false, not, List, count_by, length, nat_lt, Option, Some, None}
 use Rattle.pr_page.specs.declared.paper.Mark.{Mark}
 use Rattle.pr_page.specs.declared.paper.Mark.TheVariants.{Cell, Dots}
 use Rattle.pr_page.specs.declared.paper.Paper.{Paper}
 use Rattle.pr_page.specs.declared.paper.Placed.{Placed}
-use Rattle.pr_dots.specs.Sheets.{sheets_of}
 use Rattle.pr_render.specs.Svg.{all_zero}
 use Rattle.pr_system.specs.declared.outcome.Outcome.{Outcome}
 use Rattle.pr_serial.specs.declared.Present.{Present}
@@ -52,13 +51,9 @@ held_marks marks = record {
   columns = count_by (λ placed. not (is_character placed.mark)) marks;
 }
 
--- how many sheets a paper with a printed row has; without one, none
-abbrev pub printed_sheets : Paper → ℕ
-printed_sheets paper = if has_rows paper then sheets_of paper else 0
-
--- what is on a paper, and the marks that its printer holds: those of a line that has not ended
+-- whether a row is printed on a paper, and the marks that its printer holds: those of a line that has not ended
 abbrev pub paper_end : Paper → PaperEnd
-paper_end paper = record { sheets = printed_sheets paper; held = held_marks paper.held }
+paper_end paper = record { is_printed = has_rows paper; held = held_marks paper.held }
 
 -- how a run ended, what came of its papers, and whether a byte went to the screen, or a statement called a device that did
 -- not answer: its status is not 0

@@ -15,8 +15,8 @@ pub enum PictureFault {
     /// There is no such sheet: the printer's pages have this many.
     #[error("no such sheet")]
     NoSuchSheet(u64),
-    /// The document would be longer than a PDF document can be: 9,999,999,999 bytes.
-    #[error("document too large")]
+    /// The document would be longer than a PDF document can be, 9,999,999,999 bytes, or the bitmap higher than 1,000,000 pixels.
+    #[error("picture too large")]
     TooLarge,
 }
 

@@ -1,7 +1,8 @@
 //! The text of a page in each format, and of each part of its pages.
 
 ghost use Rattle.std.specs.Prelude.{◌≡◌};
-ghost use Rattle.pr_jobs.specs.Formats.{first_paper, has_rows, is_second, left_to, or_first, pdf_part, png_part, sheet_at, shown_of, svg_part, text_in};
+ghost use Rattle.pr_jobs.specs.Formats.{first_paper, has_rows, if_low, is_second, left_to, look_of, pdf_part, png_part, sheet_at, shown_of, svg_part, text_in};
+ghost use Rattle.pr_dots.specs.Sheets.{lowered};
 ghost use Rattle.pr_jobs.specs.Shown.{GivesShown};
 ghost use Rattle.pr_system.specs.Headline.{empty_paper};
 
@@ -11,8 +12,8 @@ use crate::text::Text;
 use pr_dots::{Shapes, sheets_of};
 use pr_page::{Paper, Sequence};
 use pr_pdf::{PdfFault, pdf};
-use pr_png::png;
-use pr_render::{Device, Format, drawn_of, sheet_svg, svg_blocks};
+use pr_png::{Look, PngFault, paper_png, sheet_png};
+use pr_render::{Device, Format, Layout, Part, drawn_of, sheet_svg, svg_blocks};
 use pr_serial::Present;
 use pr_system::Outcome;
 use std::alloc::Global;
@@ -71,7 +72,7 @@ fn is_second(outcome: &Outcome, drawn: Present) -> bool
     !drawn.four || (drawn.five && (is_blank && has_rows(&outcome.paper5)))
 }
 
-/// The paper of which a sheet is shown: that of the first printer with a printed row of those that the picture draws, or
+/// The paper of which a sheet or a bitmap is shown: that of the first printer with a printed row of those that the picture draws, or
 /// else of the first of them.
 fn first_paper(outcome: &Outcome, drawn: Present) -> &Paper
     ensures { result.now ≡ first_paper outcome.now drawn }
@@ -83,15 +84,15 @@ fn first_paper(outcome: &Outcome, drawn: Present) -> &Paper
     }
 }
 
-/// A sheet of a paper by its number from 1, counted from 0.
+/// A sheet of a paper by its number from 1, counted from 0. The first row is `top` lines below the upper edge of the first.
 ///
 /// # Errors
 ///
 /// [`PictureFault::NoSuchSheet`] with how many sheets there are, where the paper has none of this number.
-fn sheet_at(paper: &Paper, sheet: u64) -> Result<u64, PictureFault>
-    ensures { result ≡ sheet_at paper.now sheet }
+fn sheet_at(paper: &Paper, top: u8, sheet: u64) -> Result<u64, PictureFault>
+    ensures { result ≡ sheet_at (lowered top paper.now) sheet }
 {
-    let sheets = sheets_of(paper);
+    let sheets = sheets_of(top, paper);
     if 1 <= sheet && sheet <= sheets {
         Ok(sheet - 1)
     } else {
@@ -103,68 +104,99 @@ fn sheet_at(paper: &Paper, sheet: u64) -> Result<u64, PictureFault>
 fn svg_part(
     alloc: Global,
     shapes: &Shapes,
+    top: u8,
     sheet: Option<u64>,
     present: Present,
     outcome: Outcome,
 ) -> Result<Text, CliFault>
-    ensures { GivesShown (svg_part shapes.now sheet present outcome) result }
+    ensures { GivesShown (svg_part shapes.now top sheet present outcome) result }
 {
     let Some(sheet) = sheet else {
-        let blocks = svg_blocks(alloc, shapes, outcome, present)?;
+        let blocks = svg_blocks(alloc, shapes, top, outcome, present)?;
         return Ok(Text::from_blocks(alloc, blocks));
     };
     let paper = first_paper(&outcome, drawn_of(&outcome, present));
-    let index = sheet_at(paper, sheet)?;
-    let text = sheet_svg(alloc, shapes, paper, index)?;
+    let index = sheet_at(paper, top, sheet)?;
+    let text = sheet_svg(alloc, shapes, paper, top, index)?;
     Ok(Text::from_vec(alloc, text))
 }
 
-/// A sheet as a bitmap, and the first one where none is named.
+/// A paper as a bitmap, whose first row is `top` lines below its upper edge.
+fn whole_png(
+    alloc: Global,
+    shapes: &Shapes,
+    top: u8,
+    look: Look,
+    paper: &Paper,
+) -> Result<Text, CliFault>
+    ensures { GivesShown (if_low shapes.now look (lowered top paper.now)) result }
+{
+    match paper_png(alloc, shapes, paper, top, look) {
+        Ok(file) => Ok(Text::from_vec(alloc, file)),
+        Err(PngFault::TooLarge) => Err(CliFault::Picture(PictureFault::TooLarge)),
+        Err(PngFault::NoMemory) => Err(CliFault::NoMemory),
+    }
+}
+
+/// The paper of one printer as a bitmap, down to its last row, or one sheet of it.
 fn png_part(
     alloc: Global,
     shapes: &Shapes,
+    top: u8,
+    look: Look,
     sheet: Option<u64>,
     present: Present,
     outcome: &Outcome,
 ) -> Result<Text, CliFault>
-    ensures { GivesShown (png_part shapes.now sheet present outcome.now) result }
+    ensures { GivesShown (png_part shapes.now top look sheet present outcome.now) result }
 {
     let paper = first_paper(outcome, drawn_of(outcome, present));
-    let index = sheet_at(paper, or_first(sheet))?;
-    let file = png(alloc, shapes, paper, index)?;
+    let Some(sheet) = sheet else {
+        return whole_png(alloc, shapes, top, look, paper);
+    };
+    let index = sheet_at(paper, top, sheet)?;
+    let file = sheet_png(alloc, shapes, paper, top, look, index)?;
     Ok(Text::from_vec(alloc, file))
+}
+
+/// How a bitmap is drawn.
+fn look_of(part: Part) -> Look
+    ensures { result ≡ look_of part }
+{
+    Look {
+        scale: part.scale,
+        holes: part.layout.holes,
+    }
 }
 
 /// The sheets of the printers that the picture draws, as one document.
 fn pdf_part(
     alloc: Global,
     shapes: &Shapes,
+    layout: Layout,
     present: Present,
     outcome: &Outcome,
 ) -> Result<Text, CliFault>
-    ensures { GivesShown (pdf_part shapes.now present outcome.now) result }
+    ensures { GivesShown (pdf_part shapes.now layout present outcome.now) result }
 {
     let drawn = drawn_of(outcome, present);
-    match pdf(alloc, shapes, &outcome.paper4, &outcome.paper5, drawn) {
+    match pdf(
+        alloc,
+        shapes,
+        &outcome.paper4,
+        &outcome.paper5,
+        layout,
+        drawn,
+    ) {
         Ok(file) => Ok(Text::from_vec(alloc, file)),
         Err(PdfFault::TooLarge) => Err(CliFault::Picture(PictureFault::TooLarge)),
         Err(PdfFault::NoMemory) => Err(CliFault::NoMemory),
     }
 }
 
-/// The number of the sheet that is shown.
-fn or_first(sheet: Option<u64>) -> u64
-    ensures { result ≡ or_first sheet }
-{
-    match sheet {
-        None => 1,
-        Some(sheet) => sheet,
-    }
-}
-
 /// The text of an outcome in a format. Lines and pictures show the sheets of the printers that are present, or of the one
-/// that the format names. A sheet is one of the named printer, or else of the first that has printed a row, or else of the
-/// first that holds marks, or else of the first that is present. Pictures draw characters in these shapes.
+/// that the format names. A bitmap or a sheet is one of the named printer, or else of the first that has printed a row, or else
+/// of the first that holds marks, or else of the first that is present. Pictures draw characters in these shapes.
 ///
 /// # Errors
 ///
@@ -181,8 +213,8 @@ pub fn text_in_format(
 {
     match format {
         Format::List => Ok(text_from(alloc, outcome)?),
-        Format::Lines => {
-            let text = pr_render::text(alloc, &outcome, present)?;
+        Format::Lines(look) => {
+            let text = pr_render::text(alloc, look, &outcome, present)?;
             Ok(Text::from_vec(alloc, text))
         }
         Format::Svg(part) => {
@@ -190,6 +222,7 @@ pub fn text_in_format(
             svg_part(
                 alloc,
                 shapes,
+                part.layout.top,
                 part.sheet,
                 shown_of(part.device, present),
                 shown,
@@ -200,14 +233,16 @@ pub fn text_in_format(
             png_part(
                 alloc,
                 shapes,
+                part.layout.top,
+                look_of(part),
                 part.sheet,
                 shown_of(part.device, present),
                 &shown,
             )
         }
-        Format::Pdf(device) => {
+        Format::Pdf(device, layout) => {
             let shown = left_to(alloc, device, outcome);
-            pdf_part(alloc, shapes, shown_of(device, present), &shown)
+            pdf_part(alloc, shapes, layout, shown_of(device, present), &shown)
         }
     }
 }

@@ -76,7 +76,7 @@ fn outcome_of(alloc: Global, script: Vec<u8>, start: Start) -> Result<Outcome, C
 /// - [`CliFault::TooLarge`]: only if the input has more than [`SCRIPT_LIMIT`] bytes.
 /// - [`CliFault::ReadFailed`] exactly if the input has failed, [`CliFault::WriteFailed`] exactly
 ///   if the output has; after the latter a beginning of the text has been written.
-/// - [`CliFault::Picture`]: the pages have no such sheet, or their document is too large; of pictures alone.
+/// - [`CliFault::Picture`]: the pages have no such sheet, or their bitmap or document is too large; of pictures alone.
 /// - [`CliFault::NoMemory`]: memory was refused; never reported as a script's fault.
 ///
 /// After every error but `WriteFailed` nothing has been written.

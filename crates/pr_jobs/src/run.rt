@@ -1,14 +1,13 @@
 //! How a run begins, and how it ends.
 
 ghost use Rattle.std.specs.Prelude.{◌≡◌, length, nat_lt};
-ghost use Rattle.pr_jobs.specs.Runs.{ending_at, held_marks, pages_end, paper_end, printed_sheets, run_end};
+ghost use Rattle.pr_jobs.specs.Runs.{ending_at, held_marks, pages_end, paper_end, run_end};
 ghost use Rattle.pr_render.specs.Svg.{all_zero};
 
 use crate::format::has_rows;
 use pr_basic::StatusMode;
 use pr_bus::Delays;
 use pr_channels::Stop;
-use pr_dots::sheets_of;
 use pr_page::{Mark, Paper, Placed};
 use pr_serial::Present;
 use pr_system::Outcome;
@@ -98,18 +97,11 @@ impl HeldMarks {
     }
 }
 
-/// How many sheets of 11 inches a paper with a printed row has; without one, none.
-fn printed_sheets(paper: &Paper) -> u64
-    ensures { result ≡ printed_sheets paper.now }
-{
-    if has_rows(paper) { sheets_of(paper) } else { 0 }
-}
-
 /// What a printer has printed, and what it holds that was not printed.
 #[derive(Clone, Copy, Debug, PartialEq, Eq)]
 pub struct PaperEnd {
-    /// How many sheets of 11 inches it has printed on: 0 where there is no printed row.
-    pub sheets: u64,
+    /// It has printed a row.
+    pub is_printed: bool,
     /// What it holds.
     pub held: HeldMarks,
 }
@@ -120,7 +112,7 @@ impl PaperEnd {
         ensures { result ≡ paper_end paper.now }
     {
         PaperEnd {
-            sheets: printed_sheets(paper),
+            is_printed: has_rows(paper),
             held: HeldMarks::of(paper.held.as_slice()),
         }
     }

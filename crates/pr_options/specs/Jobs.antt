@@ -1,5 +1,5 @@
 -- Trusted: the job that a command line asks for, with clap's reading of the words.
-use Rattle.std.specs.Prelude.{◌≡◌, ◌≢◌, ◌||◌, ⊤, ℕ, Bool, true, false, List, Option, Some, None, Result, Ok, Err, [], codes, is_none, is_some, ok_or, option_map, unwrap_or, if◌then◌else◌}
+use Rattle.std.specs.Prelude.{◌≡◌, ◌≢◌, ◌&&◌, ◌||◌, ⊤, ℕ, Bool, true, false, List, Option, Some, None, Result, Ok, Err, [], codes, is_none, is_some, not, ok_or, option_map, unwrap_or, if◌then◌else◌}
 use Rattle.std.specs.Str.{bytes_eq}
 use Rattle.clap.specs.Words.{IsAmong, Row, Text, fault_of, kind_of, subcommand_of, takes}
 use Rattle.clap.specs.declared.error.kind.ErrorKind.TheVariants.{OutOfMemory}
@@ -12,7 +12,10 @@ use Rattle.pr_listing.specs.declared.form.ListingForm.{ListingForm}
 use Rattle.pr_render.specs.Showing.{showing}
 use Rattle.pr_render.specs.declared.format.Format.{Format}
 use Rattle.pr_render.specs.declared.format.Format.TheVariants as format
+use Rattle.pr_render.specs.declared.format.Layout.{Layout}
 use Rattle.pr_render.specs.declared.format.Part.{Part}
+use Rattle.pr_render.specs.declared.format.Size.{Size}
+use Rattle.pr_render.specs.declared.format.Size.TheVariants.{Continuous, A4, Letter}
 use Rattle.pr_render.specs.declared.format.Device.{Device}
 use Rattle.pr_render.specs.declared.format.Device.TheVariants.{Four}
 use Rattle.pr_capture.specs.declared.format.TraceFormat.{TraceFormat}
@@ -26,7 +29,7 @@ use Rattle.pr_options.specs.Rows as option
 use Rattle.pr_options.specs.CommandLine.{print1525}
 use Rattle.pr_options.specs.DelayLists.{delays_of}
 use Rattle.pr_options.specs.Given.{characters_in, file_in, is_given, value_in}
-use Rattle.pr_options.specs.Options.{before_of, bounds_of, decode_output_of, device_of, form_of, format_of, found_source_of, from_time_of, glitch_of, inverted_of, listening_of, mode_of, pages_output_of, present_of, rate_of, report_of, set_of, sheet_of, threshold_of, trace_format_of, unhearing}
+use Rattle.pr_options.specs.Options.{before_of, bounds_of, decode_output_of, device_of, form_of, format_of, found_source_of, from_time_of, glitch_of, inverted_of, listening_of, mode_of, pages_output_of, paper_of, present_of, rate_of, report_of, scale_of, set_of, sheet_of, threshold_of, top_of, trace_format_of, unhearing}
 use Rattle.pr_options.specs.SignalNames.{Names, names_of, names_of_signals}
 use Rattle.pr_options.specs.Values.{bad}
 use Rattle.pr_options.specs.declared.command_line.Job.{Job}
@@ -168,37 +171,73 @@ wanted_input source rows =
       rate = rate;
     })
 
--- what of the pages is shown
+-- continuous paper, which alone has holes
+abbrev pub is_continuous : Size → Bool
+is_continuous Continuous = true
+is_continuous A4 = false
+is_continuous Letter = false
+
+-- how the pages lie on their paper: holes go with continuous paper alone
+abbrev pub wanted_layout : List Row → Result Layout JobFault
+wanted_layout rows =
+    read opt.Top top_of rows >>= λ top.
+    read opt.Paper paper_of rows >>= λ size.
+    if is_given opt.Holes rows && not (is_continuous size) then Err fault.NoStrips
+    else Ok (record { top = top; size = size; holes = is_given opt.Holes rows })
+
+-- what of the pages is shown, and how they lie on their paper
 abbrev pub wanted_part : List Row → Result Part JobFault
 wanted_part rows =
     read_if_given opt.Device device_of rows >>= λ device.
     read_if_given opt.Sheet sheet_of rows >>= λ sheet.
-    Ok (record { device = device; sheet = sheet })
+    read opt.Scale scale_of rows >>= λ scale.
+    wanted_layout rows >>= λ layout.
+    Ok (record { device = device; sheet = sheet; layout = layout; scale = scale })
 
 -- pages in this format are drawn
 abbrev pub is_picture : Format → Bool
 is_picture format.List = false
-is_picture format.Lines = false
+is_picture (format.Lines look) = false
 is_picture (format.Svg part) = true
 is_picture (format.Png part) = true
-is_picture (format.Pdf device) = true
+is_picture (format.Pdf device layout) = true
 
--- a format, where it draws characters or no file of them is named
+-- an option of paper or pixels is given
+abbrev pub wants_paper : List Row → Bool
+wants_paper rows = is_given opt.Scale rows || (is_given opt.Paper rows || is_given opt.Holes rows)
+
+-- such an option is given that pages in this format have not: bitmaps have holes and pixels, documents paper and holes
+abbrev pub wants_more : Format → List Row → Bool
+wants_more format.List rows = wants_paper rows
+wants_more (format.Lines look) rows = wants_paper rows
+wants_more (format.Svg part) rows = wants_paper rows
+wants_more (format.Png part) rows = is_given opt.Paper rows
+wants_more (format.Pdf device layout) rows = is_given opt.Scale rows
+
+-- a format, where no such option is given
+abbrev pub printed : Format → List Row → Result Format JobFault
+printed format rows = if wants_more format rows then Err fault.NoPaper else Ok format
+
+-- an option is given that only pictures can have
+abbrev pub wants_picture : List Row → Bool
+wants_picture rows = is_some (characters_in rows) || is_given opt.Top rows
+
+-- a format, where it is a picture or no option of pictures is given
 abbrev pub drawn : Format → List Row → Result Format JobFault
-drawn format rows =
-    if is_picture format || is_none (characters_in rows) then Ok format else Err fault.NoPicture
+drawn format rows = if is_picture format || not (wants_picture rows) then printed format rows else Err fault.NoPicture
 
 -- a format that shows that part, with the characters of a file that is named
 abbrev pub shown : Format → List Row → Result Format JobFault
 shown format rows =
     wanted_part rows >>= λ part. ok_or (showing format part) fault.NoPart >>= λ shown. drawn shown rows
 
--- the printer whose bytes are written, 4 if none is named: bytes have no sheets and draw no characters
+-- the printer whose bytes are written, 4 if none is named: bytes have no sheets and are no picture
 abbrev pub heard : List Row → Result Device JobFault
 heard rows =
     wanted_part rows >>= λ part.
     if is_some part.sheet then Err fault.NoPart
-    else (if is_some (characters_in rows) then Err fault.NoPicture else Ok (unwrap_or part.device Four))
+    else (if wants_picture rows then Err fault.NoPicture
+    else (if wants_paper rows then Err fault.NoPaper else Ok (unwrap_or part.device Four)))
 
 -- what of the intervals of readings is written: readings are no pictures, so they show no part and draw no characters
 abbrev pub wanted_detail : List Row → Result Detail JobFault

@@ -14,13 +14,18 @@ use Rattle.pr_capture.specs.declared.volts.Volts.{Volts}
 use Rattle.pr_serial.specs.declared.Present.{Present}
 use Rattle.pr_basic.specs.declared.session.StatusMode.{StatusMode}
 use Rattle.pr_basic.specs.declared.session.StatusMode.TheVariants.{Each, Kept}
+use Rattle.pr_dots.specs.declared.scale.Scale.{Scale}
+use Rattle.pr_dots.specs.declared.scale.Scale.TheVariants as scale
 use Rattle.pr_listing.specs.declared.form.ListingForm.{ListingForm}
 use Rattle.pr_listing.specs.declared.form.ListingForm.TheVariants as form
 use Rattle.pr_render.specs.declared.format.Format.{Format}
 use Rattle.pr_render.specs.declared.format.Format.TheVariants as format
-use Rattle.pr_render.specs.Showing.{whole}
+use Rattle.pr_render.specs.Showing.{usual, whole}
 use Rattle.pr_render.specs.declared.format.Device.{Device}
 use Rattle.pr_render.specs.declared.format.Device.TheVariants as device
+use Rattle.pr_render.specs.declared.format.Look.TheVariants.{Blocks}
+use Rattle.pr_render.specs.declared.format.Size.{Size}
+use Rattle.pr_render.specs.declared.format.Size.TheVariants as size
 use Rattle.pr_capture.specs.declared.format.TraceFormat.{TraceFormat}
 use Rattle.pr_capture.specs.declared.format.TraceFormat.TheVariants as trace
 use Rattle.pr_capture.specs.declared.format.Source.{Source}
@@ -63,8 +68,8 @@ set_of = meaning_of ((codes "upper", false) ∷ (codes "lower", true) ∷ [])
 
 -- the format of a page: list, text, svg, png or pdf
 abbrev pub format_of : Text → Option Format
-format_of = meaning_of ((codes "list", format.List) ∷ (codes "text", format.Lines)
-    ∷ (codes "svg", format.Svg whole) ∷ (codes "png", format.Png whole) ∷ (codes "pdf", format.Pdf None) ∷ [])
+format_of = meaning_of ((codes "list", format.List) ∷ (codes "text", format.Lines Blocks)
+    ∷ (codes "svg", format.Svg whole) ∷ (codes "png", format.Png whole) ∷ (codes "pdf", format.Pdf None usual) ∷ [])
 
 -- the output of `pages`: a format of its pages, or bytes, printer 4's if no option says more
 abbrev pub pages_output_of : Text → Option PagesOutput
@@ -200,3 +205,20 @@ sheet_numbered n = if n == 0 then None else Some n
 -- the sheet that is drawn: decimal digits that spell a number from 1, below 2^64
 abbrev pub sheet_of : Text → Option ℕ
 sheet_of text = option_and_then sheet_numbered (start_of text)
+
+-- these lines, if a sheet of 66 lines has more
+abbrev pub top_numbered : ℕ → Option ℕ
+top_numbered n = if nat_lt n 66 then Some n else None
+
+-- how many lines the first row is below the upper edge of the paper: decimal digits that spell a number below 66
+abbrev pub top_of : Text → Option ℕ
+top_of text = option_and_then top_numbered (start_of text)
+
+-- how many pixels a bitmap has for the place of a dot: 1 to 8
+abbrev pub scale_of : Text → Option Scale
+scale_of = meaning_of ((codes "1", scale.One) ∷ (codes "2", scale.Two) ∷ (codes "3", scale.Three) ∷ (codes "4", scale.Four)
+    ∷ (codes "5", scale.Five) ∷ (codes "6", scale.Six) ∷ (codes "7", scale.Seven) ∷ (codes "8", scale.Eight) ∷ [])
+
+-- the paper of a document: continuous, a4 or letter
+abbrev pub paper_of : Text → Option Size
+paper_of = meaning_of ((codes "continuous", size.Continuous) ∷ (codes "a4", size.A4) ∷ (codes "letter", size.Letter) ∷ [])

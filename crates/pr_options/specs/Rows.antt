@@ -8,7 +8,7 @@ use Rattle.pr_options.specs.declared.options.Opt.{Opt}
 use Rattle.pr_options.specs.declared.options.Opt.TheVariants as opt
 use Rattle.pr_options.specs.declared.options.Subcommand.{Subcommand}
 use Rattle.pr_options.specs.declared.options.Subcommand.TheVariants.{Pages, Bus, Check, Decode, Raw}
-use Rattle.pr_options.specs.declared.options.TheConstants.{BOUNDS_HELP, BOUNDS_VALUES, CHARACTERS_HELP, DELAYS_HELP, DELAYS_VALUES, DEVICE_HELP, DEVICE_VALUES, EXPLAIN_HELP, FROM_HELP, FROM_TIME_HELP, FROM_TIME_VALUES, FROM_VALUES, GLITCH_HELP, GLITCH_VALUES, INTERVALS_HELP, INVERT_HELP, INVERT_VALUES, LISTENING_HELP, LISTENING_VALUES, LISTING_FROM_HELP, LISTING_FROM_VALUES, NAMES_HELP, NAMES_VALUES, PAGE_AS_HELP, PAGE_AS_VALUES, PRESENT_HELP, PRESENT_VALUES, QUIET_HELP, RATE_HELP, RATE_VALUES, RAW_AS_HELP, RAW_AS_VALUES, RAW_DEVICE_HELP, READING_AS_HELP, READING_AS_VALUES, READING_FROM_HELP, REPORT_AS_HELP, REPORT_AS_VALUES, SET_HELP, SET_VALUES, SHEET_HELP, SHEET_VALUES, STATUS_HELP, STATUS_VALUES, STRICT_HELP, THRESHOLD_HELP, THRESHOLD_VALUES, TRACE_AS_HELP, TRACE_AS_VALUES}
+use Rattle.pr_options.specs.declared.options.TheConstants.{BOUNDS_HELP, BOUNDS_VALUES, CHARACTERS_HELP, DELAYS_HELP, DELAYS_VALUES, DEVICE_HELP, DEVICE_VALUES, EXPLAIN_HELP, FROM_HELP, FROM_TIME_HELP, FROM_TIME_VALUES, FROM_VALUES, GLITCH_HELP, GLITCH_VALUES, HOLES_HELP, INTERVALS_HELP, INVERT_HELP, INVERT_VALUES, LISTENING_HELP, LISTENING_VALUES, LISTING_FROM_HELP, LISTING_FROM_VALUES, NAMES_HELP, NAMES_VALUES, PAGE_AS_HELP, PAGE_AS_VALUES, PAPER_HELP, PAPER_VALUES, PRESENT_HELP, PRESENT_VALUES, QUIET_HELP, RATE_HELP, RATE_VALUES, RAW_AS_HELP, RAW_AS_VALUES, RAW_DEVICE_HELP, READING_AS_HELP, READING_AS_VALUES, READING_FROM_HELP, REPORT_AS_HELP, REPORT_AS_VALUES, SCALE_HELP, SCALE_VALUES, SET_HELP, SET_VALUES, SHEET_HELP, SHEET_VALUES, STATUS_HELP, STATUS_VALUES, STRICT_HELP, THRESHOLD_HELP, THRESHOLD_VALUES, TOP_HELP, TOP_VALUES, TRACE_AS_HELP, TRACE_AS_VALUES}
 
 -- an option: what follows its name (a value, lines of the bus, nothing, or a file's name); its name; the value where nothing else gives
 -- one; the values that the endings of a file's name give, where the argument `file` names one; and its values, in a few
@@ -130,6 +130,10 @@ row opt.Quiet = no_value Flag (codes "quiet") QUIET_HELP.now
 row opt.Device = plain (codes "device") [] DEVICE_VALUES.now DEVICE_HELP.now
 row opt.RawDevice = plain (codes "device") [] DEVICE_VALUES.now RAW_DEVICE_HELP.now
 row opt.Sheet = plain (codes "sheet") [] SHEET_VALUES.now SHEET_HELP.now
+row opt.Scale = plain (codes "scale") (codes "2") SCALE_VALUES.now SCALE_HELP.now
+row opt.Top = plain (codes "top") (codes "3") TOP_VALUES.now TOP_HELP.now
+row opt.Paper = plain (codes "paper") (codes "continuous") PAPER_VALUES.now PAPER_HELP.now
+row opt.Holes = no_value Flag (codes "holes") HOLES_HELP.now
 row opt.Characters = no_value File (codes "characters") CHARACTERS_HELP.now
 row opt.Intervals = no_value Flag (codes "intervals") INTERVALS_HELP.now
 row opt.Bounds = plain (codes "bounds") (codes "profile") BOUNDS_VALUES.now BOUNDS_HELP.now
@@ -165,12 +169,12 @@ command_name Raw = codes "raw"
 -- those of `--present`, `--delays` and `--status`
 abbrev pub options_of : Subcommand → List Opt
 options_of Pages = opt.ListingFrom ∷ opt.Present ∷ opt.Delays ∷ opt.Status ∷ opt.PageAs ∷ opt.Explain ∷ opt.Quiet
-    ∷ opt.Device ∷ opt.Sheet ∷ opt.Characters ∷ []
+    ∷ opt.Device ∷ opt.Sheet ∷ opt.Scale ∷ opt.Top ∷ opt.Paper ∷ opt.Holes ∷ opt.Characters ∷ []
 options_of Bus = opt.ListingFrom ∷ opt.Present ∷ opt.Delays ∷ opt.Status ∷ opt.TraceAs ∷ opt.Explain
     ∷ opt.Quiet ∷ []
 options_of Check = opt.From ∷ opt.Names ∷ opt.Invert ∷ opt.FromTime ∷ opt.Glitch ∷ opt.Rate ∷ opt.Threshold ∷ opt.ReportAs
     ∷ opt.Explain ∷ opt.Quiet ∷ []
 options_of Decode = opt.ReadingFrom ∷ opt.Names ∷ opt.Invert ∷ opt.FromTime ∷ opt.Glitch ∷ opt.Rate ∷ opt.Threshold ∷ opt.ReadingAs
-    ∷ opt.Explain ∷ opt.Quiet ∷ opt.Device ∷ opt.Sheet ∷ opt.Characters ∷ opt.Intervals ∷ opt.Bounds
+    ∷ opt.Explain ∷ opt.Quiet ∷ opt.Device ∷ opt.Sheet ∷ opt.Scale ∷ opt.Top ∷ opt.Paper ∷ opt.Holes ∷ opt.Characters ∷ opt.Intervals ∷ opt.Bounds
     ∷ opt.Listening ∷ opt.Set ∷ opt.Strict ∷ []
-options_of Raw = opt.Set ∷ opt.RawAs ∷ opt.Explain ∷ opt.Quiet ∷ opt.RawDevice ∷ opt.Sheet ∷ opt.Characters ∷ []
+options_of Raw = opt.Set ∷ opt.RawAs ∷ opt.Explain ∷ opt.Quiet ∷ opt.RawDevice ∷ opt.Sheet ∷ opt.Scale ∷ opt.Top ∷ opt.Paper ∷ opt.Holes ∷ opt.Characters ∷ []

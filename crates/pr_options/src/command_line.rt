@@ -115,9 +115,16 @@ pub enum JobFault {
     /// `--device` is given where no picture and no bytes are written, or `--sheet` where no picture of a sheet is.
     #[error("--device goes with --as svg, png, pdf or bytes, --sheet with svg or png")]
     NoPart,
-    /// `--characters` is given where no picture is written.
-    #[error("--characters goes with --as svg, png or pdf")]
+    /// `--characters` or `--top` is given where no picture is written.
+    #[error("--characters and --top go with --as svg, png or pdf")]
     NoPicture,
+    /// `--paper` is given where no document is written, `--holes` where neither a bitmap nor a document is, or `--scale` where no
+    /// bitmap is.
+    #[error("--paper goes with --as pdf, --holes with png or pdf, --scale with png")]
+    NoPaper,
+    /// `--holes` is given with paper that has none.
+    #[error("--holes goes with --paper continuous")]
+    NoStrips,
     /// `--intervals` or `--bounds` is given where no list of readings is written.
     #[error("--intervals and --bounds go with --as list")]
     NoReadings,
@@ -211,7 +218,8 @@ impl From<DelayFault> for JobFault {
 /// only for words that clap takes, and report the first bad value: of [`JobFault::BadPresent`],
 /// [`JobFault::BadDelays`], [`JobFault::BadStatus`] and then of [`JobFault::Bad`], in the order of [`Opt`]. What does
 /// not go together comes after the values that it is judged by: [`JobFault::NoRecording`] and [`JobFault::NoTable`]
-/// after [`Opt::Threshold`], [`JobFault::NoPart`] and [`JobFault::NoPicture`] after [`Opt::Sheet`],
+/// after [`Opt::Threshold`], [`JobFault::NoStrips`], [`JobFault::NoPart`], [`JobFault::NoPicture`] and [`JobFault::NoPaper`]
+/// after [`Opt::Paper`],
 /// [`JobFault::NoReadings`] after [`Opt::Bounds`], and [`JobFault::NoPages`] or [`JobFault::NoListener`] at last.
 pub fn read_task<'a>(alloc: Global, words: &'a [&'a str]) -> Result<Task<'a>, JobFault>
     ensures ok { IfOk result (λ task. asked (map (λ s. s.now) words.entry.now) ≡ Some (Ok (task_view task))) }

@@ -56,12 +56,13 @@ read so, and any other by what its first bytes show.
 
 Output: the marks on the paper of printers 4 and 5, the status of each
 statement, the bytes on the screen, and the BASIC error that stopped the run.
-A file named *.svg, *.png, *.pdf or *.txt is written so without --as. --device
-and --characters go with svg, png and pdf, --sheet with svg and png; a sheet
-past the end is refused. A file of characters has 256 of them: a line such as
-`upper 65`, then seven lines of six signs, # for a dot and . for none; first
-upper 32 to 95 and 160 to 223, then the same of lower. With --as bytes the
-bytes that printer 4 hears are written, or those of --device, for `raw`.
+A file named *.svg, *.png, *.pdf or *.txt is written so without --as. --device,
+--top and --characters go with svg, png and pdf, --sheet with svg and png,
+--holes with png and pdf, --scale with png, --paper with pdf; a sheet past the
+end is refused. A file of characters has 256 of them: a line such as `upper 65`,
+then seven lines of six signs, # for a dot and . for none; first upper 32 to 95
+and 160 to 223, then the same of lower. With --as bytes the bytes that printer 4
+hears are written, or those of --device, for `raw`.
 
 Exit status: 0 done, 1 stopped by a BASIC error, 2 refused, 3 memory ran out
 or a file cannot be opened, read or written.

@@ -2,7 +2,7 @@
 
 ghost use Rattle.std.specs.Prelude.{[], false, option_map, ◌∷◌, ◌≡◌, IfSome};
 ghost use Rattle.pr_capture.specs.Recording.{alike};
-ghost use Rattle.pr_options.specs.Options.{before_of, bounds_of, decode_output_of, device_of, form_of, format_of, found_source_of, from_time_of, glitch_of, inverted_of, listening_of, mode_of, moment_of, pages_output_of, present_of, rate_of, report_of, scaled, set_of, sheet_numbered, sheet_of, source_of, start_of, threshold_between, threshold_in, threshold_of, trace_format_of, with_line};
+ghost use Rattle.pr_options.specs.Options.{before_of, bounds_of, decode_output_of, device_of, form_of, format_of, found_source_of, from_time_of, glitch_of, inverted_of, listening_of, mode_of, moment_of, pages_output_of, paper_of, present_of, rate_of, report_of, scale_of, scaled, set_of, sheet_numbered, sheet_of, source_of, start_of, threshold_between, threshold_in, threshold_of, top_numbered, top_of, trace_format_of, with_line};
 ghost use Rattle.std.specs.Int.{div_ceil};
 ghost use Rattle.pr_options.specs.SignalNames.{are_names, differ, is_clock_twice, is_name, names_of, names_of_signals, three_names};
 
@@ -10,8 +10,9 @@ use crate::outputs::{CheckOutput, DecodeOutput, Hearing, PagesOutput};
 use crate::parts::{all_digits, cut};
 use pr_basic::StatusMode;
 use pr_capture::{Probes, Signals, Source, Threshold, TraceFormat, Volts, read_rate, read_volts};
+use pr_dots::Scale;
 use pr_listing::ListingForm;
-use pr_render::{Device, Format, Part};
+use pr_render::{Device, Format, Layout, Look, Part, Size};
 use pr_report::{Bounds, Detail, Report};
 use pr_serial::Present;
 
@@ -74,10 +75,10 @@ pub fn read_format(text: &str) -> Option<Format>
 {
     match text {
         "list" => Some(Format::List),
-        "text" => Some(Format::Lines),
+        "text" => Some(Format::Lines(Look::Blocks)),
         "svg" => Some(Format::Svg(Part::whole())),
         "png" => Some(Format::Png(Part::whole())),
-        "pdf" => Some(Format::Pdf(None)),
+        "pdf" => Some(Format::Pdf(None, Layout::usual())),
         _ => None,
     }
 }
@@ -274,6 +275,53 @@ fn sheet_numbered(n: u64) -> Option<u64>
     ensures { result ≡ sheet_numbered n }
 {
     if n == 0 { None } else { Some(n) }
+}
+
+/// How many lines of 1/6 inch the first row is below the upper edge of the paper: decimal digits that spell a number up to
+/// 65, the last line of a sheet (profile). None for any other text.
+pub fn read_top(text: &str) -> Option<u8>
+    ensures { result ≡ top_of text.now }
+{
+    match read_start(text) {
+        Some(n) => top_numbered(n),
+        None => None,
+    }
+}
+
+/// The paper of a document: `continuous`, `a4` or `letter` (profile). None for any other text.
+pub fn read_paper(text: &str) -> Option<Size>
+    ensures { result ≡ paper_of text.now }
+{
+    match text {
+        "continuous" => Some(Size::Continuous),
+        "a4" => Some(Size::A4),
+        "letter" => Some(Size::Letter),
+        _ => None,
+    }
+}
+
+/// How many pixels a bitmap has for the place of a dot, across and down: `1` to `8` (profile). None for any other text.
+pub fn read_scale(text: &str) -> Option<Scale>
+    ensures { result ≡ scale_of text.now }
+{
+    match text {
+        "1" => Some(Scale::One),
+        "2" => Some(Scale::Two),
+        "3" => Some(Scale::Three),
+        "4" => Some(Scale::Four),
+        "5" => Some(Scale::Five),
+        "6" => Some(Scale::Six),
+        "7" => Some(Scale::Seven),
+        "8" => Some(Scale::Eight),
+        _ => None,
+    }
+}
+
+/// These lines, if a sheet has more.
+fn top_numbered(n: u64) -> Option<u8>
+    ensures { result ≡ top_numbered n }
+{
+    if n < 66 { Some(n as u8) } else { None }
 }
 
 /// The format of a run's trace: `text` or `vcd` (profile). None for any other text.

@@ -62,6 +62,10 @@ impl Subcommand {
                 Opt::Quiet,
                 Opt::Device,
                 Opt::Sheet,
+                Opt::Scale,
+                Opt::Top,
+                Opt::Paper,
+                Opt::Holes,
                 Opt::Characters,
             ],
             Subcommand::Bus => &[
@@ -98,6 +102,10 @@ impl Subcommand {
                 Opt::Quiet,
                 Opt::Device,
                 Opt::Sheet,
+                Opt::Scale,
+                Opt::Top,
+                Opt::Paper,
+                Opt::Holes,
                 Opt::Characters,
                 Opt::Intervals,
                 Opt::Bounds,
@@ -112,6 +120,10 @@ impl Subcommand {
                 Opt::Quiet,
                 Opt::RawDevice,
                 Opt::Sheet,
+                Opt::Scale,
+                Opt::Top,
+                Opt::Paper,
+                Opt::Holes,
                 Opt::Characters,
             ],
         }
@@ -168,6 +180,14 @@ pub enum Opt {
     RawDevice,
     /// The sheet that a picture shows.
     Sheet,
+    /// The pixels of a bitmap for the place of a dot.
+    Scale,
+    /// The lines above the first row of a picture's paper.
+    Top,
+    /// The paper of a document.
+    Paper,
+    /// A flag: a bitmap or a document shows the holes of continuous paper.
+    Holes,
     /// The file of the shapes of the characters that a picture draws.
     Characters,
     /// A flag: each byte's intervals outside the bounds are written.
@@ -455,15 +475,15 @@ const THRESHOLD_HELP: &str = "The volts from which on a line is 1 in a table of\
 const THRESHOLD_VALUES: &str = "volts, as in 1.5 or 0.8,2, or none";
 
 const PAGE_AS_HELP: &str = "list (every mark with its place), text (lines for\n\
-     a terminal), svg (a picture), png (a sheet as a\n\
-     bitmap), pdf (sheets to print) or bytes (what a\n\
-     printer hears, for raw)";
+     a terminal), svg (a picture), png (a bitmap), pdf\n\
+     (sheets to print) or bytes (what a printer hears,\n\
+     for raw)";
 
 const PAGE_AS_VALUES: &str = "list, text, svg, png, pdf or bytes";
 
 const RAW_AS_HELP: &str = "list (every mark with its place), text (lines for\n\
-     a terminal), svg (a picture), png (a sheet as a\n\
-     bitmap) or pdf (sheets to print)";
+     a terminal), svg (a picture), png (a bitmap) or\n\
+     pdf (sheets to print)";
 
 const RAW_AS_VALUES: &str = "list, text, svg, png or pdf";
 
@@ -500,9 +520,28 @@ const RAW_DEVICE_HELP: &str = "4 or 5: the printer that svg, png and pdf draw\n\
      [default: all, or the first with a page for png]";
 
 const SHEET_HELP: &str = "The sheet of 11 inches that svg and png draw,\n\
-     from 1 [default: all, or sheet 1]";
+     from 1 [default: all]";
 
 const SHEET_VALUES: &str = "a whole number from 1";
+
+const SCALE_HELP: &str = "The pixels of png for the place of a dot, across\n\
+     and down, 1 to 8";
+
+const SCALE_VALUES: &str = "a whole number from 1 to 8";
+
+const TOP_HELP: &str = "The lines of 1/6 inch from the paper's upper edge\n\
+     to the first row of svg, png and pdf";
+
+const TOP_VALUES: &str = "a whole number from 0 to 65";
+
+const PAPER_HELP: &str = "The paper of pdf: continuous (9.5 by 11 inches),\n\
+     a4 (a sheet in true size in its middle) or\n\
+     letter (the same at 95 %)";
+
+const PAPER_VALUES: &str = "continuous, a4 or letter";
+
+const HOLES_HELP: &str = "Draws the holes and perforations of continuous\n\
+     paper in png and pdf";
 
 const CHARACTERS_HELP: &str = "A file with the shapes of characters that svg,\n\
      png and pdf draw\n\
@@ -644,6 +683,10 @@ impl Opt {
             Opt::Device => valued("device", "PRINTER", "", DEVICE_VALUES, DEVICE_HELP),
             Opt::RawDevice => valued("device", "PRINTER", "", DEVICE_VALUES, RAW_DEVICE_HELP),
             Opt::Sheet => valued("sheet", "NUMBER", "", SHEET_VALUES, SHEET_HELP),
+            Opt::Scale => valued("scale", "NUMBER", "2", SCALE_VALUES, SCALE_HELP),
+            Opt::Top => valued("top", "LINES", "3", TOP_VALUES, TOP_HELP),
+            Opt::Paper => valued("paper", "PAPER", "continuous", PAPER_VALUES, PAPER_HELP),
+            Opt::Holes => bare(Kind::Flag, "holes", "", HOLES_HELP),
             Opt::Characters => bare(Kind::File, "characters", "FILE", CHARACTERS_HELP),
             Opt::Intervals => bare(Kind::Flag, "intervals", "", INTERVALS_HELP),
             Opt::Bounds => valued("bounds", "BOUNDS", "profile", BOUNDS_VALUES, BOUNDS_HELP),

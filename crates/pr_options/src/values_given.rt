@@ -4,22 +4,24 @@ ghost use Rattle.std.specs.Prelude.{◌≡◌, IfErr, find, option_map, unwrap_o
 ghost use Rattle.std.specs.Str.{str_eq_ignore_ascii_case};
 ghost use Rattle.clap.specs.Words.{first_of, found_of, rows_of};
 ghost use Rattle.pr_options.specs.Given.{characters_in, ending_value, file_in, has_ending, is_given, is_named, is_of_words, named, value_by_ending, value_by_name, value_in};
-ghost use Rattle.pr_options.specs.Jobs.{decode_output, drawn, fitting, heard, hearing, is_picture, pages_output, read, read_if_given, shown, unless_found, unmeasured, unprinted, wanted_detail, wanted_hearing, wanted_part, wants_printers, wants_readings, wants_recording, wants_table};
-ghost use Rattle.pr_options.specs.Options.{bounds_of, device_of, listening_of, sheet_of};
+ghost use Rattle.pr_options.specs.Jobs.{decode_output, drawn, fitting, heard, hearing, is_continuous, is_picture, pages_output, printed, read, read_if_given, shown, unless_found, unmeasured, unprinted, wanted_detail, wanted_hearing, wanted_layout, wanted_part, wants_more, wants_paper, wants_picture, wants_printers, wants_readings, wants_recording, wants_table};
+ghost use Rattle.pr_options.specs.Options.{bounds_of, device_of, listening_of, paper_of, scale_of, sheet_of, top_of};
 ghost use Rattle.pr_options.specs.SignalNames.{names_of};
 ghost use Rattle.pr_options.specs.Steps.{IsOwn, signals_result};
 ghost use Rattle.pr_options.specs.Subcommands.{endings_view, row_view};
 
 use crate::command_line::JobFault;
 use crate::option_values::{
-    UNHEARING, read_bounds, read_device, read_listening, read_sheet, read_signals,
+    UNHEARING, read_bounds, read_device, read_listening, read_paper, read_scale, read_sheet,
+    read_signals, read_top,
 };
 use crate::options::{Ending, FileArgument, Opt, OptionRow};
 use crate::outputs::{DecodeOutput, Hearing, PagesOutput};
 use clap::ArgMatches;
 use clap::parser::ValueSource;
 use pr_capture::{Signals, Source};
-use pr_render::{Device, Format, Part};
+use pr_dots::Scale;
+use pr_render::{Device, Format, Layout, Part, Size};
 use pr_report::{Bounds, Detail};
 use pr_serial::Present;
 
@@ -62,7 +64,7 @@ pub fn pages_output_in(
     }
 }
 
-/// The printer whose bytes are written. Bytes have no sheets and draw no characters.
+/// The printer whose bytes are written. Bytes have no sheets and are no picture.
 fn heard_in(options: &ArgMatches<'_>) -> Result<Device, JobFault>
     ensures value { result ≡ heard (rows_of (found_of options.now)) }
     ensures own { IfErr result IsOwn }
@@ -71,8 +73,11 @@ fn heard_in(options: &ArgMatches<'_>) -> Result<Device, JobFault>
     if part.sheet.is_some() {
         return Err(JobFault::NoPart);
     }
-    if characters_in(options).is_some() {
+    if wants_picture(options) {
         return Err(JobFault::NoPicture);
+    }
+    if wants_paper(options) {
+        return Err(JobFault::NoPaper);
     }
     Ok(part.device.unwrap_or(Device::Four))
 }
@@ -87,16 +92,54 @@ pub fn shown_in(format: Format, options: &ArgMatches<'_>) -> Result<Format, JobF
     drawn_in(shown, options)
 }
 
-/// The format, where it draws characters or no file of them is named.
+/// The format, where it is a picture or no option of pictures is given.
 fn drawn_in(format: Format, options: &ArgMatches<'_>) -> Result<Format, JobFault>
     ensures value { result ≡ drawn format (rows_of (found_of options.now)) }
     ensures own { IfErr result IsOwn }
 {
-    if is_picture(format) || characters_in(options).is_none() {
-        Ok(format)
+    if is_picture(format) || !wants_picture(options) {
+        printed_in(format, options)
     } else {
         Err(JobFault::NoPicture)
     }
+}
+
+/// The format, where no option of paper or pixels is given that it has not.
+fn printed_in(format: Format, options: &ArgMatches<'_>) -> Result<Format, JobFault>
+    ensures value { result ≡ printed format (rows_of (found_of options.now)) }
+    ensures own { IfErr result IsOwn }
+{
+    if wants_more(format, options) {
+        Err(JobFault::NoPaper)
+    } else {
+        Ok(format)
+    }
+}
+
+/// Whether an option of paper or pixels is given that pages in this format have not: bitmaps have holes and pixels, documents
+/// paper and holes.
+fn wants_more(format: Format, options: &ArgMatches<'_>) -> bool
+    ensures { result ≡ wants_more format (rows_of (found_of options.now)) }
+{
+    match format {
+        Format::List | Format::Lines(_) | Format::Svg(_) => wants_paper(options),
+        Format::Png(_) => is_given(options, Opt::Paper),
+        Format::Pdf(_, _) => is_given(options, Opt::Scale),
+    }
+}
+
+/// Whether anything is given of paper or pixels.
+fn wants_paper(options: &ArgMatches<'_>) -> bool
+    ensures { result ≡ wants_paper (rows_of (found_of options.now)) }
+{
+    is_given(options, Opt::Scale) || is_given(options, Opt::Paper) || is_given(options, Opt::Holes)
+}
+
+/// Whether anything is given that goes with pictures alone.
+fn wants_picture(options: &ArgMatches<'_>) -> bool
+    ensures { result ≡ wants_picture (rows_of (found_of options.now)) }
+{
+    characters_in(options).is_some() || is_given(options, Opt::Top)
 }
 
 /// Whether pages in this format are drawn.
@@ -104,19 +147,77 @@ fn is_picture(format: Format) -> bool
     ensures { result ≡ is_picture format }
 {
     match format {
-        Format::List | Format::Lines => false,
-        Format::Svg(_) | Format::Png(_) | Format::Pdf(_) => true,
+        Format::List | Format::Lines(_) => false,
+        Format::Svg(_) | Format::Png(_) | Format::Pdf(_, _) => true,
     }
 }
 
-/// What of the pages is shown.
+/// What of the pages is shown, and how they lie on their paper.
 fn part_in(options: &ArgMatches<'_>) -> Result<Part, JobFault>
     ensures value { result ≡ wanted_part (rows_of (found_of options.now)) }
     ensures own { IfErr result IsOwn }
 {
     let device = device_in(options)?;
     let sheet = sheet_in(options)?;
-    Ok(Part { device, sheet })
+    let scale = scale_in(options)?;
+    let layout = layout_in(options)?;
+    Ok(Part {
+        device,
+        sheet,
+        layout,
+        scale,
+    })
+}
+
+/// How the pages lie on their paper. Holes go with continuous paper alone.
+fn layout_in(options: &ArgMatches<'_>) -> Result<Layout, JobFault>
+    ensures value { result ≡ wanted_layout (rows_of (found_of options.now)) }
+    ensures own { IfErr result IsOwn }
+{
+    let top = top_in(options)?;
+    let size = paper_in(options)?;
+    let holes = is_given(options, Opt::Holes);
+    if holes && !is_continuous(size) {
+        return Err(JobFault::NoStrips);
+    }
+    Ok(Layout { top, size, holes })
+}
+
+/// Whether this is continuous paper.
+fn is_continuous(size: Size) -> bool
+    ensures { result ≡ is_continuous size }
+{
+    match size {
+        Size::Continuous => true,
+        Size::A4 | Size::Letter => false,
+    }
+}
+
+/// The paper of a document.
+fn paper_in(options: &ArgMatches<'_>) -> Result<Size, JobFault>
+    ensures value { result ≡ read Opt.Paper paper_of (rows_of (found_of options.now)) }
+    ensures own { IfErr result IsOwn }
+{
+    let size = read_paper(value_in(options, Opt::Paper)).ok_or(Opt::Paper)?;
+    Ok(size)
+}
+
+/// The pixels of a bitmap for the place of a dot.
+fn scale_in(options: &ArgMatches<'_>) -> Result<Scale, JobFault>
+    ensures value { result ≡ read Opt.Scale scale_of (rows_of (found_of options.now)) }
+    ensures own { IfErr result IsOwn }
+{
+    let scale = read_scale(value_in(options, Opt::Scale)).ok_or(Opt::Scale)?;
+    Ok(scale)
+}
+
+/// The lines from the upper edge of the paper to the first row.
+fn top_in(options: &ArgMatches<'_>) -> Result<u8, JobFault>
+    ensures value { result ≡ read Opt.Top top_of (rows_of (found_of options.now)) }
+    ensures own { IfErr result IsOwn }
+{
+    let top = read_top(value_in(options, Opt::Top)).ok_or(Opt::Top)?;
+    Ok(top)
 }
 
 /// The printer whose pages are shown, if words name one.

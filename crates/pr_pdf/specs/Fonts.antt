@@ -59,11 +59,11 @@ disc_pdf disc =
     decimal disc.across ++ codes " " ++ decimal disc.up ++ disc_move
     ++ decimal disc.across ++ codes " " ++ decimal disc.up ++ disc_stroke
 
--- a glyph: its width, the box that holds its discs, strokes a little wider than a dot column with round ends,
+-- a glyph: its width, the box that holds its discs, strokes 58 units wide with round ends,
 -- and the discs
 unfoldable pub glyph_pdf : Shapes → (font code : ℕ) → List ℕ
 glyph_pdf shapes font code =
-    decimal (42 * font_columns font) ++ glyph_box ++ decimal (42 * font_columns font + 1) ++ glyph_strokes
+    decimal (42 * font_columns font) ++ glyph_box ++ decimal (42 * font_columns font + 8) ++ glyph_strokes
     ++ flat_map disc_pdf (glyph_discs shapes (mark_of font code))
 
 -- a number for each glyph: its code, and 256 for each font before its own

@@ -48,6 +48,6 @@ pub record Adds (more : List (List ℕ)) (old new : Document) : Type 0 where
   pub has : (bodies : List (List ℕ)) → HasBodies bodies old → HasBodies (bodies ++ more) new
 
 -- all objects before the sheets
-abbrev pub bodies_before : Shapes → (pages : ℕ) → List Bool → List (List ℕ)
-bodies_before shapes pages used =
-    first_bodies pages ++ map (font_pdf used) (numbers_from 0 9) ++ map (glyph_body shapes) (used_among used 0 2304)
+abbrev pub bodies_before : Shapes → (pages count4 count5 : ℕ) → List Bool → List (List ℕ)
+bodies_before shapes pages count4 count5 used =
+    first_bodies pages count4 count5 ++ map (font_pdf used) (numbers_from 0 9) ++ map (glyph_body shapes) (used_among used 0 2304)

@@ -2,27 +2,29 @@
 
 ghost use Rattle.std.specs.Prelude.{◌≡◌, ◌+◌, ◌*◌, ◌^◌, ◌≤◌, ◌<◌, true, ◌∷◌, ◌++◌, [], flat_map, length, map, IfErr, IfOk, OnOk};
 ghost use Rattle.pr_pdf.specs.Fonts.{encoding_pdf, font_pdf, glyph_object, resources_pdf, used_among, used_of, widths_pdf, characters_pdf};
-ghost use Rattle.pr_dots.specs.Sheets.{sheet_count};
+ghost use Rattle.pr_dots.specs.Sheets.{lowered, lowered_rows, sheet_count};
 ghost use Rattle.pr_pdf.specs.Sheets.{sheet_pdf, sheet_texts};
-ghost use Rattle.pr_pdf.specs.Pdf.{catalog_pdf, file_limit, first_bodies, glyph_body, kid_pdf, marks_of, or_empty, page_pdf, pages_pdf, pdf_of, rows_if, rows_pdf, sheet_bodies, stream_pdf};
+ghost use Rattle.pr_pdf.specs.Pdf.{bookmark_bodies, bookmark_pdf, bookmarks_pdf, catalog_pdf, file_limit, first_bodies, glyph_body, kid_pdf, marks_of, or_empty, page_pdf, pages_pdf, pdf_of, rows_if, rows_pdf, sheet_bodies, stream_pdf};
+ghost use Rattle.pr_pdf.specs.Parts.{frame};
 ghost use Rattle.pr_pdf.specs.Words.{numbers_from};
 ghost use Rattle.pr_pdf.specs.Linked.{Adds, HasBodies, ascend, bodies_before};
 
 use crate::adding::push_between;
+use crate::bookmarks::{are_two, push_bookmark, push_bookmarks, push_labels};
 use crate::document::Document;
 use crate::fault::PdfFault;
 use crate::fonts::{push_characters, push_encoding, push_resources, push_widths};
 use crate::glyphs::{push_font, push_glyph};
 use crate::marks::FONTS;
 use crate::parts::{
-    catalog_begin, list_end, page_begin, page_content, pages_begin, pages_kids, reference,
-    reference_end,
+    catalog_begin, catalog_pages, list_end, page_begin, page_content, page_end, pages_begin,
+    pages_kids, push_frame, reference, reference_end,
 };
-use crate::sheets::{are_ascending, push_sheet, rows_from, sheet_count, skip_before};
+use crate::sheets::{are_ascending, push_sheet, rows_from, skip_before};
 use crate::used::{GLYPHS, Used};
-use pr_dots::Shapes;
+use pr_dots::{Shapes, sheet_count};
 use pr_page::{Paper, Row};
-use pr_render::push_small;
+use pr_render::{Layout, Size, push_small};
 use pr_serial::Present;
 use std::alloc::{AllocError, Global};
 
@@ -34,11 +36,20 @@ const FIRST_GLYPH: u64 = 19;
 
 /// Adds the object that begins the document.
 #[tactic(auto, unfolding(crate::specs::Pdf::catalog_pdf))]
-fn add_catalog(document: &mut Document, alloc: Global, pages: u64) -> Result<(), AllocError>
-    ensures { OnOk result (Adds (catalog_pdf pages ∷ []) document.old document.new) }
+fn add_catalog(
+    document: &mut Document,
+    alloc: Global,
+    pages: u64,
+    count4: u64,
+    count5: u64,
+) -> Result<(), AllocError>
+    requires { pages < 2 ^ 60 }
+    ensures { OnOk result (Adds (catalog_pdf pages count4 count5 ∷ []) document.old document.new) }
 {
     let mut text = Vec::new(alloc);
-    push_between(&mut text, catalog_begin(), pages, reference_end())?;
+    text.extend_from_slice(catalog_begin())?;
+    push_labels(&mut text, pages, count4, count5)?;
+    push_between(&mut text, catalog_pages(), pages, reference_end())?;
     document.add(&text)
 }
 
@@ -80,10 +91,17 @@ fn add_characters(document: &mut Document, alloc: Global, set: u64) -> Result<()
 }
 
 /// Adds the objects that all documents have.
-fn add_first(document: &mut Document, alloc: Global, pages: u64) -> Result<(), AllocError>
-    ensures { OnOk result (Adds (first_bodies pages) document.old document.new) }
+fn add_first(
+    document: &mut Document,
+    alloc: Global,
+    pages: u64,
+    count4: u64,
+    count5: u64,
+) -> Result<(), AllocError>
+    requires { pages < 2 ^ 60 }
+    ensures { OnOk result (Adds (first_bodies pages count4 count5) document.old document.new) }
 {
-    add_catalog(document, alloc, pages)?;
+    add_catalog(document, alloc, pages, count4, count5)?;
     add_resources(document, alloc)?;
     add_encoding(document, alloc)?;
     add_widths(document, alloc, 6)?;
@@ -168,13 +186,14 @@ fn add_sheet(
     number: u64,
     sheet: &[u8],
 ) -> Result<(), AllocError>
-    requires { number < 18446744073709551615 }
+    requires pages { pages < 18446744073709551615 }
+    requires number { number < 18446744073709551615 }
     ensures { OnOk result (Adds (page_pdf pages (number + 1) ∷ stream_pdf sheet.now ∷ []) document.old document.new) }
 {
     let mut page = Vec::new(alloc);
     push_between(&mut page, page_begin(), pages, page_content())?;
-    push_small(&mut page, number + 1)?;
-    page.extend_from_slice(reference_end())?;
+    push_between(&mut page, b"", pages + 1, reference())?;
+    push_between(&mut page, b"", number + 1, page_end())?;
     document.add(&page)?;
     document.add_stream(sheet)
 }
@@ -185,16 +204,18 @@ fn add_sheet_of(
     alloc: Global,
     pages: u64,
     number: u64,
+    top: u8,
     sheet: u64,
     rows: &[Row],
     ascending: bool,
 ) -> Result<(), AllocError>
+    requires pages { pages < 18446744073709551615 }
     requires number { number < 18446744073709551615 }
     requires ascending { ascending ≡ true → ascend 0 rows.now ≡ true }
-    ensures { OnOk result (Adds (sheet_bodies pages number (sheet_pdf rows.now sheet ∷ [])) document.old document.new) }
+    ensures { OnOk result (Adds (sheet_bodies pages number (sheet_pdf (lowered_rows top rows.now) sheet ∷ [])) document.old document.new) }
 {
     let mut text = Vec::new(alloc);
-    push_sheet(&mut text, sheet, rows, ascending)?;
+    push_sheet(&mut text, top, sheet, rows, ascending)?;
     add_sheet(document, alloc, pages, number, &text)
 }
 
@@ -204,20 +225,22 @@ fn add_sheets(
     alloc: Global,
     pages: u64,
     first: u64,
+    top: u8,
     rows: &[Row],
 ) -> Result<u64, AllocError>
-    requires { first < 2 ^ 60 }
-    ensures sheets { OnOk result (Adds (sheet_bodies pages first (sheet_texts rows.now)) document.old document.new) }
-    ensures next { IfOk result (λ next. next ≡ first + 2 * sheet_count rows.now) }
+    requires pages { pages < 2 ^ 60 }
+    requires first { first < 2 ^ 60 }
+    ensures sheets { OnOk result (Adds (sheet_bodies pages first (sheet_texts (lowered_rows top rows.now))) document.old document.new) }
+    ensures next { IfOk result (λ next. next ≡ first + 2 * sheet_count (lowered_rows top rows.now)) }
     ensures within { IfOk result (λ next. next ≤ first + 2 ^ 55) }
 {
     let ascending = are_ascending(rows);
     let mut number = first;
     let mut before = 0;
-    for sheet in 0..sheet_count(rows) {
-        before = skip_before(rows, before, sheet);
+    for sheet in 0..sheet_count(top, rows) {
+        before = skip_before(rows, top, before, sheet);
         let rest = rows_from(rows, before);
-        add_sheet_of(document, alloc, pages, number, sheet, rest, ascending)?;
+        add_sheet_of(document, alloc, pages, number, top, sheet, rest, ascending)?;
         number += 2;
     }
     Ok(number)
@@ -236,22 +259,105 @@ fn push_kids(text: &mut Vec<u8>, first: u64, count: u64) -> Result<(), AllocErro
     Ok(())
 }
 
-/// Adds the object that has the sheets.
+/// Adds the object that has the sheets, on paper of a size.
 #[tactic(auto, unfolding(crate::specs::Pdf::pages_pdf))]
 fn add_pages(
     document: &mut Document,
     alloc: Global,
+    size: Size,
     first: u64,
     count: u64,
 ) -> Result<(), AllocError>
     requires { first + 2 * count < 2 ^ 64 }
-    ensures { OnOk result (Adds (pages_pdf first count ∷ []) document.old document.new) }
+    ensures { OnOk result (Adds (pages_pdf size first count ∷ []) document.old document.new) }
 {
     let mut text = Vec::new(alloc);
-    push_between(&mut text, pages_begin(), count, pages_kids())?;
+    push_between(&mut text, pages_begin(size), count, pages_kids())?;
     push_kids(&mut text, first, count)?;
     text.extend_from_slice(list_end())?;
     document.add(&text)
+}
+
+/// Adds what is drawn first on every sheet.
+fn add_frame(document: &mut Document, alloc: Global, layout: Layout) -> Result<(), AllocError>
+    ensures { OnOk result (Adds (stream_pdf (frame layout.size layout.holes) ∷ []) document.old document.new) }
+{
+    let mut text = Vec::new(alloc);
+    push_frame(&mut text, layout.size, layout.holes)?;
+    document.add_stream(&text)
+}
+
+/// Adds the object of this many bookmarks.
+fn add_root(document: &mut Document, alloc: Global, root: u64, count: u64) -> Result<(), AllocError>
+    requires root { root < 2 ^ 61 }
+    requires count { count < 2 ^ 61 }
+    ensures { OnOk result (Adds (bookmarks_pdf root count ∷ []) document.old document.new) }
+{
+    let mut text = Vec::new(alloc);
+    push_bookmarks(&mut text, root, count)?;
+    document.add(&text)
+}
+
+/// Adds a bookmark.
+fn add_bookmark(
+    document: &mut Document,
+    alloc: Global,
+    root: u64,
+    first: u64,
+    count4: u64,
+    count: u64,
+    index: u64,
+) -> Result<(), AllocError>
+    requires root { root < 2 ^ 61 }
+    requires first { first < 2 ^ 61 }
+    requires index { index < 2 ^ 61 }
+    ensures { OnOk result (Adds (bookmark_pdf root first count4 count index ∷ []) document.old document.new) }
+{
+    let mut text = Vec::new(alloc);
+    push_bookmark(&mut text, root, first, count4, count, index)?;
+    document.add(&text)
+}
+
+/// Adds all bookmarks.
+fn add_each(
+    document: &mut Document,
+    alloc: Global,
+    root: u64,
+    first: u64,
+    count4: u64,
+    count: u64,
+) -> Result<(), AllocError>
+    requires root { root < 2 ^ 61 }
+    requires first { first < 2 ^ 61 }
+    requires count { count < 2 ^ 61 }
+    ensures { OnOk result (Adds (map (bookmark_pdf root first count4 count) (numbers_from 0 count)) document.old document.new) }
+{
+    for index in 0..count {
+        add_bookmark(document, alloc, root, first, count4, count, index)?;
+    }
+    Ok(())
+}
+
+/// Adds the bookmarks of this many sheets of each printer, if both have some.
+fn add_bookmarks(
+    document: &mut Document,
+    alloc: Global,
+    root: u64,
+    first: u64,
+    count4: u64,
+    count5: u64,
+) -> Result<(), AllocError>
+    requires root { root < 2 ^ 61 }
+    requires first { first < 2 ^ 61 }
+    requires count4 { count4 < 2 ^ 60 }
+    requires count5 { count5 < 2 ^ 60 }
+    ensures { OnOk result (Adds (bookmark_bodies root first count4 count5) document.old document.new) }
+{
+    if !are_two(count4, count5) {
+        return Ok(());
+    }
+    add_root(document, alloc, root, count4 + count5)?;
+    add_each(document, alloc, root, first, count4, count4 + count5)
 }
 
 /// Which glyphs the marks of rows of both printers use.
@@ -265,11 +371,19 @@ fn used_by(alloc: Global, rows4: &[Row], rows5: &[Row]) -> Result<Used, AllocErr
 }
 
 /// A document with all objects before the sheets.
-fn begun(alloc: Global, shapes: &Shapes, used: &Used, pages: u64) -> Result<Document, AllocError>
-    ensures { IfOk result (λ d. HasBodies (bodies_before shapes.now pages used.now) d) }
+fn begun(
+    alloc: Global,
+    shapes: &Shapes,
+    used: &Used,
+    pages: u64,
+    count4: u64,
+    count5: u64,
+) -> Result<Document, AllocError>
+    requires { pages < 2 ^ 60 }
+    ensures { IfOk result (λ d. HasBodies (bodies_before shapes.now pages count4 count5 used.now) d) }
 {
     let mut document = Document::new(alloc)?;
-    add_first(&mut document, alloc, pages)?;
+    add_first(&mut document, alloc, pages, count4, count5)?;
     add_fonts(&mut document, alloc, used)?;
     add_glyphs(&mut document, alloc, shapes, used, GLYPHS)?;
     Ok(document)
@@ -281,42 +395,55 @@ fn add_all_sheets(
     alloc: Global,
     pages: u64,
     first: u64,
+    top: u8,
     rows4: &[Row],
     rows5: &[Row],
 ) -> Result<(), AllocError>
-    requires { first < 2 ^ 50 }
-    ensures { OnOk result (Adds (sheet_bodies pages first (or_empty (sheet_texts rows4.now ++ sheet_texts rows5.now))) document.old document.new) }
+    requires pages { pages < 2 ^ 60 }
+    requires first { first < 2 ^ 50 }
+    ensures { OnOk result (Adds (sheet_bodies pages first (or_empty (sheet_texts (lowered_rows top rows4.now) ++ sheet_texts (lowered_rows top rows5.now)))) document.old document.new) }
 {
-    let second = add_sheets(document, alloc, pages, first, rows4)?;
-    let end = add_sheets(document, alloc, pages, second, rows5)?;
+    let second = add_sheets(document, alloc, pages, first, top, rows4)?;
+    let end = add_sheets(document, alloc, pages, second, top, rows5)?;
     if end == first {
-        add_sheet_of(document, alloc, pages, first, 0, &[], true)?;
+        add_sheet_of(document, alloc, pages, first, top, 0, &[], true)?;
     }
     Ok(())
 }
 
 /// How many sheets the rows of both printers take, or 1 for an empty one.
 #[tactic(auto, using(crate::proofs::SheetBySheet::count_none, crate::proofs::SheetBySheet::count_some))]
-fn all_sheet_count(rows4: &[Row], rows5: &[Row]) -> u64
-    ensures count { result ≡ length (or_empty (sheet_texts rows4.now ++ sheet_texts rows5.now)) }
+fn all_sheet_count(top: u8, rows4: &[Row], rows5: &[Row]) -> u64
+    ensures count { result ≡ length (or_empty (sheet_texts (lowered_rows top rows4.now) ++ sheet_texts (lowered_rows top rows5.now))) }
     ensures within { result ≤ 2 ^ 55 }
 {
-    let drawn = sheet_count(rows4) + sheet_count(rows5);
+    let drawn = sheet_count(top, rows4) + sheet_count(top, rows5);
     if drawn == 0 { 1 } else { drawn }
 }
 
 /// The document of rows of both printers.
-fn draw(alloc: Global, shapes: &Shapes, rows4: &[Row], rows5: &[Row]) -> Result<Vec<u8>, AllocError>
-    ensures { IfOk result (λ file. file.items ≡ rows_pdf shapes.now rows4.now rows5.now) }
+fn draw(
+    alloc: Global,
+    shapes: &Shapes,
+    layout: Layout,
+    rows4: &[Row],
+    rows5: &[Row],
+) -> Result<Vec<u8>, AllocError>
+    ensures { IfOk result (λ file. file.items ≡ rows_pdf shapes.now layout.size layout.holes (lowered_rows layout.top rows4.now) (lowered_rows layout.top rows5.now)) }
 {
+    let top = layout.top;
     let used = used_by(alloc, rows4, rows5)?;
-    let count = all_sheet_count(rows4, rows5);
+    let count = all_sheet_count(top, rows4, rows5);
     let glyphs = used.before(GLYPHS);
     let first = FIRST_GLYPH + glyphs;
     let pages = first + 2 * count;
-    let mut document = begun(alloc, shapes, &used, pages)?;
-    add_all_sheets(&mut document, alloc, pages, first, rows4, rows5)?;
-    add_pages(&mut document, alloc, first, count)?;
+    let count4 = sheet_count(top, rows4);
+    let count5 = sheet_count(top, rows5);
+    let mut document = begun(alloc, shapes, &used, pages, count4, count5)?;
+    add_all_sheets(&mut document, alloc, pages, first, top, rows4, rows5)?;
+    add_pages(&mut document, alloc, layout.size, first, count)?;
+    add_frame(&mut document, alloc, layout)?;
+    add_bookmarks(&mut document, alloc, pages + 2, first, count4, count5)?;
     let file = document.finish()?;
     Ok(file)
 }
@@ -329,31 +456,33 @@ fn rows_if(drawn: bool, paper: &Paper) -> &[Row]
 }
 
 /// The papers of the printers that are drawn, printed in these shapes, as a PDF document. Printer 4's sheets come first, then
-/// printer 5's; if neither printed, there is one empty sheet.
+/// printer 5's; if neither printed, there is one empty sheet, and if both did, each sheet has a name, as `printer 4, sheet 1`,
+/// and a bookmark with that name.
 ///
-/// A sheet is 9.5 by 11 inches, with the 480 dot columns in the middle. Each dot is a disc at its
-/// place, and a row that straddles a fold is on both sheets. Characters can be found and copied as
+/// A sheet is 9.5 by 11 inches, with the 480 dot columns in the middle, on paper of the layout's size; the first row is as many
+/// lines of 1/6 inch below the upper edge of the first as the layout says. Each dot is a disc at its place, and a row that straddles a fold is on both sheets. Characters can be found and copied as
 /// text. Marks that are held are left out. Equal papers make equal documents (ISO 32000-1).
 ///
 /// # Errors
 ///
 /// - [`PdfFault::TooLarge`]: the document has more than [`LIMIT`] bytes.
 /// - [`PdfFault::NoMemory`]: memory was refused.
-#[tactic(auto, unfolding(crate::specs::Pdf::pdf_of))]
+#[tactic(auto, unfolding(crate::specs::Pdf::pdf_of), using(crate::proofs::Sheeted::rows_lowered))]
 pub fn pdf(
     alloc: Global,
     shapes: &Shapes,
     paper4: &Paper,
     paper5: &Paper,
+    layout: Layout,
     drawn: Present,
 ) -> Result<Vec<u8>, PdfFault>
-    ensures file { IfOk result (λ file. file.items ≡ pdf_of shapes.now paper4.now paper5.now drawn) }
+    ensures file { IfOk result (λ file. file.items ≡ pdf_of shapes.now layout.size layout.holes (lowered layout.top paper4.now) (lowered layout.top paper5.now) drawn) }
     ensures within { IfOk result (λ file. length file.items ≤ file_limit) }
-    ensures too_large { IfErr result (λ fault. fault ≡ PdfFault.TooLarge → file_limit < length (pdf_of shapes.now paper4.now paper5.now drawn)) }
+    ensures too_large { IfErr result (λ fault. fault ≡ PdfFault.TooLarge → file_limit < length (pdf_of shapes.now layout.size layout.holes (lowered layout.top paper4.now) (lowered layout.top paper5.now) drawn)) }
 {
     let rows4 = rows_if(drawn.four, paper4);
     let rows5 = rows_if(drawn.five, paper5);
-    let file = draw(alloc, shapes, rows4, rows5)?;
+    let file = draw(alloc, shapes, layout, rows4, rows5)?;
     if LIMIT < file.len() as u64 {
         return Err(PdfFault::TooLarge);
     }

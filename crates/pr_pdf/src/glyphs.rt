@@ -82,7 +82,7 @@ pub fn push_glyph(
 {
     let width = 42 * font_columns(font);
     push_small(text, width)?;
-    push_between(text, glyph_box(), width + 1, glyph_strokes())?;
+    push_between(text, glyph_box(), width + 8, glyph_strokes())?;
     push_columns(text, columns(shapes, mark_of(font, code)).as_slice())
 }
 

@@ -4,11 +4,13 @@
 //! - `used` says which glyphs marks use.
 //! - `fonts` makes the objects that all documents have, `glyphs` the fonts and their glyphs.
 //! - `runs` makes the strings of a row, and `sheets` what is on a sheet.
+//! - `bookmarks` has the names of sheets and their bookmarks, where both printers have printed.
 //! - `document` numbers the objects and keeps where each begins, `drawing` makes the document.
 //! - `laws` says what the document draws. `parts` has the fixed texts.
 #![tactic(auto)]
 
 mod adding;
+mod bookmarks;
 mod document;
 mod drawing;
 mod fault;

@@ -1,14 +1,17 @@
 //! The fixed parts of the document.
 
-ghost use Rattle.std.specs.Prelude.{◌≡◌};
-ghost use Rattle.pr_pdf.specs.Parts.{header, object_begin, object_end, reference, reference_end, dictionary_end, list_end, stream_begin, stream_bytes, stream_end, catalog_begin, fonts_begin, encoding_begin, characters_begin, characters_end, font_begin, font_characters, font_glyphs, glyph_box, glyph_strokes, page_begin, page_content, pages_begin, pages_kids, sheet_begin, sheet_end, run_place, run_codes, run_end, disc_move, disc_stroke, table_begin, table_free, place_end, trailer_begin, trailer_root, trailer_end};
+ghost use Rattle.std.specs.Prelude.{◌≡◌, ◌++◌, [], if◌then◌else◌, OnOk};
+ghost use Rattle.pr_pdf.specs.Parts.{header, object_begin, object_end, reference, reference_end, dictionary_end, list_end, stream_begin, stream_bytes, stream_end, bookmark_after, bookmark_before, bookmark_begin, bookmark_end, bookmark_fit, bookmark_parent, bookmark_place, bookmark_sheet, bookmarks_begin, bookmarks_count, bookmarks_end, bookmarks_last, catalog_begin, catalog_pages, labels_begin, labels_end, fonts_begin, encoding_begin, characters_begin, characters_end, font_begin, font_characters, font_glyphs, frame, glyph_box, glyph_strokes, page_begin, page_content, page_end, pages_begin, pages_kids, sheet_begin, sheet_end, size_frame, strips, run_place, run_codes, run_end, disc_move, disc_stroke, table_begin, table_free, place_end, trailer_begin, trailer_root, trailer_end};
+
+use pr_render::Size;
+use std::alloc::AllocError;
 
 /// The first line.
 #[tactic(auto, unfolding(crate::specs::Parts::header))]
 pub fn header() -> &'static [u8]
     ensures { result.now ≡ header }
 {
-    b"%PDF-1.4\n"
+    b"%PDF-1.6\n"
 }
 
 /// After an object's number.
@@ -83,12 +86,132 @@ pub fn stream_end() -> &'static [u8]
     b"\nendstream"
 }
 
-/// The object that begins the document, up to the one that has its sheets.
+/// The object that begins the document: viewers are not to scale its sheets for printing.
 #[tactic(auto, unfolding(crate::specs::Parts::catalog_begin))]
 pub fn catalog_begin() -> &'static [u8]
     ensures { result.now ≡ catalog_begin }
 {
-    b"<< /Type /Catalog /Pages "
+    b"<< /Type /Catalog /ViewerPreferences << /PrintScaling /None >> "
+}
+
+/// Up to the object that has its sheets.
+#[tactic(auto, unfolding(crate::specs::Parts::catalog_pages))]
+pub fn catalog_pages() -> &'static [u8]
+    ensures { result.now ≡ catalog_pages }
+{
+    b"/Pages "
+}
+
+/// The names of sheets: those of printer 4, up to how many they are.
+#[tactic(auto, unfolding(crate::specs::Parts::labels_begin))]
+pub fn labels_begin() -> &'static [u8]
+    ensures { result.now ≡ labels_begin }
+{
+    b"/PageLabels << /Nums [ 0 << /P (printer 4, sheet ) /S /D >> "
+}
+
+/// Those of printer 5, and up to the object that has the bookmarks.
+#[tactic(auto, unfolding(crate::specs::Parts::labels_end))]
+pub fn labels_end() -> &'static [u8]
+    ensures { result.now ≡ labels_end }
+{
+    b" << /P (printer 5, sheet ) /S /D >> ] >> /Outlines "
+}
+
+/// The bookmarks, up to the first.
+#[tactic(auto, unfolding(crate::specs::Parts::bookmarks_begin))]
+pub fn bookmarks_begin() -> &'static [u8]
+    ensures { result.now ≡ bookmarks_begin }
+{
+    b"<< /Type /Outlines /First "
+}
+
+/// Up to the last.
+#[tactic(auto, unfolding(crate::specs::Parts::bookmarks_last))]
+pub fn bookmarks_last() -> &'static [u8]
+    ensures { result.now ≡ bookmarks_last }
+{
+    b" 0 R /Last "
+}
+
+/// Up to how many they are.
+#[tactic(auto, unfolding(crate::specs::Parts::bookmarks_count))]
+pub fn bookmarks_count() -> &'static [u8]
+    ensures { result.now ≡ bookmarks_count }
+{
+    b" 0 R /Count "
+}
+
+/// Their end, and that of one.
+#[tactic(auto, unfolding(crate::specs::Parts::bookmarks_end))]
+pub fn bookmarks_end() -> &'static [u8]
+    ensures { result.now ≡ bookmarks_end }
+{
+    b" >>"
+}
+
+/// A bookmark, up to its printer.
+#[tactic(auto, unfolding(crate::specs::Parts::bookmark_begin))]
+pub fn bookmark_begin() -> &'static [u8]
+    ensures { result.now ≡ bookmark_begin }
+{
+    b"<< /Title (printer "
+}
+
+/// Up to its sheet.
+#[tactic(auto, unfolding(crate::specs::Parts::bookmark_sheet))]
+pub fn bookmark_sheet() -> &'static [u8]
+    ensures { result.now ≡ bookmark_sheet }
+{
+    b", sheet "
+}
+
+/// Up to the object of all bookmarks.
+#[tactic(auto, unfolding(crate::specs::Parts::bookmark_parent))]
+pub fn bookmark_parent() -> &'static [u8]
+    ensures { result.now ≡ bookmark_parent }
+{
+    b") /Parent "
+}
+
+/// Up to the sheet's object.
+#[tactic(auto, unfolding(crate::specs::Parts::bookmark_place))]
+pub fn bookmark_place() -> &'static [u8]
+    ensures { result.now ≡ bookmark_place }
+{
+    b" 0 R /Dest [ "
+}
+
+/// After it.
+#[tactic(auto, unfolding(crate::specs::Parts::bookmark_fit))]
+pub fn bookmark_fit() -> &'static [u8]
+    ensures { result.now ≡ bookmark_fit }
+{
+    b" 0 R /Fit ]"
+}
+
+/// The bookmark before it.
+#[tactic(auto, unfolding(crate::specs::Parts::bookmark_before))]
+pub fn bookmark_before() -> &'static [u8]
+    ensures { result.now ≡ bookmark_before }
+{
+    b" /Prev "
+}
+
+/// The one after it.
+#[tactic(auto, unfolding(crate::specs::Parts::bookmark_after))]
+pub fn bookmark_after() -> &'static [u8]
+    ensures { result.now ≡ bookmark_after }
+{
+    b" /Next "
+}
+
+/// After the number of such a bookmark.
+#[tactic(auto, unfolding(crate::specs::Parts::bookmark_end))]
+pub fn bookmark_end() -> &'static [u8]
+    ensures { result.now ≡ bookmark_end }
+{
+    b" 0 R"
 }
 
 /// The fonts by their names.
@@ -128,7 +251,7 @@ pub fn characters_end() -> &'static [u8]
 pub fn font_begin() -> &'static [u8]
     ensures { result.now ≡ font_begin }
 {
-    b"<< /Type /Font /Subtype /Type3 /FontBBox [-1 -22 505 262] /FontMatrix [1 0 0 1 0 0] /FirstChar 0 /LastChar 255 /Encoding 3 0 R /Resources << >> /Widths "
+    b"<< /Type /Font /Subtype /Type3 /FontBBox [-8 -29 512 269] /FontMatrix [1 0 0 1 0 0] /FirstChar 0 /LastChar 255 /Encoding 3 0 R /Resources << >> /Widths "
 }
 
 /// Up to its codes' characters.
@@ -152,15 +275,16 @@ pub fn font_glyphs() -> &'static [u8]
 pub fn glyph_box() -> &'static [u8]
     ensures { result.now ≡ glyph_box }
 {
-    b" 0 -1 -22 "
+    b" 0 -8 -29 "
 }
 
-/// The box is as high as seven dots; strokes are a little wider than a dot column, with round ends.
+/// The box is as high as seven dots; strokes are 58 units wide, as far as the place of a dot, 42 by 40, reaches from corner to corner,
+/// with round ends.
 #[tactic(auto, unfolding(crate::specs::Parts::glyph_strokes))]
 pub fn glyph_strokes() -> &'static [u8]
     ensures { result.now ≡ glyph_strokes }
 {
-    b" 262 d1\n44 w 1 J\n"
+    b" 269 d1\n58 w 1 J\n"
 }
 
 /// A sheet, up to the object that has the sheets.
@@ -171,20 +295,68 @@ pub fn page_begin() -> &'static [u8]
     b"<< /Type /Page /Parent "
 }
 
-/// Up to what it draws.
+/// Up to what is drawn first on every sheet.
 #[tactic(auto, unfolding(crate::specs::Parts::page_content))]
 pub fn page_content() -> &'static [u8]
     ensures { result.now ≡ page_content }
 {
-    b" 0 R /Contents "
+    b" 0 R /Contents [ "
 }
 
-/// The sheets, of 9.5 by 11 inches, up to their count.
-#[tactic(auto, unfolding(crate::specs::Parts::pages_begin))]
-pub fn pages_begin() -> &'static [u8]
-    ensures { result.now ≡ pages_begin }
+/// After what it draws itself.
+#[tactic(auto, unfolding(crate::specs::Parts::page_end))]
+pub fn page_end() -> &'static [u8]
+    ensures { result.now ≡ page_end }
 {
-    b"<< /Type /Pages /MediaBox [0 0 684 792] /Resources 2 0 R /Count "
+    b" 0 R ] >>"
+}
+
+/// The sheets on paper of a size, up to their count.
+#[tactic(auto, unfolding(crate::specs::Parts::pages_begin))]
+pub fn pages_begin(size: Size) -> &'static [u8]
+    ensures { result.now ≡ pages_begin size }
+{
+    match size {
+        Size::Continuous => b"<< /Type /Pages /MediaBox [0 0 684 792] /Resources 2 0 R /Count ",
+        Size::A4 => b"<< /Type /Pages /MediaBox [0 0 595.276 841.89] /Resources 2 0 R /Count ",
+        Size::Letter => b"<< /Type /Pages /MediaBox [0 0 612 792] /Resources 2 0 R /Count ",
+    }
+}
+
+/// Where the 9.5 by 11 inches of a sheet are on the paper, of which only they are drawn.
+#[tactic(auto, unfolding(crate::specs::Parts::size_frame))]
+fn size_frame(size: Size) -> &'static [u8]
+    ensures { result.now ≡ size_frame size }
+{
+    match size {
+        Size::Continuous => b"",
+        Size::A4 => b"1 0 0 1 -44.362 24.945 cm\n0 0 684 792 re W n\n",
+        Size::Letter => b".95 0 0 .95 -18.9 19.8 cm\n0 0 684 792 re W n\n",
+    }
+}
+
+/// The strips of a sheet: 22 holes in each, half an inch apart, the lines at which they tear off, and the folds.
+#[tactic(auto, unfolding(crate::specs::Parts::strips))]
+fn strips() -> &'static [u8]
+    ensures { result.now ≡ strips }
+{
+    b"q .8 G 11.4 w 1 J [.01 35.99] 0 d 18 18 m 18 774.1 l 666 18 m 666 774.1 l S\n0 J .5 w [2] 0 d 36 0 m 36 792 l 648 0 m 648 792 l 0 .25 m 684 .25 l 0 791.75 m 684 791.75 l S Q\n"
+}
+
+/// The strips, if they are wanted.
+fn strips_if(holes: bool) -> &'static [u8]
+    ensures { result.now ≡ (if holes then strips else []) }
+{
+    if holes { strips() } else { b"" }
+}
+
+/// Adds what is drawn first on every sheet.
+#[tactic(auto, unfolding(crate::specs::Parts::frame))]
+pub fn push_frame(text: &mut Vec<u8>, size: Size, holes: bool) -> Result<(), AllocError>
+    ensures { OnOk result (text.new.items ≡ text.old.items ++ frame size holes) }
+{
+    text.extend_from_slice(size_frame(size))?;
+    text.extend_from_slice(strips_if(holes))
 }
 
 /// Up to the first sheet.

@@ -1,6 +1,6 @@
 -- Dots of rows that are apart, by their pixels.
-use Rattle.std.proofs.Common.{◌≡◌, ℕ, zero, suc, ◌+◌, ◌-◌, ◌*◌, ◌/◌, ◌%◌, ◌^◌, ◌<◌, ◌≤◌, Bool, true, false, List, [], ◌∷◌, ◌++◌, ◌⊎◌, inl, inr, refl, sym, ◌∙◌, arith}
-use Rattle.std.specs.Prelude.{◌==◌, ◌&&◌, ◌||◌, flat_map, if◌then◌else◌}
+use Rattle.std.proofs.Common.{◌≡◌, ℕ, zero, suc, ◌+◌, ◌*◌, ◌/◌, ◌%◌, ◌^◌, ◌<◌, ◌≤◌, Bool, true, false, List, [], ◌∷◌, ◌++◌, ◌⊎◌, inl, inr, refl, sym, ap, ◌∙◌, arith}
+use Rattle.std.specs.Prelude.{◌==◌, ◌&&◌, ◌||◌, flat_map, nat_le, nat_lt, if◌then◌else◌}
 use Rattle.std.specs.List.{list_any, range_with_len}
 use Rattle.std.proofs.lemmas.Bool.{cases_Bool, false_from_ne_true, false≢true}
 use Rattle.std.proofs.lemmas.Bool.Decides.{nat_tests}
@@ -9,12 +9,15 @@ use Rattle.pr_page.specs.declared.paper.Paper.{Paper}
 use Rattle.pr_page.specs.declared.paper.Placed.{Placed}
 use Rattle.pr_page.specs.declared.paper.Row.{Row}
 use Rattle.pr_dots.specs.Dots.{Dot, bit_dots, column_dots, columns_dots, columns_of, dots_of, has_dot, is_at, row_dots}
+use Rattle.pr_dots.specs.Scales.{pixels_of}
 use Rattle.pr_dots.specs.declared.character_sets.Shapes.{Shapes}
+use Rattle.pr_dots.specs.declared.scale.Scale.{Scale}
+use Rattle.pr_dots.specs.declared.scale.Scale.TheVariants.{One, Two, Three, Four, Five, Six, Seven, Eight}
 use Rattle.pr_png.specs.Laws.{AreApart, PixelsTellDots}
-use Rattle.pr_png.specs.Pixels.{is_dark}
+use Rattle.pr_png.specs.Pixels.{covers, is_printed, line_at}
 
 -- one of two lists has it
-in-part : (test : Dot → Bool) (ds es : List Dot) → list_any test (ds ++ es) ≡ true → (list_any test ds ≡ true) ⊎ (list_any test es ≡ true)
+pub in-part : (test : Dot → Bool) (ds es : List Dot) → list_any test (ds ++ es) ≡ true → (list_any test ds ≡ true) ⊎ (list_any test es ≡ true)
 in-part test ds es is = either (list_any test ds) (list_any test es) (sym (list_any-append test ds es) ∙ is)
   where
     either : (a b : Bool) → (a || b) ≡ true → (a ≡ true) ⊎ (b ≡ true)
@@ -100,32 +103,73 @@ no-touch : (shapes : Shapes) (p : Paper) (x y : ℕ) → AreApart 0 p.rows → h
 unfolding has_dot dots_of
 no-touch shapes p x y apart upper = false_from_ne_true (has_dot shapes p x (suc y)) (λ lower. apart-dots shapes 0 x y p.rows apart upper lower)
 
--- a pixel by the dots of its column
-dark-first : (shapes : Shapes) (p : Paper) (x : ℕ) → is_dark shapes p (2 * x) 0 ≡ has_dot shapes p x 0
-unfolding is_dark
-dark-first shapes p x =
-    let half : 2 * x / 2 ≡ x = omega arith in
-    rw half (same (has_dot shapes p x 0))
-  where
-    same : (b : Bool) → (b || b) ≡ b
-    same true = refl
-    same false = refl
+-- tests of dots that are the same, and two tests at once
+any-same : (p r : Dot → Bool) → ((d : Dot) → r d ≡ p d) → (dots : List Dot) → list_any r dots ≡ list_any p dots
+any-same p r same [] = refl
+any-same p r same (d ∷ ds) = ap (λ b. b || list_any r ds) (same d) ∙ ap (λ b. p d || b) (any-same p r same ds)
 
-dark-next : (shapes : Shapes) (p : Paper) (x y : ℕ) → is_dark shapes p (2 * x) (suc y) ≡ (has_dot shapes p x (suc y) || has_dot shapes p x y)
-unfolding is_dark
-dark-next shapes p x y =
-    let half : 2 * x / 2 ≡ x = omega arith in
-    let above : suc y - 1 ≡ y = omega arith in
-    rw (half, above) refl
+any-either : (p q r : Dot → Bool) → ((d : Dot) → r d ≡ (p d || q d)) → (dots : List Dot)
+    → list_any r dots ≡ (list_any p dots || list_any q dots)
+any-either p q r either [] = refl
+any-either p q r either (d ∷ ds) =
+    ap (λ b. b || list_any r ds) (either d) ∙ ap (λ b. (p d || q d) || b) (any-either p q r either ds)
+    ∙ moved (p d) (q d) (list_any p ds) (list_any q ds)
+  where
+    moved : (a b c d : Bool) → ((a || b) || (c || d)) ≡ ((a || c) || (b || d))
+    moved true b c d = refl
+    moved false true true d = refl
+    moved false true false d = refl
+    moved false false c d = refl
+
+-- which dots cover the line of pixels at a distance
+first-covers : (scale : Scale) (n : ℕ) → 2 ≤ pixels_of scale
+    → (nat_le (line_at scale n) (line_at scale 0) && nat_lt (line_at scale 0) (line_at scale n + pixels_of scale)) ≡ (n == 0)
+first-covers One n fine = absurd (omega (arith, fine))
+first-covers Two n fine = grind (arith, nat_tests)
+first-covers Three n fine = grind (arith, nat_tests)
+first-covers Four n fine = grind (arith, nat_tests)
+first-covers Five n fine = grind (arith, nat_tests)
+first-covers Six n fine = grind (arith, nat_tests)
+first-covers Seven n fine = grind (arith, nat_tests)
+first-covers Eight n fine = grind (arith, nat_tests)
+
+next-covers : (scale : Scale) (n y : ℕ) → 2 ≤ pixels_of scale
+    → (nat_le (line_at scale n) (line_at scale (suc y)) && nat_lt (line_at scale (suc y)) (line_at scale n + pixels_of scale)) ≡ (n == suc y || n == y)
+next-covers One n y fine = absurd (omega (arith, fine))
+next-covers Two n y fine = grind (arith, nat_tests)
+next-covers Three n y fine = grind (arith, nat_tests)
+next-covers Four n y fine = grind (arith, nat_tests)
+next-covers Five n y fine = grind (arith, nat_tests)
+next-covers Six n y fine = grind (arith, nat_tests)
+next-covers Seven n y fine = grind (arith, nat_tests)
+next-covers Eight n y fine = grind (arith, nat_tests)
+
+-- a pixel by the dots of its column
+dark-first : (shapes : Shapes) (p : Paper) (scale : Scale) (x : ℕ) → 2 ≤ pixels_of scale → is_printed shapes p scale x (line_at scale 0) ≡ has_dot shapes p x 0
+unfolding is_printed has_dot
+dark-first shapes p scale x fine =
+    any-same (is_at x 0) (covers scale x (line_at scale 0)) (λ d. ap (λ b. d.x == x && b) (first-covers scale d.y fine)) (dots_of shapes p)
+
+dark-next : (shapes : Shapes) (p : Paper) (scale : Scale) (x y : ℕ) → 2 ≤ pixels_of scale
+    → is_printed shapes p scale x (line_at scale (suc y)) ≡ (has_dot shapes p x (suc y) || has_dot shapes p x y)
+unfolding is_printed has_dot
+dark-next shapes p scale x y fine =
+    any-either (is_at x (suc y)) (is_at x y) (covers scale x (line_at scale (suc y)))
+    (λ d. ap (λ b. d.x == x && b) (next-covers scale d.y y fine) ∙ each (d.x == x) (d.y == suc y) (d.y == y)) (dots_of shapes p)
+  where
+    each : (a p q : Bool) → (a && (p || q)) ≡ ((a && p) || (a && q))
+    each true p q = refl
+    each false p q = refl
 
 pub tell-dots : PixelsTellDots
-tell-dots shapes p q apart-p apart-q same x zero = sym (dark-first shapes p x) ∙ same (2 * x) 0 ∙ dark-first shapes q x
-tell-dots shapes p q apart-p apart-q same x (suc y) =
-    let upper : has_dot shapes p x y ≡ has_dot shapes q x y = tell-dots shapes p q apart-p apart-q same x y in
+tell-dots shapes p q scale fine apart-p apart-q same x zero =
+    sym (dark-first shapes p scale x fine) ∙ same x (line_at scale 0) ∙ dark-first shapes q scale x fine
+tell-dots shapes p q scale fine apart-p apart-q same x (suc y) =
+    let upper : has_dot shapes p x y ≡ has_dot shapes q x y = tell-dots shapes p q scale fine apart-p apart-q same x y in
     elim (cases_Bool (has_dot shapes p x y)) [
       | inl is ↦ no-touch shapes p x y apart-p is ∙ sym (no-touch shapes q x y apart-q (sym upper ∙ is))
-      | inr is ↦ sym (alone (has_dot shapes p x (suc y)) (has_dot shapes p x y) is) ∙ sym (dark-next shapes p x y) ∙ same (2 * x) (suc y)
-          ∙ dark-next shapes q x y ∙ alone (has_dot shapes q x (suc y)) (has_dot shapes q x y) (sym upper ∙ is)
+      | inr is ↦ sym (alone (has_dot shapes p x (suc y)) (has_dot shapes p x y) is) ∙ sym (dark-next shapes p scale x y fine) ∙ same x (line_at scale (suc y))
+          ∙ dark-next shapes q scale x y fine ∙ alone (has_dot shapes q x (suc y)) (has_dot shapes q x y) (sym upper ∙ is)
     ]
   where
     alone : (a b : Bool) → b ≡ false → (a || b) ≡ a

@@ -1,7 +1,8 @@
 pub mod Checking
-pub mod OnSheet
+pub mod OnPicture
 pub mod Packed
 pub mod Apart
+pub mod Below
 pub mod Bitwise
 pub mod Matching
 pub mod Rows

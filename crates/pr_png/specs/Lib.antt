@@ -1,4 +1,5 @@
 pub mod Checksums
+pub mod Strips
 pub mod Pixels
 pub mod Inflating
 pub mod Deflating

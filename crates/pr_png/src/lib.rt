@@ -1,21 +1,28 @@
-//! A sheet of a paper as a PNG file, with compressed data: 960 by 1386 pixels, 120 to the inch across and 126 down.
+//! A paper, or a sheet of it, as a PNG file with compressed data: one to eight pixels for the place of a dot, which is 1/60 by 1/63
+//! inch.
 //!
-//! - `marking` puts the dots of a paper on a sheet, `packing` makes lines of pixels of it.
+//! - `look` says how a picture is drawn and how wide it is; `strips` has the strips of the paper, with their holes.
+//! - `marking` puts the dots of a paper on a picture, `packing` makes lines of pixels of it.
 //! - `matches` finds bytes that repeat earlier ones, `bits` fills bytes with bits, `deflating` compresses with both.
 //! - `checksums` has CRC-32 and Adler-32.
-//! - `file` puts the compressed lines of pixels into a file.
-//! - `laws` says that the data of a file hold the sheet's lines of pixels, and that the pixels determine the dots.
+//! - `file` puts the compressed lines of pixels into a file, which `fault` may refuse.
+//! - `laws` says that the data of a file hold its lines of pixels, that the pixels determine the dots, and that a paper's picture
+//!   has them all.
 #![tactic(auto)]
 
 mod bits;
 mod checksums;
 mod deflating;
+mod fault;
 mod file;
 mod laws;
+mod look;
 mod marking;
 mod matches;
 mod packing;
+mod strips;
 
-pub use file::png;
-pub use laws::{file_shows_sheet, pixels_tell_dots};
-pub use marking::SHEET_LINES;
+pub use fault::PngFault;
+pub use file::{LIMIT, paper_png, sheet_png};
+pub use laws::{file_shows_lines, paper_has_all_dots, pixels_tell_dots};
+pub use look::Look;

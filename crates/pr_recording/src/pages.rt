@@ -60,7 +60,7 @@ pub struct Reprinted {
 /// - [`CliFault::TooLarge`]: only if the input has more than [`PRINT_LIMIT`] bytes.
 /// - [`CliFault::ReadFailed`] exactly if the input has failed, [`CliFault::WriteFailed`] exactly if the
 ///   output has.
-/// - [`CliFault::Picture`]: the pages have no such sheet, or their document is too large; whatever the recording's own fault is.
+/// - [`CliFault::Picture`]: the pages have no such sheet, or their bitmap or document is too large; whatever the recording's own fault is.
 /// - [`CliFault::NoMemory`]: memory was refused.
 ///
 /// With the first three the pages of all that is settled before the fault have been written; after

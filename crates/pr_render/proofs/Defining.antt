@@ -5,7 +5,7 @@ use Rattle.std.specs.List.{filter}
 use Rattle.std.proofs.lemmas.Grind.{common_steps, get_or-set_at}
 use Rattle.pr_page.specs.declared.paper.Mark.{Mark}
 use Rattle.pr_page.specs.declared.paper.Row.{Row}
-use Rattle.pr_dots.specs.Sheets.{is_on, rows_on}
+use Rattle.pr_dots.specs.Sheets.{is_on, lowered_row, lowered_rows, rows_on}
 use Rattle.pr_dots.specs.declared.character_sets.Shapes.{Shapes}
 use Rattle.pr_render.specs.Defined.{HasDefined, is_new, marks_on, new_definitions}
 use Rattle.pr_render.specs.Svg.{definition_svg, differ, each_once, number_of}
@@ -81,7 +81,7 @@ pub one-sheet : (shapes : Shapes) (t1 t2 : List ℕ) (d1 d2 : List Bool) (marks 
 one-sheet shapes t1 t2 d1 d2 marks at_first defined = grind (arith, common_steps, defined [], at_first, none-defined shapes marks)
 
 -- the marks of the rows that are on a sheet, with one row more
-pub marks_of_more : (sheet : ℕ) (row : Row) (rows : List Row)
-    → marks_on (flat_map (λ r. r.marks) (rows_on sheet (row ∷ rows)))
-    ≡ (if is_on sheet row then marks_on row.marks else []) ++ marks_on (flat_map (λ r. r.marks) (rows_on sheet rows))
-marks_of_more sheet row rows = grind (arith, common_steps)
+pub marks_of_more : (above sheet : ℕ) (row : Row) (rows : List Row)
+    → marks_on (flat_map (λ r. r.marks) (rows_on sheet (lowered_rows above (row ∷ rows))))
+    ≡ (if is_on sheet (lowered_row above row) then marks_on row.marks else []) ++ marks_on (flat_map (λ r. r.marks) (rows_on sheet (lowered_rows above rows)))
+marks_of_more above sheet row rows = grind (arith, common_steps)

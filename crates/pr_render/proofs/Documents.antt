@@ -14,9 +14,9 @@ use Rattle.pr_page.specs.declared.paper.Row.{Row}
 use Rattle.pr_dots.specs.declared.character_sets.Shapes.{Shapes}
 use Rattle.pr_dots.specs.Sheets.{rows_on}
 use Rattle.pr_render.specs.Laws.{SheetsTellRows, is_drawn, is_paper, is_row}
-use Rattle.pr_render.specs.Parts.{definitions_begin, definitions_end, document_about, held_begin, ink_begin, mark_begin, mark_path, paper_folds, paper_piece, row_begin, sheet_end, sheet_marks, sheet_name, sheet_paper, single_begin, single_end, single_marks, single_paper, single_size, use_end}
+use Rattle.pr_render.specs.Parts.{definitions_begin, definitions_end, document_about, held_begin, ink_begin, mark_begin, mark_path, paper_folds, paper_piece, row_begin, sheet_begin, sheet_end, sheet_marks, sheet_name, sheet_paper, single_begin, single_end, single_marks, single_paper, single_size, use_end}
 use Rattle.pr_render.specs.SheetSvg.{row_marks, sheet_svg_of, single_head, single_sheet, single_svg, single_top}
-use Rattle.pr_render.specs.Svg.{Disc, definition_svg, definitions_svg, disc_svg, each_once, held_line, held_svg, ink_svg, line_svg, mark_discs, name_line, name_svg, paper_svg, row_svg, rows_end, sheet_svg}
+use Rattle.pr_render.specs.Svg.{Disc, definition_svg, definitions_svg, disc_svg, each_once, held_line, held_svg, ink_svg, line_svg, mark_discs, marks_place, name_line, name_svg, paper_svg, row_svg, rows_end, sheet_picas, sheet_svg}
 use Rattle.pr_render.specs.Words.{either_text, text_if}
 use Rattle.pr_render.proofs.Skipped.{after-part, after_line, free-number, in-append, in-flat, in-number, in_line, regroup-four}
 use Rattle.pr_render.proofs.Told.{cut-at, first-is, line-split, regroup, row-split}
@@ -98,23 +98,30 @@ held-split y z (p ∷ ps) (q ∷ qs) a b f g far near is = held-cut y z p ps q q
 -- a sheet's place is passed over
 
 name-skip : (d x : ℕ) (r : List ℕ) → after_line (name_line d x ++ r) ≡ codes "<text font-size=\"210\" fill=\"#555\" y=\"-210\">Printer " ++ (decimal d ++ r)
-unfolding name_line sheet_name
+unfolding name_line sheet_begin sheet_name
 name-skip d x r =
-    ap after_line (regroup-four (codes "<g transform=\"translate(") (decimal x) sheet_name (decimal d) r)
-    ∙ after-part (decimal x) (sheet_name ++ (decimal d ++ r)) (in-number x)
+    ap after_line (regroup-four sheet_begin (decimal (210 * (x + 5))) sheet_name (decimal d) r)
+    ∙ after-part (decimal (210 * (x + 5))) (sheet_name ++ (decimal d ++ r)) (in-number (210 * (x + 5)))
 
 -- the paper of a sheet, which begins with a tag's end, is passed over
-paper-parts : (k : ℕ) (r : List ℕ) → paper_svg k ++ r
-    ≡ sheet_paper ++ (decimal (210 * k) ++ (paper_folds ++ (decimal (210 * (k - 6)) ++ (sheet_marks ++ r))))
+paper-parts : (t k : ℕ) (r : List ℕ) → paper_svg t k ++ r
+    ≡ sheet_paper ++ (decimal (210 * k) ++ (paper_folds ++ (decimal (210 * (k - 6)) ++ (marks_place t ++ r))))
 unfolding paper_svg
-paper-parts k r = regroup sheet_paper (decimal (210 * k)) paper_folds (decimal (210 * (k - 6))) sheet_marks r
+paper-parts t k r = regroup sheet_paper (decimal (210 * k)) paper_folds (decimal (210 * (k - 6))) (marks_place t) r
 
-paper-skip : (m n : ℕ) (r : List ℕ)
-    → after_line (after_line (after_line (after_line (sheet_paper ++ (decimal m ++ (paper_folds ++ (decimal n ++ (sheet_marks ++ r)))))))) ≡ r
-unfolding sheet_paper paper_folds sheet_marks
-paper-skip m n r =
-    ap (λ e. after_line (after_line e)) (after-part (decimal m) (paper_folds ++ (decimal n ++ (sheet_marks ++ r))) (in-number m))
-    ∙ ap after_line (after-part (decimal n) (sheet_marks ++ r) (in-number n))
+place-skip : (t : ℕ) (r : List ℕ) → after_line (after_line (marks_place t ++ r)) ≡ r
+unfolding marks_place sheet_marks
+place-skip t r =
+    ap (λ e. after_line (after_line e)) (append_assoc (sheet_marks ++ decimal (210 * t)) (codes ")\">\n") r ∙ append_assoc sheet_marks (decimal (210 * t)) (codes ")\">\n" ++ r))
+    ∙ after-part (decimal (210 * t)) (codes ")\">\n" ++ r) (in-number (210 * t))
+
+paper-skip : (m n t : ℕ) (r : List ℕ)
+    → after_line (after_line (after_line (after_line (sheet_paper ++ (decimal m ++ (paper_folds ++ (decimal n ++ (marks_place t ++ r)))))))) ≡ r
+unfolding sheet_paper paper_folds
+paper-skip m n t r =
+    ap (λ e. after_line (after_line e)) (after-part (decimal m) (paper_folds ++ (decimal n ++ (marks_place t ++ r))) (in-number m))
+    ∙ ap after_line (after-part (decimal n) (marks_place t ++ r) (in-number n))
+    ∙ place-skip t r
 
 tag-not : (d : ℕ) → d < 10 → 48 + d ≢ 60
 tag-not d small e = omega arith
@@ -127,13 +134,13 @@ number-cut d e a b is =
     (parts.0, ap (λ t. 60 ∷ t) parts.1)
 
 -- a printer's number, and what follows its paper
-device-cut : (d e m n k l : ℕ) (r s : List ℕ)
-    → decimal d ++ (sheet_paper ++ (decimal m ++ (paper_folds ++ (decimal n ++ (sheet_marks ++ r)))))
-    ≡ decimal e ++ (sheet_paper ++ (decimal k ++ (paper_folds ++ (decimal l ++ (sheet_marks ++ s)))))
+device-cut : (d e m n t k l u : ℕ) (r s : List ℕ)
+    → decimal d ++ (sheet_paper ++ (decimal m ++ (paper_folds ++ (decimal n ++ (marks_place t ++ r)))))
+    ≡ decimal e ++ (sheet_paper ++ (decimal k ++ (paper_folds ++ (decimal l ++ (marks_place u ++ s)))))
     → (decimal d ≡ decimal e) × (r ≡ s)
-device-cut d e m n k l r s is =
-    let parts = number-cut d e (decimal m ++ (paper_folds ++ (decimal n ++ (sheet_marks ++ r)))) (decimal k ++ (paper_folds ++ (decimal l ++ (sheet_marks ++ s)))) is in
-    (parts.0, sym (paper-skip m n r) ∙ (ap (λ t. after_line (after_line (after_line (after_line t)))) parts.1 ∙ paper-skip k l s))
+device-cut d e m n t k l u r s is =
+    let parts = number-cut d e (decimal m ++ (paper_folds ++ (decimal n ++ (marks_place t ++ r)))) (decimal k ++ (paper_folds ++ (decimal l ++ (marks_place u ++ s)))) is in
+    (parts.0, sym (paper-skip m n t r) ∙ (ap (λ t. after_line (after_line (after_line (after_line t)))) parts.1 ∙ paper-skip k l u s))
 
 -- the marks of a paper, and what follows them
 ink-skip : (p : Paper) (r : List ℕ) → after_line (ink_svg p ++ r)
@@ -157,26 +164,28 @@ marks-split p q r s f g is =
     (ap (λ t. paper-at t p.held) rows.0 ∙ ap (λ t. paper-at q.rows t) held.0, append_cancel_left (codes "</g>\n") r s held.1)
 
 -- a sheet, and what follows it
-sheet-parts : (d x k : ℕ) (p : Paper) (a : List ℕ) → sheet_svg d x k p ++ a
-    ≡ name_line d x ++ (paper_svg k ++ (ink_svg p ++ (held_line (rows_end 0 p.rows) p.held ++ (sheet_end ++ a))))
+sheet-parts : (t d x : ℕ) (p : Paper) (a : List ℕ) → sheet_svg t d x p ++ a
+    ≡ name_line d x ++ (paper_svg t (sheet_picas t p) ++ (ink_svg p ++ (held_line (rows_end 0 p.rows) p.held ++ (sheet_end ++ a))))
 unfolding sheet_svg
-sheet-parts d x k p a = regroup (name_line d x) (paper_svg k) (ink_svg p) (held_line (rows_end 0 p.rows) p.held) sheet_end a
+sheet-parts t d x p a = regroup (name_line d x) (paper_svg t (sheet_picas t p)) (ink_svg p) (held_line (rows_end 0 p.rows) p.held) sheet_end a
 
-sheet-skip : (d x k : ℕ) (p : Paper) (a : List ℕ) → after_line (sheet_svg d x k p ++ a)
-    ≡ codes "<text font-size=\"210\" fill=\"#555\" y=\"-210\">Printer " ++ (decimal d ++ (sheet_paper ++ (decimal (210 * k) ++ (paper_folds ++ (decimal (210 * (k - 6))
-    ++ (sheet_marks ++ (ink_svg p ++ (held_line (rows_end 0 p.rows) p.held ++ (sheet_end ++ a)))))))))
-sheet-skip d x k p a =
-    ap after_line (sheet-parts d x k p a)
-    ∙ name-skip d x (paper_svg k ++ (ink_svg p ++ (held_line (rows_end 0 p.rows) p.held ++ (sheet_end ++ a))))
-    ∙ ap (λ t. codes "<text font-size=\"210\" fill=\"#555\" y=\"-210\">Printer " ++ (decimal d ++ t)) (paper-parts k (ink_svg p ++ (held_line (rows_end 0 p.rows) p.held ++ (sheet_end ++ a))))
+sheet-skip : (t d x : ℕ) (p : Paper) (a : List ℕ) → after_line (sheet_svg t d x p ++ a)
+    ≡ codes "<text font-size=\"210\" fill=\"#555\" y=\"-210\">Printer " ++ (decimal d ++ (sheet_paper ++ (decimal (210 * sheet_picas t p) ++ (paper_folds
+    ++ (decimal (210 * (sheet_picas t p - 6)) ++ (marks_place t ++ (ink_svg p ++ (held_line (rows_end 0 p.rows) p.held ++ (sheet_end ++ a)))))))))
+sheet-skip t d x p a =
+    ap after_line (sheet-parts t d x p a)
+    ∙ name-skip d x (paper_svg t (sheet_picas t p) ++ (ink_svg p ++ (held_line (rows_end 0 p.rows) p.held ++ (sheet_end ++ a))))
+    ∙ ap (λ t. codes "<text font-size=\"210\" fill=\"#555\" y=\"-210\">Printer " ++ (decimal d ++ t))
+    (paper-parts t (sheet_picas t p) (ink_svg p ++ (held_line (rows_end 0 p.rows) p.held ++ (sheet_end ++ a))))
 
-pub sheet-split : (d x k : ℕ) (p : Paper) (e y l : ℕ) (q : Paper) (a b : List ℕ) → is_paper p ≡ true → is_paper q ≡ true
-    → sheet_svg d x k p ++ a ≡ sheet_svg e y l q ++ b → (decimal d ≡ decimal e) × ((p ≡ q) × (a ≡ b))
-sheet-split d x k p e y l q a b f g is =
+pub sheet-split : (t d x : ℕ) (p : Paper) (u e y : ℕ) (q : Paper) (a b : List ℕ) → is_paper p ≡ true → is_paper q ≡ true
+    → sheet_svg t d x p ++ a ≡ sheet_svg u e y q ++ b → (decimal d ≡ decimal e) × ((p ≡ q) × (a ≡ b))
+sheet-split t d x p u e y q a b f g is =
     let pt = held_line (rows_end 0 p.rows) p.held ++ (sheet_end ++ a) in
     let qt = held_line (rows_end 0 q.rows) q.held ++ (sheet_end ++ b) in
-    let named = device-cut d e (210 * k) (210 * (k - 6)) (210 * l) (210 * (l - 6)) (ink_svg p ++ pt) (ink_svg q ++ qt)
-    (append_cancel_left (codes "<text font-size=\"210\" fill=\"#555\" y=\"-210\">Printer ") _ _ (sym (sheet-skip d x k p a) ∙ (ap after_line is ∙ sheet-skip e y l q b))) in
+    let named = device-cut d e (210 * sheet_picas t p) (210 * (sheet_picas t p - 6)) t (210 * sheet_picas u q) (210 * (sheet_picas u q - 6)) u
+    (ink_svg p ++ pt) (ink_svg q ++ qt)
+    (append_cancel_left (codes "<text font-size=\"210\" fill=\"#555\" y=\"-210\">Printer ") _ _ (sym (sheet-skip t d x p a) ∙ (ap after_line is ∙ sheet-skip u e y q b))) in
     let told = marks-split p q pt qt f g named.1 in
     let tails : pt ≡ held_line (rows_end 0 p.rows) p.held ++ (sheet_end ++ b) = told.1 ∙ ap (λ t. held_line (rows_end 0 t.rows) t.held ++ (sheet_end ++ b)) (sym told.0) in
     (named.0, (told.0, append_cancel_left sheet_end a b (append_cancel_left (held_line (rows_end 0 p.rows) p.held) (sheet_end ++ a) (sheet_end ++ b) tails)))

@@ -6,5 +6,6 @@ pub mod Joined
 pub mod Names
 pub mod Pictures
 pub mod Shown
+pub mod Signs
 pub mod Skipped
 pub mod Told

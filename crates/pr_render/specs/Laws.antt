@@ -1,8 +1,8 @@
 -- Laws: what a picture's elements draw, and what a line shows, said without the folds of Svg.antt and Plain.antt. src/laws.rt proves them.
-use Rattle.std.specs.Prelude.{◌≡◌, ℕ, ◌+◌, ◌-◌, ◌*◌, ◌/◌, ◌^◌, ◌<◌, Bool, true, false, not, List, [], ◌∷◌, ◌++◌, ◌==◌, ◌&&◌, ◌||◌, nat_lt, encode_utf8, flat_map, map, slice_index_or, if◌then◌else◌}
+use Rattle.std.specs.Prelude.{◌≡◌, ℕ, ◌+◌, ◌-◌, ◌*◌, ◌/◌, ◌^◌, ◌<◌, Bool, true, false, not, List, [], ◌∷◌, ◌++◌, ◌==◌, ◌&&◌, ◌||◌, nat_lt, flat_map, map, slice_index_or, if◌then◌else◌}
 use Rattle.std.specs.List.{list_all}
 use Rattle.pr_page.specs.declared.paper.Placed.{Placed}
-use Rattle.pr_base.specs.Lines.{lines_of}
+use Rattle.pr_base.specs.Lines.{onto_first}
 use Rattle.pr_page.specs.declared.paper.Paper.{Paper}
 use Rattle.pr_page.specs.declared.paper.Row.{Row}
 use Rattle.pr_page.specs.declared.paper.Mark.{Mark}
@@ -13,8 +13,9 @@ use Rattle.pr_dots.specs.Dots.{dots_of}
 use Rattle.pr_dots.specs.Sheets.{rows_on}
 use Rattle.pr_dots.specs.declared.character_sets.Shapes.{Shapes}
 use Rattle.pr_render.specs.Characters.{character}
-use Rattle.pr_render.specs.Plain.{held_text, rows_text, shown}
+use Rattle.pr_render.specs.Plain.{Sign, beside, held_text, rows_text, shown, sign_of, written}
 use Rattle.pr_render.specs.Words.{is_blank}
+use Rattle.pr_render.specs.declared.format.Look.{Look}
 use Rattle.pr_render.specs.SheetSvg.{sheet_svg_of}
 use Rattle.pr_render.specs.Svg.{Disc, disc_of, drawn_of, each_once, mark_discs, marks_of, name_svg, row_svg, svg_of}
 
@@ -77,13 +78,13 @@ abbrev pub drawn_papers : Outcome → Present → List (ℕ × Paper)
 drawn_papers outcome drawn =
     (if drawn.four then (4, outcome.paper4) ∷ [] else []) ++ (if drawn.five then (5, outcome.paper5) ∷ [] else [])
 
--- a picture determines its papers: where two documents are the same, in whatever shapes, the same printers are
--- drawn, with the same rows and the same marks held
+-- a picture determines its papers: where two documents are the same, in whatever shapes and with whatever lines above, the same
+-- printers are drawn, with the same rows and the same marks held
 abbrev pub PicturesTellPapers : Type 0
 PicturesTellPapers =
-    (shapes other : Shapes) (these those : Outcome) (present around : Present)
+    (shapes other : Shapes) (top lower : ℕ) (these those : Outcome) (present around : Present)
     → is_paper these.paper4 ≡ true → is_paper these.paper5 ≡ true → is_paper those.paper4 ≡ true → is_paper those.paper5 ≡ true
-    → svg_of shapes these present ≡ svg_of other those around
+    → svg_of shapes top these present ≡ svg_of other lower those around
     → drawn_papers these (drawn_of these present) ≡ drawn_papers those (drawn_of those around)
 
 -- the document of one sheet determines the rows that are on it
@@ -93,11 +94,16 @@ SheetsTellRows =
     → list_all is_row (rows_on sheet this.rows) ≡ true → list_all is_row (rows_on again that.rows) ≡ true
     → sheet_svg_of shapes this sheet ≡ sheet_svg_of other that again → rows_on sheet this.rows ≡ rows_on again that.rows
 
--- a text shows a character at a column of a line, both counted from 0: a blank where the line is shorter
-pub record ShowsAt (line column u : ℕ) (text : List ℕ) : Type 0 where
-  pub characters : List ℕ
-  pub spells : text ≡ flat_map encode_utf8 characters
-  pub at : slice_index_or (slice_index_or (lines_of characters) line []) column 32 ≡ u
+-- the lines of signs, each without its end
+abbrev pub sign_lines : List Sign → List (List Sign)
+sign_lines [] = []
+sign_lines (s ∷ ss) = if s.code_point == 10 then [] ∷ sign_lines ss else onto_first s (sign_lines ss)
+
+-- a text shows a sign at a column of a line, both counted from 0: a blank where the line is shorter
+pub record ShowsAt (look : Look) (line column : ℕ) (sign : Sign) (text : List ℕ) : Type 0 where
+  pub signs : List Sign
+  pub spells : text ≡ written look false signs
+  pub at : slice_index_or (slice_index_or (sign_lines signs) line []) column (sign_of 32) ≡ sign
 
 -- how many lines come before that of a row this far down, on paper that is empty from a distance on: one for each row above
 -- it, and one for each line of text for which a row leaves room above it
@@ -114,24 +120,25 @@ reaches column place (Dots value) = column == place
 abbrev pub none_reaches : ℕ → List Placed → Bool
 none_reaches column marks = list_all (λ q. not (reaches column (q.x / 6) q.mark)) marks
 
--- a mark shows a character at a column of a list of marks: in the line of a row with these marks, wherever the row is on its paper,
+-- a mark shows a sign at a column of a list of marks: in the line of a row with these marks, wherever the row is on its paper,
 -- and in the line under the heading of the marks held
-pub record Shows (column u : ℕ) (marks : List Placed) : Type 0 where
+pub record Shows (look : Look) (column : ℕ) (sign : Sign) (marks : List Placed) : Type 0 where
   pub row : (above : List Row) (y : ℕ) (below : List Row)
-      → ShowsAt (lines_before 0 above y) column u (rows_text 0 (above ++ record { y = y; marks = marks } ∷ below))
-  pub held : ShowsAt 1 column u (held_text marks)
+      → ShowsAt look (lines_before 0 above y) column sign (rows_text look 0 (above ++ record { y = y; marks = marks } ∷ below))
+  pub held : ShowsAt look 1 column sign (held_text look marks)
 
--- a cell shows its character, or a full block where it is a reversed blank, at the column of its place, if no later mark of its
--- line reaches that column
+-- a cell shows its character, in reverse video if it is reversed, at the column of its place, if no later mark of its line reaches that
+-- column; without that video a reversed blank shows as a full block
 abbrev pub LinesShowEachCell : Type 0
 LinesShowEachCell =
-    (before : List Placed) (x code : ℕ) (lower reverse wide : Bool) (after : List Placed)
+    (look : Look) (before : List Placed) (x code : ℕ) (lower reverse wide : Bool) (after : List Placed)
     → (reverse || not (is_blank (character lower code))) ≡ true → x / 6 < 80 → none_reaches (x / 6) after ≡ true
-    → Shows (x / 6) (shown reverse (character lower code)) (before ++ record { x = x; mark = Cell code lower reverse wide } ∷ after)
+    → Shows look (x / 6) (shown look reverse (character lower code)) (before ++ record { x = x; mark = Cell code lower reverse wide } ∷ after)
 
--- a wide cell also shows a blank, or a full block where it is reversed, at the next column, if no later mark of its line reaches that
+-- a wide cell also shows a blank at the next column, in reverse video if it is reversed, if no later mark of its line reaches that;
+-- without that video a reversed blank shows as a full block there too
 abbrev pub WideCellsShowABlank : Type 0
 WideCellsShowABlank =
-    (before : List Placed) (x code : ℕ) (lower reverse : Bool) (after : List Placed)
+    (look : Look) (before : List Placed) (x code : ℕ) (lower reverse : Bool) (after : List Placed)
     → (reverse || not (is_blank (character lower code))) ≡ true → x / 6 + 1 < 80 → none_reaches (x / 6 + 1) after ≡ true
-    → Shows (x / 6 + 1) (shown reverse 32) (before ++ record { x = x; mark = Cell code lower reverse true } ∷ after)
+    → Shows look (x / 6 + 1) (beside look reverse (character lower code)) (before ++ record { x = x; mark = Cell code lower reverse true } ∷ after)

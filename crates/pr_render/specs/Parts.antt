@@ -1,21 +1,13 @@
 -- Trusted: the fixed parts of the picture. A unit of the document is 1/1260 inch.
 use Rattle.std.specs.Prelude.{ℕ, List, codes}
 
--- the document's first tag, up to its width
+-- the document's first tag, 11 inches wide, up to its height in picas
 unfoldable pub document_begin : List ℕ
-document_begin = codes "<svg xmlns=\"http://www.w3.org/2000/svg\" version=\"1.1\" width=\""
+document_begin = codes "<svg xmlns=\"http://www.w3.org/2000/svg\" version=\"1.1\" width=\"66pc\" height=\""
 
--- what is between the document's width and its height
-unfoldable pub height_begin : List ℕ
-height_begin = codes "pc\" height=\""
-
--- what is between its size in picas and its size in units
+-- what is between its height in picas and its height in units
 unfoldable pub units_begin : List ℕ
-units_begin = codes "pc\" viewBox=\"0 0 "
-
--- what is between its width and its height in units
-unfoldable pub units_between : List ℕ
-units_between = codes " "
+units_begin = codes "pc\" viewBox=\"0 0 13860 "
 
 -- the rest of that tag, and what the picture shows
 unfoldable pub document_about : List ℕ
@@ -25,7 +17,7 @@ document_about =
 -- half an inch of continuous paper, with a hole at each edge and the lines at which the edges tear
 -- off; and the fold at the end of 11 inches
 unfoldable pub paper_piece : List ℕ
-paper_piece = codes "<pattern id=\"paper\" width=\"12600\" height=\"630\" patternUnits=\"userSpaceOnUse\"><rect width=\"12600\" height=\"630\" fill=\"#fff\"/><g fill=\"#e9e6df\" stroke=\"#b4afa2\" stroke-width=\"10\"><circle cx=\"315\" cy=\"315\" r=\"100\"/><circle cx=\"12285\" cy=\"315\" r=\"100\"/><path stroke-dasharray=\"35\" d=\"M630 0v630M11970 0v630\"/></g></pattern>\n<pattern id=\"folds\" y=\"7560\" width=\"12600\" height=\"13860\" patternUnits=\"userSpaceOnUse\"><path stroke=\"#b4afa2\" stroke-width=\"10\" stroke-dasharray=\"70\" d=\"M0 6930h12600\"/></pattern>\n"
+paper_piece = codes "<pattern id=\"paper\" width=\"12600\" height=\"630\" patternUnits=\"userSpaceOnUse\"><rect width=\"12600\" height=\"630\" fill=\"#fff\"/><g fill=\"#e9e6df\" stroke=\"#b4afa2\" stroke-width=\"10\"><circle cx=\"315\" cy=\"315\" r=\"100\"/><circle cx=\"12285\" cy=\"315\" r=\"100\"/><path stroke-dasharray=\"35\" d=\"M630 0v630M11970 0v630\"/></g></pattern>\n<pattern id=\"folds\" y=\"6930\" width=\"12600\" height=\"13860\" patternUnits=\"userSpaceOnUse\"><path stroke=\"#b4afa2\" stroke-width=\"10\" stroke-dasharray=\"70\" d=\"M0 6930h12600\"/></pattern>\n"
 
 -- the desk under the sheets
 unfoldable pub desk : List ℕ
@@ -39,25 +31,30 @@ definitions_begin = codes "<defs>\n"
 unfoldable pub definitions_end : List ℕ
 definitions_end = codes "</defs>\n"
 
+-- a sheet's place, half an inch from the left, up to its distance from the top
+unfoldable pub sheet_begin : List ℕ
+sheet_begin = codes "<g transform=\"translate(630 "
+
 -- a sheet's name, up to the printer's number
 unfoldable pub sheet_name : List ℕ
-sheet_name = codes " 1050)\">\n<text font-size=\"210\" fill=\"#555\" y=\"-210\">Printer "
+sheet_name = codes ")\">\n<text font-size=\"210\" fill=\"#555\" y=\"-210\">Printer "
 
 -- a sheet's paper, up to its height
 unfoldable pub sheet_paper : List ℕ
 sheet_paper = codes "</text>\n<rect width=\"12600\" height=\""
 
--- the rest of the paper, and its folds below the first line, up to their height
+-- the rest of the paper, and its folds from 1 inch below the upper edge on, up to their height
 unfoldable pub paper_folds : List ℕ
 paper_folds = codes "\" fill=\"url(#paper)\" stroke=\"#b4afa2\" stroke-width=\"10\"/>\n<rect y=\"1260\" width=\"12600\" height=\""
 
--- the rest of the folds, and the group of the sheet's marks
+-- the rest of the folds, and the group of the sheet's marks, up to its distance
 unfoldable pub sheet_marks : List ℕ
-sheet_marks = codes "\" fill=\"url(#folds)\"/>\n<g transform=\"translate(1260 630)\">\n"
+sheet_marks = codes "\" fill=\"url(#folds)\"/>\n<g transform=\"translate(1260 "
 
--- the marks of a sheet: strokes a little wider than a dot column, and letters that are not seen
+-- the marks of a sheet: strokes 29 units wide, as far as the place of a dot, 21 by 20, reaches from corner to corner; and letters that
+-- are not seen
 unfoldable pub ink_begin : List ℕ
-ink_begin = codes "<g stroke-width=\"22\" stroke-linecap=\"round\" fill-opacity=\"0\" font-size=\"140\">\n"
+ink_begin = codes "<g stroke-width=\"29\" stroke-linecap=\"round\" fill-opacity=\"0\" font-size=\"140\">\n"
 
 -- a group at a distance
 unfoldable pub row_begin : List ℕ

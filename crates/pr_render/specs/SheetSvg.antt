@@ -1,5 +1,6 @@
 -- Trusted: one sheet of a paper as an SVG document: 10 inches of continuous paper by 11 inches between two folds. Sheets are counted from 0.
--- A unit of the document is 1/1260 inch, and every mark is where the picture of all pages has it: the document begins further down.
+-- A unit of the document is 1/1260 inch. Rows have the distances from the upper edge of the paper, and the document of a later sheet
+-- begins further down.
 use Rattle.std.specs.Prelude.{ℕ, ◌+◌, ◌*◌, List, ◌++◌, codes, decimal, flat_map, map}
 use Rattle.pr_page.specs.declared.paper.Row.{Row}
 use Rattle.pr_page.specs.declared.paper.Paper.{Paper}
@@ -9,7 +10,7 @@ use Rattle.pr_dots.specs.declared.character_sets.Shapes.{Shapes}
 use Rattle.pr_render.specs.Parts.{document_about, ink_begin, paper_piece, sheet_end, single_begin, single_end, single_marks, single_paper, single_size}
 use Rattle.pr_render.specs.Svg.{definitions_svg, row_svg}
 
--- where a sheet begins: the first one is half an inch below the top of the paper
+-- where a sheet begins: the first one with the group of the marks, 630 units down
 abbrev pub single_top : ℕ → ℕ
 single_top sheet = 13860 * sheet + 630
 

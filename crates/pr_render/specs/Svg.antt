@@ -1,6 +1,6 @@
 -- Trusted: the picture of an outcome as an SVG document. A unit of the document is 1/1260 inch: a
 -- dot column is 21 units wide, 1/126 inch is 10 units, and 1/6 inch 210 units (a pica, `pc`).
-use Rattle.std.specs.Prelude.{ℕ, ◌+◌, ◌-◌, ◌*◌, ◌/◌, Bool, true, false, not, List, [], ◌∷◌, ◌++◌, ◌==◌, ◌||◌, ◌&&◌, nat_le, nat_lt, max, codes, decimal, flat_map, length, map, if◌then◌else◌, Option, Some, None}
+use Rattle.std.specs.Prelude.{ℕ, ◌+◌, ◌-◌, ◌*◌, ◌/◌, Bool, true, false, not, List, [], ◌∷◌, ◌++◌, ◌==◌, ◌||◌, ◌&&◌, nat_le, nat_lt, codes, decimal, flat_map, length, map, if◌then◌else◌, Option, Some, None}
 use Rattle.std.specs.List.{filter, list_all}
 use Rattle.pr_page.specs.declared.paper.Placed.{Placed}
 use Rattle.pr_page.specs.declared.paper.Row.{Row}
@@ -14,7 +14,7 @@ use Rattle.pr_dots.specs.Dots.{Dot, columns_dots, columns_of}
 use Rattle.pr_dots.specs.declared.character_sets.Shapes.{Shapes}
 use Rattle.pr_render.specs.Characters.{character}
 use Rattle.pr_render.specs.Words.{either_text, is_blank, stop_name, text_if}
-use Rattle.pr_render.specs.Parts.{definitions_begin, definitions_end, desk, document_about, document_begin, held_begin, held_note, height_begin, ink_begin, letters_fitted, letters_width, mark_begin, mark_path, notes_begin, paper_folds, paper_piece, row_begin, sheet_end, sheet_marks, sheet_name, sheet_paper, status_begin, stop_begin, text_end, units_begin, units_between, use_begin, use_end, use_place}
+use Rattle.pr_render.specs.Parts.{definitions_begin, definitions_end, desk, document_about, document_begin, held_begin, held_note, ink_begin, letters_fitted, letters_width, mark_begin, mark_path, notes_begin, paper_folds, paper_piece, row_begin, sheet_begin, sheet_end, sheet_marks, sheet_name, sheet_paper, status_begin, stop_begin, text_end, units_begin, use_begin, use_end, use_place}
 
 -- a disc of a picture: its middle, in units from the left and from the top
 pub record Disc : Type 0 where
@@ -173,26 +173,34 @@ paper_end p = rows_end 0 p.rows + held_room p.held
     held_room [] = 0
     held_room (m ∷ ms) = 42
 
--- the length of both sheets in picas: half an inch above and below the longer paper, in whole half inches
-abbrev pub sheet_picas : Outcome → ℕ
-sheet_picas outcome = 3 * ((max (paper_end outcome.paper4) (paper_end outcome.paper5) + 188) / 63)
+-- the length of a sheet in picas: the lines above the first row, its paper and half an inch below it, in whole half inches
+abbrev pub sheet_picas : (top : ℕ) → Paper → ℕ
+sheet_picas top p = 3 * ((paper_end p + 21 * top + 125) / 63)
 
--- a sheet's place in the document, and above it the printer's name
-unfoldable pub name_line : ℕ → ℕ → List ℕ
-name_line device x = codes "<g transform=\"translate(" ++ decimal x ++ sheet_name ++ decimal device
+-- how much of the document's height a sheet takes if it is drawn, in picas: 5 above it, where the printer's name is, and its length
+abbrev pub sheet_room : Bool → (top : ℕ) → Paper → ℕ
+sheet_room drawn top p = if drawn then 5 + sheet_picas top p else 0
 
--- paper of this length in picas, with folds every 11 inches from the first line on
-unfoldable pub paper_svg : ℕ → List ℕ
-paper_svg picas = sheet_paper ++ decimal (210 * picas) ++ paper_folds ++ decimal (210 * (picas - 6)) ++ sheet_marks
+-- where a sheet begins that has so many picas of others above it, and above it the printer's name
+unfoldable pub name_line : (device above : ℕ) → List ℕ
+name_line device above = sheet_begin ++ decimal (210 * (above + 5)) ++ sheet_name ++ decimal device
+
+-- where the marks of a sheet begin: these lines of 1/6 inch below the upper edge of the paper
+unfoldable pub marks_place : (top : ℕ) → List ℕ
+marks_place top = sheet_marks ++ decimal (210 * top) ++ codes ")\">\n"
+
+-- paper of this length in picas, with folds every 11 inches from its upper edge on
+unfoldable pub paper_svg : (top picas : ℕ) → List ℕ
+paper_svg top picas = sheet_paper ++ decimal (210 * picas) ++ paper_folds ++ decimal (210 * (picas - 6)) ++ marks_place top
 
 -- the marks of a paper: the rows, and 1/6 inch below them the held marks
 unfoldable pub ink_svg : Paper → List ℕ
 ink_svg p = ink_begin ++ flat_map row_svg p.rows ++ held_svg (rows_end 0 p.rows + 21) p.held ++ codes "</g>\n"
 
--- a printer's sheet
-unfoldable pub sheet_svg : ℕ → ℕ → ℕ → Paper → List ℕ
-sheet_svg device x picas p =
-    name_line device x ++ paper_svg picas ++ ink_svg p ++ held_line (rows_end 0 p.rows) p.held ++ sheet_end
+-- a printer's sheet, below others
+unfoldable pub sheet_svg : (top device above : ℕ) → Paper → List ℕ
+sheet_svg top device above p =
+    name_line device above ++ paper_svg top (sheet_picas top p) ++ ink_svg p ++ held_line (rows_end 0 p.rows) p.held ++ sheet_end
 
 -- the line of a stop, with its place
 unfoldable pub stop_svg : Option (ℕ × Stop) → List ℕ
@@ -226,10 +234,10 @@ statuses_svg statuses =
     if all_zero statuses then []
     else status_begin ++ places_text 4 1 statuses ++ codes "</tspan>\n"
 
--- the lines below the sheets: the stop and the statuses
+-- the lines below the sheets, which take so many picas: the stop and the statuses
 unfoldable pub notes_svg : ℕ → Outcome → List ℕ
 notes_svg picas outcome =
-    notes_begin ++ decimal (210 * (picas + 6))
+    notes_begin ++ decimal (210 * (picas + 1))
     ++ codes ")\">\n" ++ stop_svg outcome.stop ++ statuses_svg outcome.statuses ++ text_end
 
 -- something was printed, or is held
@@ -244,24 +252,25 @@ drawn_of outcome present =
     drawn : (four five : Bool) → Present
     drawn four five = if (four || five) then record { four = four; five = five } else present
 
--- the document's width and height, in picas
-abbrev pub width_of : Present → ℕ
-width_of drawn = if (drawn.four && drawn.five) then 129 else 66
+-- how much the sheets of these printers take, in picas
+abbrev pub sheets_picas : (top : ℕ) → Outcome → Present → ℕ
+sheets_picas top outcome drawn = sheet_room drawn.four top outcome.paper4 + sheet_room drawn.five top outcome.paper5
 
+-- the document's height in picas, with sheets that take so many
 abbrev pub height_of : ℕ → Outcome → ℕ
-height_of picas outcome = picas + 9 + stop_picas outcome.stop + (if all_zero outcome.statuses then 0 else 1)
+height_of picas outcome = picas + 4 + stop_picas outcome.stop + (if all_zero outcome.statuses then 0 else 1)
 
 -- the document's size in picas
-unfoldable pub size_svg : ℕ → ℕ → List ℕ
-size_svg width height = document_begin ++ decimal width ++ height_begin ++ decimal height
+unfoldable pub size_svg : ℕ → List ℕ
+size_svg height = document_begin ++ decimal height
 
 -- the same in units
-unfoldable pub units_svg : ℕ → ℕ → List ℕ
-units_svg width height = units_begin ++ decimal (210 * width) ++ units_between ++ decimal (210 * height)
+unfoldable pub units_svg : ℕ → List ℕ
+units_svg height = units_begin ++ decimal (210 * height)
 
 -- the document's head: its size, a piece of continuous paper, and the desk under the sheets
-unfoldable pub head_svg : ℕ → ℕ → List ℕ
-head_svg width height = size_svg width height ++ units_svg width height ++ document_about ++ paper_piece ++ desk
+unfoldable pub head_svg : ℕ → List ℕ
+head_svg height = size_svg height ++ units_svg height ++ document_about ++ paper_piece ++ desk
 
 -- the marks of the papers that are drawn
 abbrev pub drawn_marks : Outcome → Present → List Mark
@@ -272,15 +281,16 @@ drawn_marks outcome drawn =
 unfoldable pub definitions_svg : Shapes → List Mark → List ℕ
 definitions_svg shapes marks = definitions_begin ++ flat_map (definition_svg shapes) (each_once marks) ++ definitions_end
 
--- the picture with the sheets of these printers, side by side, and the lines below them
-unfoldable pub picture_svg : Shapes → Outcome → Present → List ℕ
-picture_svg shapes outcome drawn =
-    head_svg (width_of drawn) (height_of (sheet_picas outcome) outcome)
+-- the picture with the sheets of these printers, printer 4's above printer 5's, and the lines below them; the first row of each is
+-- `top` lines of 1/6 inch below the upper edge of its paper
+unfoldable pub picture_svg : Shapes → (top : ℕ) → Outcome → Present → List ℕ
+picture_svg shapes top outcome drawn =
+    head_svg (height_of (sheets_picas top outcome drawn) outcome)
     ++ definitions_svg shapes (drawn_marks outcome drawn)
-    ++ text_if drawn.four (sheet_svg 4 630 (sheet_picas outcome) outcome.paper4)
-    ++ text_if drawn.five (sheet_svg 5 (if drawn.four then 13860 else 630) (sheet_picas outcome) outcome.paper5)
-    ++ notes_svg (sheet_picas outcome) outcome ++ codes "</svg>\n"
+    ++ text_if drawn.four (sheet_svg top 4 0 outcome.paper4)
+    ++ text_if drawn.five (sheet_svg top 5 (sheet_room drawn.four top outcome.paper4) outcome.paper5)
+    ++ notes_svg (sheets_picas top outcome drawn) outcome ++ codes "</svg>\n"
 
 -- the picture of an outcome whose marks are printed in these shapes
-abbrev pub svg_of : Shapes → Outcome → Present → List ℕ
-svg_of shapes outcome present = picture_svg shapes outcome (drawn_of outcome present)
+abbrev pub svg_of : Shapes → (top : ℕ) → Outcome → Present → List ℕ
+svg_of shapes top outcome present = picture_svg shapes top outcome (drawn_of outcome present)

@@ -1,10 +1,11 @@
 //! What shows in the 80 columns of a line.
 
-ghost use Rattle.std.specs.Prelude.{◌≡◌, ◌≤◌, ◌++◌, encode_utf8, slice_index_or, OnOk};
-ghost use Rattle.pr_render.specs.Plain.{columns_text, darker, empty_column, ink_of, line_text, paint_cell, paint_mark, painted, put, seen_in, shade_of, showing, shown};
+ghost use Rattle.std.specs.Prelude.{◌≡◌, ◌≤◌, ◌++◌, false, List, encode_utf8, replicate, slice_index_or, IfOk, OnOk};
+ghost use Rattle.pr_render.specs.Plain.{Sign, beside, darker, empty_column, ink_of, is_bare, line_text, paint_cell, paint_mark, painted, put, seen_in, shade_of, showing, shown, sign_of, trimmed, turned, written};
 
 use crate::adding::{is_blank, push_blanks};
 use crate::characters::character;
+use crate::format::Look;
 use pr_page::{Mark, Placed};
 use std::alloc::AllocError;
 use std::marker::Model;
@@ -12,10 +13,27 @@ use std::marker::Model;
 /// The columns of a line: six of the 480 dots each.
 const COLUMNS: usize = 80;
 
-/// What is seen in a column: a character, and over it this many dots. Contracts see a `Column`.
+/// A character, in the terminal's reverse video or not. Contracts see a `Sign`.
+#[derive(Clone, Copy)]
+struct Glyph {
+    character: char,
+    video: bool,
+}
+
+impl Model for Glyph {
+    ghost use Rattle.pr_render.specs.Plain.{Sign};
+
+    ghost Value = { Sign };
+
+    ghost view = { λ s. record { code_point = s.character; video = s.video } };
+
+    ghost inverse = { λ s. record { character = s.code_point; video = s.video } };
+}
+
+/// What is seen in a column: a sign, and over it this many dots. Contracts see a `Column`.
 #[derive(Clone, Copy)]
 struct Seen {
-    character: char,
+    sign: Glyph,
     dots: u32,
 }
 
@@ -24,26 +42,54 @@ impl Model for Seen {
 
     ghost Value = { Column };
 
-    ghost view = { λ s. record { code_point = s.character; dots = s.dots } };
+    ghost view = { λ s. record { sign = s.sign; dots = s.dots } };
 
-    ghost inverse = { λ c. record { character = c.code_point; dots = c.dots } };
+    ghost inverse = { λ c. record { sign = c.sign; dots = c.dots } };
 }
 
-/// A character alone in a column.
-fn showing(character: char) -> Seen
-    ensures { result ≡ showing character }
+/// A character that is not in reverse video.
+fn sign_of(character: char) -> Glyph
+    ensures { result ≡ sign_of character }
 {
-    Seen { character, dots: 0 }
+    Glyph {
+        character,
+        video: false,
+    }
 }
 
-/// A cell's character, and a full block where a blank is reversed (profile).
-fn shown(reverse: bool, character: char) -> char
-    ensures { result ≡ shown reverse character }
+/// A sign alone in a column.
+fn showing(sign: Glyph) -> Seen
+    ensures { result ≡ showing sign }
 {
-    if reverse && is_blank(character) {
-        '\u{2588}'
-    } else {
-        character
+    Seen { sign, dots: 0 }
+}
+
+/// A cell's sign: a reversed cell is in reverse video, or else a full block where it is a blank (profile).
+fn shown(look: Look, reverse: bool, character: char) -> Glyph
+    ensures { result ≡ shown look reverse character }
+{
+    match look {
+        Look::Blocks => {
+            if reverse && is_blank(character) {
+                sign_of('\u{2588}')
+            } else {
+                sign_of(character)
+            }
+        }
+        Look::Video => Glyph {
+            character,
+            video: reverse,
+        },
+    }
+}
+
+/// The sign beside that of a wide cell: no block parts the letters of a word (profile).
+fn beside(look: Look, reverse: bool, character: char) -> Glyph
+    ensures { result ≡ beside look reverse character }
+{
+    match look {
+        Look::Blocks => shown(look, reverse && is_blank(character), ' '),
+        Look::Video => shown(look, reverse, ' '),
     }
 }
 
@@ -73,7 +119,7 @@ fn darker(ink: u32, seen: Seen) -> Seen
         42
     };
     Seen {
-        character: seen.character,
+        sign: seen.sign,
         dots,
     }
 }
@@ -94,28 +140,39 @@ fn column_at(columns: &[Seen], place: usize) -> Seen
     if place < columns.len() {
         columns[place]
     } else {
-        showing(' ')
+        showing(sign_of(' '))
     }
 }
 
 /// Lays a cell over what shows; a blank that is not reversed changes nothing (profile).
-fn paint_cell(columns: &mut [Seen], place: usize, character: char, reverse: bool, wide: bool)
+fn paint_cell(
+    columns: &mut [Seen],
+    look: Look,
+    place: usize,
+    character: char,
+    reverse: bool,
+    wide: bool,
+)
     requires { place ≤ 100000 }
-    ensures { columns.new ≡ paint_cell place character reverse wide columns.old }
+    ensures { columns.new ≡ paint_cell look place character reverse wide columns.old }
 {
     if !reverse && is_blank(character) {
         return;
     }
     if wide {
-        put(columns, place + 1, showing(shown(reverse, ' ')));
+        put(
+            columns,
+            place + 1,
+            showing(beside(look, reverse, character)),
+        );
     }
-    put(columns, place, showing(shown(reverse, character)));
+    put(columns, place, showing(shown(look, reverse, character)));
 }
 
 /// Lays a mark over what shows.
-fn paint_mark(columns: &mut [Seen], place: usize, mark: Mark)
+fn paint_mark(columns: &mut [Seen], look: Look, place: usize, mark: Mark)
     requires { place ≤ 100000 }
-    ensures { columns.new ≡ paint_mark place mark columns.old }
+    ensures { columns.new ≡ paint_mark look place mark columns.old }
 {
     match mark {
         Mark::Cell {
@@ -123,7 +180,7 @@ fn paint_mark(columns: &mut [Seen], place: usize, mark: Mark)
             lower,
             reverse,
             wide,
-        } => paint_cell(columns, place, character(code, lower), reverse, wide),
+        } => paint_cell(columns, look, place, character(code, lower), reverse, wide),
         Mark::Dots(value) => {
             let seen = darker(ink_of(value), column_at(columns, place));
             put(columns, place, seen);
@@ -132,11 +189,11 @@ fn paint_mark(columns: &mut [Seen], place: usize, mark: Mark)
 }
 
 /// Lays marks over what shows, in their order.
-fn paint(columns: &mut [Seen], marks: &[Placed])
-    ensures { columns.new ≡ painted columns.old marks.now }
+fn paint(columns: &mut [Seen], look: Look, marks: &[Placed])
+    ensures { columns.new ≡ painted look columns.old marks.now }
 {
     for placed in marks {
-        paint_mark(columns, usize::from(placed.x / 6), placed.mark);
+        paint_mark(columns, look, usize::from(placed.x / 6), placed.mark);
     }
 }
 
@@ -155,14 +212,33 @@ fn shade_of(dots: u32) -> char
     }
 }
 
-/// The character of a column.
-fn seen_in(seen: Seen) -> char
+/// The sign of a column.
+fn seen_in(seen: Seen) -> Glyph
     ensures { result ≡ seen_in seen }
 {
     if seen.dots == 0 {
-        seen.character
+        seen.sign
     } else {
-        shade_of(seen.dots)
+        sign_of(shade_of(seen.dots))
+    }
+}
+
+/// Whether nothing is seen of a sign.
+fn is_bare(sign: Glyph) -> bool
+    ensures { result ≡ is_bare sign }
+{
+    !sign.video && sign.character == ' '
+}
+
+/// Begins the terminal's reverse video or ends it, where it has to change.
+#[tactic(auto, unfolding(crate::specs::Plain::turned))]
+fn push_turn(text: &mut Vec<u8>, look: Look, on: bool, wanted: bool) -> Result<(), AllocError>
+    ensures { OnOk result (text.new.items ≡ text.old.items ++ turned look on wanted) }
+{
+    match (look, on, wanted) {
+        (Look::Video, false, true) => text.extend_from_slice(b"\x1b[7m"),
+        (Look::Video, true, false) => text.extend_from_slice(b"\x1b[27m"),
+        _ => Ok(()),
     }
 }
 
@@ -174,35 +250,61 @@ fn push_character(text: &mut Vec<u8>, character: char) -> Result<(), AllocError>
     text.extend_from_slice(character.encode_utf8(&mut buffer).as_bytes())
 }
 
-/// Adds columns without the blanks at the end.
-fn push_columns(text: &mut Vec<u8>, columns: &[Seen]) -> Result<(), AllocError>
-    ensures { OnOk result (text.new.items ≡ text.old.items ++ columns_text 0 columns.now) }
+/// Adds blanks, none of which is in reverse video, and gives whether that is on after them.
+fn push_blank_signs(
+    text: &mut Vec<u8>,
+    look: Look,
+    on: bool,
+    blanks: u64,
+) -> Result<bool, AllocError>
+    ensures { IfOk result (λ later. (rest : List Sign) → text.new.items ++ written look later rest
+        ≡ text.old.items ++ written look on (replicate blanks (sign_of 32) ++ rest)) }
 {
+    if blanks == 0 {
+        return Ok(on);
+    }
+    push_turn(text, look, on, false)?;
+    push_blanks(text, blanks)?;
+    Ok(false)
+}
+
+/// Adds a sign.
+fn push_sign(text: &mut Vec<u8>, look: Look, on: bool, sign: Glyph) -> Result<(), AllocError>
+    ensures { OnOk result (text.new.items ≡ text.old.items ++ (turned look on sign.video ++ encode_utf8 sign.code_point)) }
+{
+    push_turn(text, look, on, sign.video)?;
+    push_character(text, sign.character)
+}
+
+/// Adds the signs of columns without the blanks at the end.
+fn push_columns(text: &mut Vec<u8>, look: Look, columns: &[Seen]) -> Result<(), AllocError>
+    ensures { OnOk result (text.new.items ≡ text.old.items ++ written look false (trimmed 0 columns.now)) }
+{
+    let mut on = false;
     let mut blanks = 0;
     for column in columns {
-        let character = seen_in(*column);
-        if character == ' ' {
+        let sign = seen_in(*column);
+        if is_bare(sign) {
             blanks += 1;
         } else {
-            push_blanks(text, blanks)?;
-            push_character(text, character)?;
+            on = push_blank_signs(text, look, on, blanks)?;
+            push_sign(text, look, on, sign)?;
+            on = sign.video;
             blanks = 0;
         }
     }
-    Ok(())
+    push_turn(text, look, on, false)
 }
 
 /// Adds a line of marks (profile).
 #[tactic(auto, unfolding(crate::specs::Plain::line_text))]
-pub fn push_line(text: &mut Vec<u8>, marks: &[Placed]) -> Result<(), AllocError>
-    ensures { OnOk result (text.new.items ≡ text.old.items ++ line_text marks.now) }
+pub fn push_line(text: &mut Vec<u8>, look: Look, marks: &[Placed]) -> Result<(), AllocError>
+    ensures { OnOk result (text.new.items ≡ text.old.items ++ line_text look marks.now) }
 {
-    let mut columns = [Seen {
-        character: ' ',
-        dots: 0,
-    }; COLUMNS];
-    paint(&mut columns, marks);
-    push_columns(text, &columns)?;
+    let empty = showing(sign_of(' '));
+    let mut columns = [empty; COLUMNS];
+    paint(&mut columns, look, marks);
+    push_columns(text, look, &columns)?;
     text.push(b'\n')?;
     Ok(())
 }

@@ -1,7 +1,7 @@
 //! Which marks have been defined.
 
 ghost use Rattle.std.specs.Prelude.{◌≡◌, false, ◌∷◌, [], flat_map, if◌then◌else◌, replicate, IfOk, OnOk};
-ghost use Rattle.pr_dots.specs.Sheets.{is_on, rows_on};
+ghost use Rattle.pr_dots.specs.Sheets.{is_on, lowered_row, lowered_rows, rows_on};
 ghost use Rattle.pr_render.specs.Defined.{HasDefined, marks_on};
 ghost use Rattle.pr_render.specs.Svg.{marks_of};
 
@@ -88,12 +88,13 @@ impl Defined {
         &mut self,
         text: &mut Vec<u8>,
         shapes: &Shapes,
+        above: u8,
         sheet: u64,
         row: &Row,
     ) -> Result<(), AllocError>
-        ensures { OnOk result (HasDefined shapes.now (if is_on sheet row.now then marks_on row.now.marks else []) text.old.items self.old text.new.items self.new) }
+        ensures { OnOk result (HasDefined shapes.now (if is_on sheet (lowered_row above row.now) then marks_on row.now.marks else []) text.old.items self.old text.new.items self.new) }
     {
-        if !is_on(sheet, row) {
+        if !is_on(above, sheet, row) {
             return Ok(());
         }
         self.define_all(text, shapes, row.marks.as_slice())
@@ -105,13 +106,14 @@ impl Defined {
         &mut self,
         text: &mut Vec<u8>,
         shapes: &Shapes,
+        above: u8,
         sheet: u64,
         rows: &[Row],
     ) -> Result<(), AllocError>
-        ensures { OnOk result (HasDefined shapes.now (marks_on (flat_map (λ r. r.marks) (rows_on sheet rows.now))) text.old.items self.old text.new.items self.new) }
+        ensures { OnOk result (HasDefined shapes.now (marks_on (flat_map (λ r. r.marks) (rows_on sheet (lowered_rows above rows.now)))) text.old.items self.old text.new.items self.new) }
     {
         for row in rows {
-            self.define_row(text, shapes, sheet, row)?;
+            self.define_row(text, shapes, above, sheet, row)?;
         }
         Ok(())
     }

@@ -3,35 +3,23 @@
 //! (profile).
 
 ghost use Rattle.std.specs.Prelude.{◌≡◌, ◌+◌, ◌*◌, ◌≤◌, ◌++◌, flat_map, OnOk, IfOk};
-ghost use Rattle.pr_render.specs.Sheets.{joined, picture_back, picture_front, second_x};
-ghost use Rattle.pr_render.specs.Svg.{definition_svg, definitions_svg, drawn_marks, drawn_of, each_once, has_printed, head_svg, height_of, picture_svg, sheet_picas, size_svg, svg_of, units_svg, width_of};
+ghost use Rattle.pr_render.specs.Sheets.{joined, picture_back, picture_front};
+ghost use Rattle.pr_render.specs.Svg.{definition_svg, definitions_svg, drawn_marks, drawn_of, each_once, has_printed, head_svg, height_of, picture_svg, sheets_picas, size_svg, svg_of, units_svg};
 
-use crate::adding::{push_number, push_small};
+use crate::adding::push_number;
 use crate::defined::Defined;
 use crate::notes::{all_zero, push_notes, stop_picas};
 use crate::parts::{
-    definitions_begin, definitions_end, desk, document_about, document_begin, height_begin,
-    paper_piece, units_begin, units_between,
+    definitions_begin, definitions_end, desk, document_about, document_begin, paper_piece,
+    units_begin,
 };
-use crate::sheets::{move_sheet_if, paper_end, push_sheet_if};
+use crate::sheets::{move_sheet_if, push_sheet_if, sheet_room};
 use crate::texts::Texts;
 use pr_dots::Shapes;
 use pr_page::{NoMemory, Paper};
 use pr_serial::Present;
 use pr_system::Outcome;
 use std::alloc::{AllocError, Global};
-
-/// The length of both sheets in picas: half an inch above and below the longer paper, in whole half
-/// inches, so that the holes come out even (profile).
-fn sheet_picas(outcome: &Outcome) -> u128
-    ensures picas { result ≡ sheet_picas outcome.now }
-    ensures within { result ≤ 18446744073709551678 }
-{
-    let end4 = paper_end(&outcome.paper4);
-    let end5 = paper_end(&outcome.paper5);
-    let end = if end4 < end5 { end5 } else { end4 };
-    3 * ((end + 188) / 63)
-}
 
 /// Whether something was printed, or is held.
 fn has_printed(paper: &Paper) -> bool
@@ -53,61 +41,55 @@ pub fn drawn_of(outcome: &Outcome, present: Present) -> Present
     }
 }
 
-/// The document's width in picas.
-fn width_of(drawn: Present) -> u64
-    ensures width { result ≡ width_of drawn }
-    ensures within { result ≤ 129 }
+/// How much the sheets of these printers take, in picas.
+fn sheets_picas(top: u8, outcome: &Outcome, drawn: Present) -> u128
+    ensures picas { result ≡ sheets_picas top outcome.now drawn }
+    ensures within { result ≤ 36893488147419103366 }
 {
-    if drawn.four && drawn.five { 129 } else { 66 }
+    sheet_room(drawn.four, top, &outcome.paper4) + sheet_room(drawn.five, top, &outcome.paper5)
 }
 
-/// The document's height in picas.
+/// The document's height in picas, with sheets that take so many.
 fn height_of(picas: u128, outcome: &Outcome) -> u128
-    requires { picas ≤ 18446744073709551678 }
+    requires { picas ≤ 36893488147419103366 }
     ensures height { result ≡ height_of picas outcome.now }
-    ensures within { result ≤ 18446744073709551689 }
+    ensures within { result ≤ 36893488147419103372 }
 {
     let statuses = if all_zero(outcome.statuses.as_slice()) {
         0
     } else {
         1
     };
-    picas + 9 + stop_picas(outcome.stop) + statuses
+    picas + 4 + stop_picas(outcome.stop) + statuses
 }
 
 /// Adds the document's size in picas.
 #[tactic(auto, unfolding(crate::specs::Svg::size_svg))]
-fn push_size(text: &mut Vec<u8>, width: u64, height: u128) -> Result<(), AllocError>
-    ensures { OnOk result (text.new.items ≡ text.old.items ++ size_svg width height) }
+fn push_size(text: &mut Vec<u8>, height: u128) -> Result<(), AllocError>
+    ensures { OnOk result (text.new.items ≡ text.old.items ++ size_svg height) }
 {
     text.extend_from_slice(document_begin())?;
-    push_small(text, width)?;
-    text.extend_from_slice(height_begin())?;
     push_number(text, height)
 }
 
 /// Adds the document's size in units.
 #[tactic(auto, unfolding(crate::specs::Svg::units_svg))]
-fn push_units(text: &mut Vec<u8>, width: u64, height: u128) -> Result<(), AllocError>
-    requires width { width ≤ 129 }
-    requires height { height ≤ 18446744073709551689 }
-    ensures { OnOk result (text.new.items ≡ text.old.items ++ units_svg width height) }
+fn push_units(text: &mut Vec<u8>, height: u128) -> Result<(), AllocError>
+    requires { height ≤ 36893488147419103372 }
+    ensures { OnOk result (text.new.items ≡ text.old.items ++ units_svg height) }
 {
     text.extend_from_slice(units_begin())?;
-    push_small(text, 210 * width)?;
-    text.extend_from_slice(units_between())?;
     push_number(text, 210 * height)
 }
 
 /// Adds the document's head.
 #[tactic(auto, unfolding(crate::specs::Svg::head_svg))]
-fn push_head(text: &mut Vec<u8>, width: u64, height: u128) -> Result<(), AllocError>
-    requires width { width ≤ 129 }
-    requires height { height ≤ 18446744073709551689 }
-    ensures { OnOk result (text.new.items ≡ text.old.items ++ head_svg width height) }
+fn push_head(text: &mut Vec<u8>, height: u128) -> Result<(), AllocError>
+    requires { height ≤ 36893488147419103372 }
+    ensures { OnOk result (text.new.items ≡ text.old.items ++ head_svg height) }
 {
-    push_size(text, width, height)?;
-    push_units(text, width, height)?;
+    push_size(text, height)?;
+    push_units(text, height)?;
     text.extend_from_slice(document_about())?;
     text.extend_from_slice(paper_piece())?;
     text.extend_from_slice(desk())
@@ -150,33 +132,23 @@ fn push_front(
     text: &mut Vec<u8>,
     alloc: Global,
     shapes: &Shapes,
+    top: u8,
     outcome: &Outcome,
     drawn: Present,
 ) -> Result<(), AllocError>
-    ensures { OnOk result (text.new.items ≡ text.old.items ++ picture_front shapes.now outcome.now drawn) }
+    ensures { OnOk result (text.new.items ≡ text.old.items ++ picture_front shapes.now top outcome.now drawn) }
 {
-    push_head(
-        text,
-        width_of(drawn),
-        height_of(sheet_picas(outcome), outcome),
-    )?;
+    push_head(text, height_of(sheets_picas(top, outcome, drawn), outcome))?;
     push_definitions(text, alloc, shapes, outcome, drawn)
 }
 
 /// Adds the rest of the document after its sheets.
 fn push_back(text: &mut Vec<u8>, picas: u128, outcome: &Outcome) -> Result<(), AllocError>
-    requires { picas ≤ 18446744073709551678 }
+    requires { picas ≤ 36893488147419103366 }
     ensures { OnOk result (text.new.items ≡ text.old.items ++ picture_back picas outcome.now) }
 {
     push_notes(text, picas, outcome)?;
     text.extend_from_slice(b"</svg>\n")
-}
-
-/// Where printer 5's sheet begins, in units from the left.
-fn second_x(drawn: Present) -> u64
-    ensures { result ≡ second_x drawn }
-{
-    if drawn.four { 13860 } else { 630 }
 }
 
 /// Adds the picture of these printers.
@@ -185,17 +157,18 @@ fn push_picture(
     text: &mut Vec<u8>,
     alloc: Global,
     shapes: &Shapes,
+    top: u8,
     outcome: &Outcome,
     drawn: Present,
 ) -> Result<(), AllocError>
-    ensures { OnOk result (text.new.items ≡ text.old.items ++ picture_svg shapes.now outcome.now drawn) }
+    ensures { OnOk result (text.new.items ≡ text.old.items ++ picture_svg shapes.now top outcome.now drawn) }
 {
     let texts = Texts::new(alloc)?;
-    let picas = sheet_picas(outcome);
-    let five = second_x(drawn);
-    push_front(text, alloc, shapes, outcome, drawn)?;
-    push_sheet_if(text, &texts, drawn.four, 4, 630, picas, &outcome.paper4)?;
-    push_sheet_if(text, &texts, drawn.five, 5, five, picas, &outcome.paper5)?;
+    let picas = sheets_picas(top, outcome, drawn);
+    let above = sheet_room(drawn.four, top, &outcome.paper4);
+    push_front(text, alloc, shapes, top, outcome, drawn)?;
+    push_sheet_if(text, &texts, drawn.four, top, 4, 0, &outcome.paper4)?;
+    push_sheet_if(text, &texts, drawn.five, top, 5, above, &outcome.paper5)?;
     push_back(text, picas, outcome)
 }
 
@@ -205,29 +178,31 @@ fn move_picture(
     blocks: &mut Vec<Vec<u8>>,
     alloc: Global,
     shapes: &Shapes,
+    top: u8,
     outcome: Outcome,
     drawn: Present,
 ) -> Result<(), AllocError>
-    ensures { OnOk result (joined blocks.new.items ≡ joined blocks.old.items ++ picture_svg shapes.now outcome drawn) }
+    ensures { OnOk result (joined blocks.new.items ≡ joined blocks.old.items ++ picture_svg shapes.now top outcome drawn) }
 {
     let texts = Texts::new(alloc)?;
-    let picas = sheet_picas(&outcome);
-    let five = second_x(drawn);
+    let picas = sheets_picas(top, &outcome, drawn);
+    let above = sheet_room(drawn.four, top, &outcome.paper4);
     let mut front = Vec::new(alloc);
-    push_front(&mut front, alloc, shapes, &outcome, drawn)?;
+    push_front(&mut front, alloc, shapes, top, &outcome, drawn)?;
     let mut back = Vec::new(alloc);
     push_back(&mut back, picas, &outcome)?;
     let Outcome { paper4, paper5, .. } = outcome;
     blocks.push(front)?;
-    move_sheet_if(blocks, alloc, &texts, drawn.four, 4, 630, picas, paper4)?;
-    move_sheet_if(blocks, alloc, &texts, drawn.five, 5, five, picas, paper5)?;
+    move_sheet_if(blocks, alloc, &texts, drawn.four, top, 4, 0, paper4)?;
+    move_sheet_if(blocks, alloc, &texts, drawn.five, top, 5, above, paper5)?;
     blocks.push(back)?;
     Ok(())
 }
 
 /// Draws an outcome as an SVG document: the sheets of the printers that are present and have
-/// printed, side by side, with their names above, and below them the stop and the first statuses
-/// that are not 0. If no printer has printed, the sheets of all that are present are drawn.
+/// printed, printer 4's above printer 5's, each with its name above it, and below them the stop and the first statuses
+/// that are not 0. If no printer has printed, the sheets of all that are present are drawn. The first row of each is `top`
+/// lines of 1/6 inch below the upper edge of its paper, and there is a fold every 11 inches from that edge on.
 ///
 /// Each dot is a disc at its place, and the characters have these shapes; their letters can be
 /// searched and copied. Marks that are held are drawn pale, below a line that says so.
@@ -238,16 +213,18 @@ fn move_picture(
 pub fn svg(
     alloc: Global,
     shapes: &Shapes,
+    top: u8,
     outcome: &Outcome,
     present: Present,
 ) -> Result<Vec<u8>, NoMemory>
-    ensures { IfOk result (λ text. text.items ≡ svg_of shapes.now outcome.now present) }
+    ensures { IfOk result (λ text. text.items ≡ svg_of shapes.now top outcome.now present) }
 {
     let mut text = Vec::new(alloc);
     push_picture(
         &mut text,
         alloc,
         shapes,
+        top,
         outcome,
         drawn_of(outcome, present),
     )?;
@@ -263,13 +240,14 @@ pub fn svg(
 pub fn svg_blocks(
     alloc: Global,
     shapes: &Shapes,
+    top: u8,
     outcome: Outcome,
     present: Present,
 ) -> Result<Vec<Vec<u8>>, NoMemory>
-    ensures { IfOk result (λ blocks. flat_map (λ b. b.items) blocks.items ≡ svg_of shapes.now outcome present) }
+    ensures { IfOk result (λ blocks. flat_map (λ b. b.items) blocks.items ≡ svg_of shapes.now top outcome present) }
 {
     let drawn = drawn_of(&outcome, present);
     let mut blocks = Vec::new(alloc);
-    move_picture(&mut blocks, alloc, shapes, outcome, drawn)?;
+    move_picture(&mut blocks, alloc, shapes, top, outcome, drawn)?;
     Ok(blocks)
 }

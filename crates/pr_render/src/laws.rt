@@ -31,9 +31,9 @@ pub fn sheets_tell_rows()
     ensures { SheetsTellRows }
 {}
 
-/// Laws: in the line of its row a cell shows its character (a reversed blank a full block) at the column of its
-/// place, and a wide cell a blank (reversed a full block) at the next one, if no later mark of its row reaches that
-/// column. The line is the row's own: one for each row above it, and one for each line of text for which there is
+/// Laws: in the line of its row a cell shows its character at the column of its place, and a wide cell a blank at the next one, if
+/// no later mark of its row reaches that column. A reversed cell shows both in the terminal's reverse video; in lines without it
+/// a reversed blank shows full blocks. The line is the row's own: one for each row above it, and one for each line of text for which there is
 /// room above a row, come before it. Held marks show so in the line under their heading.
 pub fn lines_show_each_cell()
     ensures cells { LinesShowEachCell }

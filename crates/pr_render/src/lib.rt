@@ -33,6 +33,6 @@ mod uses;
 pub use adding::push_small;
 pub use characters::character;
 pub use drawing::{drawn_of, svg, svg_blocks};
-pub use format::{Device, Format, Part};
+pub use format::{Device, Format, Layout, Look, Part, Size};
 pub use plain::text;
 pub use single::sheet_svg;

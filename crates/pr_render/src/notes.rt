@@ -85,14 +85,14 @@ fn push_statuses(text: &mut Vec<u8>, statuses: &[u8]) -> Result<(), AllocError>
     text.extend_from_slice(b"</tspan>\n")
 }
 
-/// Adds the lines below the sheets.
+/// Adds the lines below the sheets, which take so many picas.
 #[tactic(auto, unfolding(crate::specs::Svg::notes_svg))]
 pub fn push_notes(text: &mut Vec<u8>, picas: u128, outcome: &Outcome) -> Result<(), AllocError>
-    requires { picas ≤ 18446744073709551678 }
+    requires { picas ≤ 36893488147419103366 }
     ensures { OnOk result (text.new.items ≡ text.old.items ++ notes_svg picas outcome.now) }
 {
     text.extend_from_slice(notes_begin())?;
-    push_number(text, 210 * (picas + 6))?;
+    push_number(text, 210 * (picas + 1))?;
     text.extend_from_slice(b")\">\n")?;
     push_stop(text, outcome.stop)?;
     push_statuses(text, outcome.statuses.as_slice())?;

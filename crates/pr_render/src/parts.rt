@@ -5,38 +5,22 @@
 //! an inch long, so its size does not grow with the page.
 
 ghost use Rattle.std.specs.Prelude.{◌≡◌, ◌≤◌, length};
-ghost use Rattle.pr_render.specs.Parts.{definitions_begin, definitions_end, desk, document_about, document_begin, height_begin, held_begin, held_note, ink_begin, letters_fitted, letters_width, mark_begin, mark_path, notes_begin, paper_folds, paper_piece, row_begin, sheet_end, sheet_marks, sheet_name, sheet_paper, single_begin, single_end, single_marks, single_paper, single_size, status_begin, stop_begin, text_end, units_begin, units_between, use_begin, use_end, use_place};
+ghost use Rattle.pr_render.specs.Parts.{definitions_begin, definitions_end, desk, document_about, document_begin, held_begin, held_note, ink_begin, letters_fitted, letters_width, mark_begin, mark_path, notes_begin, paper_folds, paper_piece, row_begin, sheet_begin, sheet_end, sheet_marks, sheet_name, sheet_paper, single_begin, single_end, single_marks, single_paper, single_size, status_begin, stop_begin, text_end, units_begin, use_begin, use_end, use_place};
 
-/// The document's first tag, up to its width.
+/// The document's first tag, 11 inches wide, up to its height in picas.
 #[tactic(auto, unfolding(crate::specs::Parts::document_begin))]
 pub fn document_begin() -> &'static [u8]
     ensures { result.now ≡ document_begin }
 {
-    b"<svg xmlns=\"http://www.w3.org/2000/svg\" version=\"1.1\" width=\""
+    b"<svg xmlns=\"http://www.w3.org/2000/svg\" version=\"1.1\" width=\"66pc\" height=\""
 }
 
-/// Between the document's width and height.
-#[tactic(auto, unfolding(crate::specs::Parts::height_begin))]
-pub fn height_begin() -> &'static [u8]
-    ensures { result.now ≡ height_begin }
-{
-    b"pc\" height=\""
-}
-
-/// Between its size in picas and its size in units.
+/// Between its height in picas and its height in units.
 #[tactic(auto, unfolding(crate::specs::Parts::units_begin))]
 pub fn units_begin() -> &'static [u8]
     ensures { result.now ≡ units_begin }
 {
-    b"pc\" viewBox=\"0 0 "
-}
-
-/// Between its width and height in units.
-#[tactic(auto, unfolding(crate::specs::Parts::units_between))]
-pub fn units_between() -> &'static [u8]
-    ensures { result.now ≡ units_between }
-{
-    b" "
+    b"pc\" viewBox=\"0 0 13860 "
 }
 
 /// The rest of that tag, and what the picture shows.
@@ -52,7 +36,7 @@ pub fn document_about() -> &'static [u8]
 pub fn paper_piece() -> &'static [u8]
     ensures { result.now ≡ paper_piece }
 {
-    b"<pattern id=\"paper\" width=\"12600\" height=\"630\" patternUnits=\"userSpaceOnUse\"><rect width=\"12600\" height=\"630\" fill=\"#fff\"/><g fill=\"#e9e6df\" stroke=\"#b4afa2\" stroke-width=\"10\"><circle cx=\"315\" cy=\"315\" r=\"100\"/><circle cx=\"12285\" cy=\"315\" r=\"100\"/><path stroke-dasharray=\"35\" d=\"M630 0v630M11970 0v630\"/></g></pattern>\n<pattern id=\"folds\" y=\"7560\" width=\"12600\" height=\"13860\" patternUnits=\"userSpaceOnUse\"><path stroke=\"#b4afa2\" stroke-width=\"10\" stroke-dasharray=\"70\" d=\"M0 6930h12600\"/></pattern>\n"
+    b"<pattern id=\"paper\" width=\"12600\" height=\"630\" patternUnits=\"userSpaceOnUse\"><rect width=\"12600\" height=\"630\" fill=\"#fff\"/><g fill=\"#e9e6df\" stroke=\"#b4afa2\" stroke-width=\"10\"><circle cx=\"315\" cy=\"315\" r=\"100\"/><circle cx=\"12285\" cy=\"315\" r=\"100\"/><path stroke-dasharray=\"35\" d=\"M630 0v630M11970 0v630\"/></g></pattern>\n<pattern id=\"folds\" y=\"6930\" width=\"12600\" height=\"13860\" patternUnits=\"userSpaceOnUse\"><path stroke=\"#b4afa2\" stroke-width=\"10\" stroke-dasharray=\"70\" d=\"M0 6930h12600\"/></pattern>\n"
 }
 
 /// The desk under the sheets.
@@ -79,12 +63,20 @@ pub fn definitions_end() -> &'static [u8]
     b"</defs>\n"
 }
 
+/// A sheet's place, half an inch from the left, up to its distance from the top.
+#[tactic(auto, unfolding(crate::specs::Parts::sheet_begin))]
+pub fn sheet_begin() -> &'static [u8]
+    ensures { result.now ≡ sheet_begin }
+{
+    b"<g transform=\"translate(630 "
+}
+
 /// A sheet's name, up to the printer's number.
 #[tactic(auto, unfolding(crate::specs::Parts::sheet_name))]
 pub fn sheet_name() -> &'static [u8]
     ensures { result.now ≡ sheet_name }
 {
-    b" 1050)\">\n<text font-size=\"210\" fill=\"#555\" y=\"-210\">Printer "
+    b")\">\n<text font-size=\"210\" fill=\"#555\" y=\"-210\">Printer "
 }
 
 /// A sheet's paper, up to its height.
@@ -95,7 +87,7 @@ pub fn sheet_paper() -> &'static [u8]
     b"</text>\n<rect width=\"12600\" height=\""
 }
 
-/// The rest of the paper, and its folds below the first line, up to their height.
+/// The rest of the paper, and its folds from 1 inch below the upper edge on, up to their height.
 #[tactic(auto, unfolding(crate::specs::Parts::paper_folds))]
 pub fn paper_folds() -> &'static [u8]
     ensures { result.now ≡ paper_folds }
@@ -103,20 +95,21 @@ pub fn paper_folds() -> &'static [u8]
     b"\" fill=\"url(#paper)\" stroke=\"#b4afa2\" stroke-width=\"10\"/>\n<rect y=\"1260\" width=\"12600\" height=\""
 }
 
-/// The rest of the folds, and the group of the sheet's marks.
+/// The rest of the folds, and the group of the sheet's marks, up to its distance.
 #[tactic(auto, unfolding(crate::specs::Parts::sheet_marks))]
 pub fn sheet_marks() -> &'static [u8]
     ensures { result.now ≡ sheet_marks }
 {
-    b"\" fill=\"url(#folds)\"/>\n<g transform=\"translate(1260 630)\">\n"
+    b"\" fill=\"url(#folds)\"/>\n<g transform=\"translate(1260 "
 }
 
-/// The marks of a sheet: strokes a little wider than a dot column, and letters that are not seen.
+/// The marks of a sheet: strokes 29 units wide, as far as the place of a dot, 21 by 20, reaches from corner to corner; and letters
+/// that are not seen.
 #[tactic(auto, unfolding(crate::specs::Parts::ink_begin))]
 pub fn ink_begin() -> &'static [u8]
     ensures { result.now ≡ ink_begin }
 {
-    b"<g stroke-width=\"22\" stroke-linecap=\"round\" fill-opacity=\"0\" font-size=\"140\">\n"
+    b"<g stroke-width=\"29\" stroke-linecap=\"round\" fill-opacity=\"0\" font-size=\"140\">\n"
 }
 
 /// A group at a distance.

@@ -3,13 +3,13 @@
 ghost use Rattle.std.specs.Prelude.{◌≡◌, ◌+◌, ◌≤◌, ◌++◌, flat_map, OnOk};
 ghost use Rattle.pr_render.specs.Sheets.{joined, sheet_back, sheet_front};
 ghost use Rattle.pr_render.specs.Words.{text_if};
-ghost use Rattle.pr_render.specs.Svg.{held_line, held_svg, line_svg, name_line, paper_end, paper_svg, row_svg, rows_end, sheet_svg};
+ghost use Rattle.pr_render.specs.Svg.{held_line, held_svg, line_svg, marks_place, name_line, paper_end, paper_svg, row_svg, rows_end, sheet_picas, sheet_room, sheet_svg};
 
 use crate::adding::{push_number, push_small};
 use crate::letters::push_letters;
 use crate::parts::{
-    held_begin, held_note, ink_begin, paper_folds, row_begin, sheet_end, sheet_marks, sheet_name,
-    sheet_paper,
+    held_begin, held_note, ink_begin, paper_folds, row_begin, sheet_begin, sheet_end, sheet_marks,
+    sheet_name, sheet_paper,
 };
 use crate::texts::Texts;
 use crate::uses::push_uses;
@@ -39,7 +39,7 @@ fn rows_end(rows: &[Row]) -> u128
 }
 
 /// Where a paper's marks end.
-pub fn paper_end(paper: &Paper) -> u128
+fn paper_end(paper: &Paper) -> u128
     ensures end { result ≡ paper_end paper.now }
     ensures within { result ≤ 18446744073709551678 }
 {
@@ -48,6 +48,28 @@ pub fn paper_end(paper: &Paper) -> u128
         rows
     } else {
         rows + 42
+    }
+}
+
+/// The length of a sheet in picas: the lines above the first row, its paper and half an inch below it, in whole half inches, so
+/// that the holes come out even (profile).
+fn sheet_picas(top: u8, paper: &Paper) -> u128
+    ensures picas { result ≡ sheet_picas top paper.now }
+    ensures within { result ≤ 18446744073709551678 }
+{
+    3 * ((paper_end(paper) + 21 * u128::from(top) + 125) / 63)
+}
+
+/// How much of the document's height a sheet takes if it is drawn, in picas: 5 above it, for its printer's name, and its
+/// length (profile).
+pub fn sheet_room(drawn: bool, top: u8, paper: &Paper) -> u128
+    ensures room { result ≡ sheet_room drawn top paper.now }
+    ensures within { result ≤ 18446744073709551683 }
+{
+    if drawn {
+        5 + sheet_picas(top, paper)
+    } else {
+        0
     }
 }
 
@@ -60,16 +82,30 @@ fn push_line(text: &mut Vec<u8>, texts: &Texts, marks: &[Placed]) -> Result<(), 
     push_letters(text, texts, marks)
 }
 
-/// Adds a printed line.
+/// Adds a printed line at a distance.
 #[tactic(auto, unfolding(crate::specs::Svg::row_svg))]
-pub fn push_row(text: &mut Vec<u8>, texts: &Texts, row: &Row) -> Result<(), AllocError>
-    ensures { OnOk result (text.new.items ≡ text.old.items ++ row_svg row.now) }
+pub fn push_row_at(
+    text: &mut Vec<u8>,
+    texts: &Texts,
+    y: u128,
+    marks: &[Placed],
+) -> Result<(), AllocError>
+    requires { y ≤ 18446744073709556970 }
+    ensures { OnOk result (text.new.items ≡ text.old.items ++ row_svg (record { y = y; marks = marks.now })) }
 {
     text.extend_from_slice(row_begin())?;
-    push_number(text, 10 * u128::from(row.y))?;
+    push_number(text, 10 * y)?;
     text.extend_from_slice(b")\">\n")?;
-    push_line(text, texts, row.marks.as_slice())?;
+    push_line(text, texts, marks)?;
     text.extend_from_slice(b"</g>\n")
+}
+
+/// Adds a printed line.
+#[tactic(auto, unfolding(crate::specs::Svg::row_svg))]
+fn push_row(text: &mut Vec<u8>, texts: &Texts, row: &Row) -> Result<(), AllocError>
+    ensures { OnOk result (text.new.items ≡ text.old.items ++ row_svg row.now) }
+{
+    push_row_at(text, texts, u128::from(row.y), row.marks.as_slice())
 }
 
 /// Adds rows.
@@ -112,38 +148,55 @@ fn push_held_line(text: &mut Vec<u8>, y: u128, held: &[Placed]) -> Result<(), Al
     text.extend_from_slice(held_note())
 }
 
-/// Adds a sheet's place and the printer's name.
+/// Adds a sheet's place, below others that take so many picas, and the printer's name.
 #[tactic(auto, unfolding(crate::specs::Svg::name_line))]
-fn push_name_line(text: &mut Vec<u8>, device: u64, x: u64) -> Result<(), AllocError>
-    ensures { OnOk result (text.new.items ≡ text.old.items ++ name_line device x) }
+fn push_name_line(text: &mut Vec<u8>, device: u64, above: u128) -> Result<(), AllocError>
+    requires { above ≤ 18446744073709551683 }
+    ensures { OnOk result (text.new.items ≡ text.old.items ++ name_line device above) }
 {
-    text.extend_from_slice(b"<g transform=\"translate(")?;
-    push_small(text, x)?;
+    text.extend_from_slice(sheet_begin())?;
+    push_number(text, 210 * (above + 5))?;
     text.extend_from_slice(sheet_name())?;
     push_small(text, device)
 }
 
-/// Adds a sheet's paper. The fold above the first line is not drawn, since it would touch the
-/// letters.
+/// Adds the beginning of the group of a sheet's marks.
+#[tactic(auto, unfolding(crate::specs::Svg::marks_place))]
+fn push_place(text: &mut Vec<u8>, top: u8) -> Result<(), AllocError>
+    ensures { OnOk result (text.new.items ≡ text.old.items ++ marks_place top) }
+{
+    text.extend_from_slice(sheet_marks())?;
+    push_small(text, 210 * u64::from(top))?;
+    text.extend_from_slice(b")\">\n")
+}
+
+/// Adds a sheet's paper. The fold at its upper edge is that edge.
 #[tactic(auto, unfolding(crate::specs::Svg::paper_svg))]
-fn push_paper(text: &mut Vec<u8>, picas: u128) -> Result<(), AllocError>
+fn push_paper(text: &mut Vec<u8>, top: u8, picas: u128) -> Result<(), AllocError>
     requires { picas ≤ 18446744073709551678 }
-    ensures { OnOk result (text.new.items ≡ text.old.items ++ paper_svg picas) }
+    ensures { OnOk result (text.new.items ≡ text.old.items ++ paper_svg top picas) }
 {
     text.extend_from_slice(sheet_paper())?;
     push_number(text, 210 * picas)?;
     text.extend_from_slice(paper_folds())?;
     push_number(text, 210 * picas.saturating_sub(6))?;
-    text.extend_from_slice(sheet_marks())
+    push_place(text, top)
 }
 
 /// Adds a sheet up to its rows.
-fn push_front(text: &mut Vec<u8>, device: u64, x: u64, picas: u128) -> Result<(), AllocError>
-    requires { picas ≤ 18446744073709551678 }
-    ensures { OnOk result (text.new.items ≡ text.old.items ++ sheet_front device x picas) }
+fn push_front(
+    text: &mut Vec<u8>,
+    top: u8,
+    device: u64,
+    above: u128,
+    picas: u128,
+) -> Result<(), AllocError>
+    requires above { above ≤ 18446744073709551683 }
+    requires picas { picas ≤ 18446744073709551678 }
+    ensures { OnOk result (text.new.items ≡ text.old.items ++ sheet_front top device above picas) }
 {
-    push_name_line(text, device, x)?;
-    push_paper(text, picas)?;
+    push_name_line(text, device, above)?;
+    push_paper(text, top, picas)?;
     text.extend_from_slice(ink_begin())
 }
 
@@ -168,16 +221,16 @@ fn push_back(
 fn push_sheet(
     text: &mut Vec<u8>,
     texts: &Texts,
+    top: u8,
     device: u64,
-    x: u64,
-    picas: u128,
+    above: u128,
     paper: &Paper,
 ) -> Result<(), AllocError>
-    requires { picas ≤ 18446744073709551678 }
-    ensures { OnOk result (text.new.items ≡ text.old.items ++ sheet_svg device x picas paper.now) }
+    requires { above ≤ 18446744073709551683 }
+    ensures { OnOk result (text.new.items ≡ text.old.items ++ sheet_svg top device above paper.now) }
 {
     let rows = paper.rows.as_slice();
-    push_front(text, device, x, picas)?;
+    push_front(text, top, device, above, sheet_picas(top, paper))?;
     push_rows(text, texts, rows)?;
     push_back(text, texts, rows_end(rows), paper.held.as_slice())
 }
@@ -187,16 +240,16 @@ pub fn push_sheet_if(
     text: &mut Vec<u8>,
     texts: &Texts,
     drawn: bool,
+    top: u8,
     device: u64,
-    x: u64,
-    picas: u128,
+    above: u128,
     paper: &Paper,
 ) -> Result<(), AllocError>
-    requires { picas ≤ 18446744073709551678 }
-    ensures { OnOk result (text.new.items ≡ text.old.items ++ text_if drawn (sheet_svg device x picas paper.now)) }
+    requires { above ≤ 18446744073709551683 }
+    ensures { OnOk result (text.new.items ≡ text.old.items ++ text_if drawn (sheet_svg top device above paper.now)) }
 {
     if drawn {
-        push_sheet(text, texts, device, x, picas, paper)?;
+        push_sheet(text, texts, top, device, above, paper)?;
     }
     Ok(())
 }
@@ -244,18 +297,19 @@ fn move_sheet(
     blocks: &mut Vec<Vec<u8>>,
     alloc: Global,
     texts: &Texts,
+    top: u8,
     device: u64,
-    x: u64,
-    picas: u128,
+    above: u128,
     paper: Paper,
 ) -> Result<(), AllocError>
-    requires { picas ≤ 18446744073709551678 }
-    ensures { OnOk result (joined blocks.new.items ≡ joined blocks.old.items ++ sheet_svg device x picas paper) }
+    requires { above ≤ 18446744073709551683 }
+    ensures { OnOk result (joined blocks.new.items ≡ joined blocks.old.items ++ sheet_svg top device above paper) }
 {
+    let picas = sheet_picas(top, &paper);
     let Paper { rows, held } = paper;
     let end = rows_end(rows.as_slice());
     let mut front = Vec::new(alloc);
-    push_front(&mut front, device, x, picas)?;
+    push_front(&mut front, top, device, above, picas)?;
     blocks.push(front)?;
     move_rows(blocks, alloc, texts, rows.into_vec())?;
     let mut back = Vec::new(alloc);
@@ -270,16 +324,16 @@ pub fn move_sheet_if(
     alloc: Global,
     texts: &Texts,
     drawn: bool,
+    top: u8,
     device: u64,
-    x: u64,
-    picas: u128,
+    above: u128,
     paper: Paper,
 ) -> Result<(), AllocError>
-    requires { picas ≤ 18446744073709551678 }
-    ensures { OnOk result (joined blocks.new.items ≡ joined blocks.old.items ++ text_if drawn (sheet_svg device x picas paper)) }
+    requires { above ≤ 18446744073709551683 }
+    ensures { OnOk result (joined blocks.new.items ≡ joined blocks.old.items ++ text_if drawn (sheet_svg top device above paper)) }
 {
     if drawn {
-        move_sheet(blocks, alloc, texts, device, x, picas, paper)?;
+        move_sheet(blocks, alloc, texts, top, device, above, paper)?;
     }
     Ok(())
 }

@@ -4,7 +4,7 @@ use crate::text::joined;
 use pr_dots::Shapes;
 use pr_page::{Mark, Paper, Placed, Row, Sequence};
 use pr_render::laws::{discs_are_the_dots, lines_show_each_cell, names_tell_marks};
-use pr_render::{svg, svg_blocks, text};
+use pr_render::{Look, svg, svg_blocks, text};
 use pr_serial::Present;
 use pr_system::Outcome;
 use std::process::Abort;
@@ -34,7 +34,7 @@ const BEGIN: &str = "<svg xmlns=\"http://www.w3.org/2000/svg\" version=\"1.1\" "
 
 /// What is between its size and the definitions of marks.
 const ABOUT: &str =
-    ">\n<desc>Pages of VIC-1525 printers. Each dot is where the hammer strikes.</desc>\n<pattern id=\"paper\" width=\"12600\" height=\"630\" patternUnits=\"userSpaceOnUse\"><rect width=\"12600\" height=\"630\" fill=\"#fff\"/><g fill=\"#e9e6df\" stroke=\"#b4afa2\" stroke-width=\"10\"><circle cx=\"315\" cy=\"315\" r=\"100\"/><circle cx=\"12285\" cy=\"315\" r=\"100\"/><path stroke-dasharray=\"35\" d=\"M630 0v630M11970 0v630\"/></g></pattern>\n<pattern id=\"folds\" y=\"7560\" width=\"12600\" height=\"13860\" patternUnits=\"userSpaceOnUse\"><path stroke=\"#b4afa2\" stroke-width=\"10\" stroke-dasharray=\"70\" d=\"M0 6930h12600\"/></pattern>\n<rect width=\"100%\" height=\"100%\" fill=\"#e9e6df\"/>\n<defs>\n";
+    ">\n<desc>Pages of VIC-1525 printers. Each dot is where the hammer strikes.</desc>\n<pattern id=\"paper\" width=\"12600\" height=\"630\" patternUnits=\"userSpaceOnUse\"><rect width=\"12600\" height=\"630\" fill=\"#fff\"/><g fill=\"#e9e6df\" stroke=\"#b4afa2\" stroke-width=\"10\"><circle cx=\"315\" cy=\"315\" r=\"100\"/><circle cx=\"12285\" cy=\"315\" r=\"100\"/><path stroke-dasharray=\"35\" d=\"M630 0v630M11970 0v630\"/></g></pattern>\n<pattern id=\"folds\" y=\"6930\" width=\"12600\" height=\"13860\" patternUnits=\"userSpaceOnUse\"><path stroke=\"#b4afa2\" stroke-width=\"10\" stroke-dasharray=\"70\" d=\"M0 6930h12600\"/></pattern>\n<rect width=\"100%\" height=\"100%\" fill=\"#e9e6df\"/>\n<defs>\n";
 
 /// The definition of `A`.
 pub const DEFINED_A: &str =
@@ -61,23 +61,31 @@ const SIZE: &str = "width=\"66pc\" height=\"18pc\" viewBox=\"0 0 13860 3780\"";
 /// Where the first sheet begins.
 const FIRST: &str = "<g transform=\"translate(630 1050)\">\n";
 
-/// Where the second sheet begins.
-const SECOND: &str = "<g transform=\"translate(13860 1050)\">\n";
+/// Where a sheet below it begins.
+const SECOND: &str = "<g transform=\"translate(630 3990)\">\n";
 
 /// The sheet of printer 4 up to the marks of its only row.
 const FOUR_BEGIN: &str =
-    "<text font-size=\"210\" fill=\"#555\" y=\"-210\">Printer 4</text>\n<rect width=\"12600\" height=\"1890\" fill=\"url(#paper)\" stroke=\"#b4afa2\" stroke-width=\"10\"/>\n<rect y=\"1260\" width=\"12600\" height=\"630\" fill=\"url(#folds)\"/>\n<g transform=\"translate(1260 630)\">\n<g stroke-width=\"22\" stroke-linecap=\"round\" fill-opacity=\"0\" font-size=\"140\">\n<g transform=\"translate(0 0)\">\n";
+    "<text font-size=\"210\" fill=\"#555\" y=\"-210\">Printer 4</text>\n<rect width=\"12600\" height=\"1890\" fill=\"url(#paper)\" stroke=\"#b4afa2\" stroke-width=\"10\"/>\n<rect y=\"1260\" width=\"12600\" height=\"630\" fill=\"url(#folds)\"/>\n<g transform=\"translate(1260 630)\">\n<g stroke-width=\"29\" stroke-linecap=\"round\" fill-opacity=\"0\" font-size=\"140\">\n<g transform=\"translate(0 0)\">\n";
 
 /// What follows them.
 const FOUR_END: &str = "</g>\n</g>\n</g>\n</g>\n";
 
 /// The sheet of printer 5, which holds an `a`.
 const FIVE_SHEET: &str =
-    "<text font-size=\"210\" fill=\"#555\" y=\"-210\">Printer 5</text>\n<rect width=\"12600\" height=\"1890\" fill=\"url(#paper)\" stroke=\"#b4afa2\" stroke-width=\"10\"/>\n<rect y=\"1260\" width=\"12600\" height=\"630\" fill=\"url(#folds)\"/>\n<g transform=\"translate(1260 630)\">\n<g stroke-width=\"22\" stroke-linecap=\"round\" fill-opacity=\"0\" font-size=\"140\">\n<g opacity=\".4\" transform=\"translate(0 210)\">\n<use href=\"#l65\" x=\"0\"/>\n<text x=\"0\" y=\"140\" textLength=\"126\" lengthAdjust=\"spacingAndGlyphs\" xml:space=\"preserve\">a</text>\n</g>\n</g>\n<g transform=\"translate(0 0)\">\n<path stroke=\"#a33\" stroke-width=\"20\" stroke-dasharray=\"126\" d=\"M0 60h10080\"/>\n<text font-size=\"120\" fill=\"#a33\" x=\"7350\" y=\"200\">held by the printer, not yet printed</text>\n</g>\n</g>\n</g>\n";
+    "<text font-size=\"210\" fill=\"#555\" y=\"-210\">Printer 5</text>\n<rect width=\"12600\" height=\"1890\" fill=\"url(#paper)\" stroke=\"#b4afa2\" stroke-width=\"10\"/>\n<rect y=\"1260\" width=\"12600\" height=\"630\" fill=\"url(#folds)\"/>\n<g transform=\"translate(1260 630)\">\n<g stroke-width=\"29\" stroke-linecap=\"round\" fill-opacity=\"0\" font-size=\"140\">\n<g opacity=\".4\" transform=\"translate(0 210)\">\n<use href=\"#l65\" x=\"0\"/>\n<text x=\"0\" y=\"140\" textLength=\"126\" lengthAdjust=\"spacingAndGlyphs\" xml:space=\"preserve\">a</text>\n</g>\n</g>\n<g transform=\"translate(0 0)\">\n<path stroke=\"#a33\" stroke-width=\"20\" stroke-dasharray=\"126\" d=\"M0 60h10080\"/>\n<text font-size=\"120\" fill=\"#a33\" x=\"7350\" y=\"200\">held by the printer, not yet printed</text>\n</g>\n</g>\n</g>\n";
 
 /// What is below the sheets.
 const BELOW: &str =
     "<text font-size=\"210\" fill=\"#555\" transform=\"translate(630 3150)\">\n</text>\n</svg>\n";
+
+/// What is below two of them.
+const BELOW_BOTH: &str =
+    "<text font-size=\"210\" fill=\"#555\" transform=\"translate(630 6090)\">\n</text>\n</svg>\n";
+
+/// What there is without a sheet.
+const ALONE: &str =
+    "<text font-size=\"210\" fill=\"#555\" transform=\"translate(630 210)\">\n</text>\n</svg>\n";
 
 /// An `A` as it is drawn, and as it is searched for.
 pub const A: &str = "<use href=\"#u65\" x=\"0\"/>\n";
@@ -93,11 +101,11 @@ const LETTER_EDGE: &str =
 
 /// The sheet with rows at several distances, and what is below it.
 const DISTANCES: &str =
-    "<text font-size=\"210\" fill=\"#555\" y=\"-210\">Printer 4</text>\n<rect width=\"12600\" height=\"3150\" fill=\"url(#paper)\" stroke=\"#b4afa2\" stroke-width=\"10\"/>\n<rect y=\"1260\" width=\"12600\" height=\"1890\" fill=\"url(#folds)\"/>\n<g transform=\"translate(1260 630)\">\n<g stroke-width=\"22\" stroke-linecap=\"round\" fill-opacity=\"0\" font-size=\"140\">\n<g transform=\"translate(0 210)\">\n<use href=\"#u65\" x=\"0\"/>\n<text x=\"0\" y=\"140\" textLength=\"126\" lengthAdjust=\"spacingAndGlyphs\" xml:space=\"preserve\">A</text>\n</g>\n<g transform=\"translate(0 420)\">\n</g>\n<g transform=\"translate(0 560)\">\n<use href=\"#d1\" x=\"0\"/>\n</g>\n<g transform=\"translate(0 1180)\">\n<use href=\"#u66\" x=\"126\"/>\n<text x=\"126\" y=\"140\" textLength=\"126\" lengthAdjust=\"spacingAndGlyphs\" xml:space=\"preserve\">B</text>\n</g>\n<g transform=\"translate(0 1600)\">\n<use href=\"#u67\" x=\"252\"/>\n<text x=\"252\" y=\"140\" textLength=\"126\" lengthAdjust=\"spacingAndGlyphs\" xml:space=\"preserve\">C</text>\n</g>\n</g>\n</g>\n</g>\n<text font-size=\"210\" fill=\"#555\" transform=\"translate(630 4410)\">\n</text>\n</svg>\n";
+    "<text font-size=\"210\" fill=\"#555\" y=\"-210\">Printer 4</text>\n<rect width=\"12600\" height=\"3150\" fill=\"url(#paper)\" stroke=\"#b4afa2\" stroke-width=\"10\"/>\n<rect y=\"1260\" width=\"12600\" height=\"1890\" fill=\"url(#folds)\"/>\n<g transform=\"translate(1260 630)\">\n<g stroke-width=\"29\" stroke-linecap=\"round\" fill-opacity=\"0\" font-size=\"140\">\n<g transform=\"translate(0 210)\">\n<use href=\"#u65\" x=\"0\"/>\n<text x=\"0\" y=\"140\" textLength=\"126\" lengthAdjust=\"spacingAndGlyphs\" xml:space=\"preserve\">A</text>\n</g>\n<g transform=\"translate(0 420)\">\n</g>\n<g transform=\"translate(0 560)\">\n<use href=\"#d1\" x=\"0\"/>\n</g>\n<g transform=\"translate(0 1180)\">\n<use href=\"#u66\" x=\"126\"/>\n<text x=\"126\" y=\"140\" textLength=\"126\" lengthAdjust=\"spacingAndGlyphs\" xml:space=\"preserve\">B</text>\n</g>\n<g transform=\"translate(0 1600)\">\n<use href=\"#u67\" x=\"252\"/>\n<text x=\"252\" y=\"140\" textLength=\"126\" lengthAdjust=\"spacingAndGlyphs\" xml:space=\"preserve\">C</text>\n</g>\n</g>\n</g>\n</g>\n<text font-size=\"210\" fill=\"#555\" transform=\"translate(630 4410)\">\n</text>\n</svg>\n";
 
 /// Two empty sheets, and what is below them.
 const EMPTY: &str =
-    "<g transform=\"translate(630 1050)\">\n<text font-size=\"210\" fill=\"#555\" y=\"-210\">Printer 4</text>\n<rect width=\"12600\" height=\"1260\" fill=\"url(#paper)\" stroke=\"#b4afa2\" stroke-width=\"10\"/>\n<rect y=\"1260\" width=\"12600\" height=\"0\" fill=\"url(#folds)\"/>\n<g transform=\"translate(1260 630)\">\n<g stroke-width=\"22\" stroke-linecap=\"round\" fill-opacity=\"0\" font-size=\"140\">\n</g>\n</g>\n</g>\n<g transform=\"translate(13860 1050)\">\n<text font-size=\"210\" fill=\"#555\" y=\"-210\">Printer 5</text>\n<rect width=\"12600\" height=\"1260\" fill=\"url(#paper)\" stroke=\"#b4afa2\" stroke-width=\"10\"/>\n<rect y=\"1260\" width=\"12600\" height=\"0\" fill=\"url(#folds)\"/>\n<g transform=\"translate(1260 630)\">\n<g stroke-width=\"22\" stroke-linecap=\"round\" fill-opacity=\"0\" font-size=\"140\">\n</g>\n</g>\n</g>\n<text font-size=\"210\" fill=\"#555\" transform=\"translate(630 2520)\">\n</text>\n</svg>\n";
+    "<g transform=\"translate(630 1050)\">\n<text font-size=\"210\" fill=\"#555\" y=\"-210\">Printer 4</text>\n<rect width=\"12600\" height=\"1260\" fill=\"url(#paper)\" stroke=\"#b4afa2\" stroke-width=\"10\"/>\n<rect y=\"1260\" width=\"12600\" height=\"0\" fill=\"url(#folds)\"/>\n<g transform=\"translate(1260 630)\">\n<g stroke-width=\"29\" stroke-linecap=\"round\" fill-opacity=\"0\" font-size=\"140\">\n</g>\n</g>\n</g>\n<g transform=\"translate(630 3360)\">\n<text font-size=\"210\" fill=\"#555\" y=\"-210\">Printer 5</text>\n<rect width=\"12600\" height=\"1260\" fill=\"url(#paper)\" stroke=\"#b4afa2\" stroke-width=\"10\"/>\n<rect y=\"1260\" width=\"12600\" height=\"0\" fill=\"url(#folds)\"/>\n<g transform=\"translate(1260 630)\">\n<g stroke-width=\"29\" stroke-linecap=\"round\" fill-opacity=\"0\" font-size=\"140\">\n</g>\n</g>\n</g>\n<text font-size=\"210\" fill=\"#555\" transform=\"translate(630 4830)\">\n</text>\n</svg>\n";
 
 /// The end of the picture of `each_growth_refused`.
 const GROWN: &str =
@@ -156,12 +164,12 @@ fn printed(rt: &impl AllocGlobal, paper4: Paper, held5: Sequence<Placed>) -> Out
 
 /// The picture of what a run leaves.
 fn drawn(rt: &(impl Abort + AllocGlobal), outcome: &Outcome, present: Present) -> Vec<u8> {
-    svg(rt.alloc(), &Shapes::own(), outcome, present).expect(rt, "memory")
+    svg(rt.alloc(), &Shapes::own(), 3, outcome, present).expect(rt, "memory")
 }
 
 /// Its lines.
 fn said(rt: &(impl Abort + AllocGlobal), outcome: &Outcome, present: Present) -> Vec<u8> {
-    text(rt.alloc(), outcome, present).expect(rt, "memory")
+    text(rt.alloc(), Look::Blocks, outcome, present).expect(rt, "memory")
 }
 
 /// The picture has these parts, and the lines are these.
@@ -254,10 +262,61 @@ fn wide_cell_at_the_edge(rt: HostRuntime) {
     );
 }
 
+/// A reversed cell.
+const fn reversed(x: u16, code: u8, wide: bool) -> Placed {
+    Placed {
+        x,
+        mark: Mark::Cell {
+            code,
+            lower: false,
+            reverse: true,
+            wide,
+        },
+    }
+}
+
+/// Lines for a file have letters as they are, full blocks for reversed blanks, and a blank beside a wide letter; on a terminal all
+/// that is reversed is in reverse video, but for dots over it.
+#[test]
+fn reversed_cells_in_lines(rt: HostRuntime) {
+    const DOTS: Placed = Placed {
+        x: 66,
+        mark: Mark::Dots(127),
+    };
+    let marks = [
+        reversed(0, 72, true),
+        reversed(12, 73, true),
+        reversed(24, 32, true),
+        cell(48, 65, false),
+        reversed(54, 66, false),
+        reversed(60, 32, false),
+        reversed(66, 67, false),
+        DOTS,
+        reversed(78, 160, false),
+    ];
+    let paper4 = paper(&rt, &[(0, &marks)]);
+    let outcome = printed(&rt, paper4, Sequence::new(rt.alloc()));
+    let rows = [
+        (
+            Look::Blocks,
+            "Printer 4\nH I \u{2588}\u{2588}  AB\u{2588}\u{2591} \u{2588}\n",
+        ),
+        (
+            Look::Video,
+            "Printer 4\n\u{1b}[7mH I   \u{1b}[27m  A\u{1b}[7mB \u{1b}[27m\u{2591} \u{1b}[7m\u{a0}\u{1b}[27m\n",
+        ),
+    ];
+    for (look, lines) in rows {
+        let said = text(rt.alloc(), look, &outcome, FOUR).expect(&rt, "memory");
+        assert!(&rt; said.as_slice() == lines.as_bytes(), "{lines}");
+    }
+}
+
 /// A printer that is not there has no sheet, whatever is on its paper.
 #[test]
 fn printers_that_are_there(rt: HostRuntime) {
-    const WIDE: &str = "width=\"129pc\" height=\"18pc\" viewBox=\"0 0 27090 3780\"";
+    const HIGH: &str = "width=\"66pc\" height=\"32pc\" viewBox=\"0 0 13860 6720\"";
+    const LOW: &str = "width=\"66pc\" height=\"4pc\" viewBox=\"0 0 13860 840\"";
     let paper4 = paper(&rt, &[(0, &[cell(0, 65, false)])]);
     let outcome = printed(&rt, paper4, sequence(&rt, &[cell(0, 65, true)]));
     let rows: [(Present, &[&str], &str); 3] = [
@@ -265,7 +324,7 @@ fn printers_that_are_there(rt: HostRuntime) {
             BOTH,
             &[
                 BEGIN,
-                WIDE,
+                HIGH,
                 ABOUT,
                 DEFINED_A,
                 DEFINED_SMALL_A,
@@ -277,7 +336,7 @@ fn printers_that_are_there(rt: HostRuntime) {
                 FOUR_END,
                 SECOND,
                 FIVE_SHEET,
-                BELOW,
+                BELOW_BOTH,
             ],
             "Printer 4\nA\nPrinter 5\nHeld, not yet printed:\na\n",
         ),
@@ -295,7 +354,7 @@ fn printers_that_are_there(rt: HostRuntime) {
             ],
             "Printer 5\nHeld, not yet printed:\na\n",
         ),
-        (NONE, &[BEGIN, SIZE, ABOUT, DEFINED, BELOW], ""),
+        (NONE, &[BEGIN, LOW, ABOUT, DEFINED, ALONE], ""),
     ];
     for (present, parts, lines) in rows {
         shows(&rt, &outcome, present, parts, lines);
@@ -315,7 +374,7 @@ fn printer_beside_one_that_printed(rt: HostRuntime) {
 /// It has one where no other has.
 #[test]
 fn printers_that_printed_nothing(rt: HostRuntime) {
-    const TWO: &str = "width=\"129pc\" height=\"15pc\" viewBox=\"0 0 27090 3150\"";
+    const TWO: &str = "width=\"66pc\" height=\"26pc\" viewBox=\"0 0 13860 5460\"";
     let parts = [BEGIN, TWO, ABOUT, DEFINED, EMPTY];
     let nothing = holding(&rt, Sequence::new(rt.alloc()));
     shows_paper(&rt, nothing, BOTH, &parts, "Printer 4\nPrinter 5\n");
@@ -324,7 +383,7 @@ fn printers_that_printed_nothing(rt: HostRuntime) {
 /// The blocks of a picture, one after the other.
 fn drawn_in_blocks(rt: &(impl Abort + AllocGlobal), outcome: Outcome, present: Present) -> Vec<u8> {
     let mut bytes = Vec::new(rt.alloc());
-    let blocks = svg_blocks(rt.alloc(), &Shapes::own(), outcome, present).expect(rt, "memory");
+    let blocks = svg_blocks(rt.alloc(), &Shapes::own(), 3, outcome, present).expect(rt, "memory");
     for block in blocks {
         bytes.extend_from_slice(&block).expect(rt, "memory");
     }
@@ -358,8 +417,8 @@ fn laws(_rt: HostRuntime) {
 
 /// How many calls are refused memory. Each other one gives what it gives with ample memory.
 fn refusals(rt: &(impl Abort + AllocGlobal), outcome: &Outcome) -> usize {
-    let drawn = svg(rt.alloc(), &Shapes::own(), outcome, FOUR);
-    let said = text(rt.alloc(), outcome, FOUR);
+    let drawn = svg(rt.alloc(), &Shapes::own(), 3, outcome, FOUR);
+    let said = text(rt.alloc(), Look::Blocks, outcome, FOUR);
     let mut refused = 0;
     match drawn {
         Ok(picture) => assert!(rt; picture.as_slice().ends_with(GROWN.as_bytes())),

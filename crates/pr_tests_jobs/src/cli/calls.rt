@@ -6,12 +6,12 @@ ghost use Rattle.pr_input.specs.Watched.{has_failed};
 use pr_basic::StatusMode;
 use pr_bus::Delays;
 use pr_capture::{Probes, Signals, Source, TraceFormat, TraceInput};
-use pr_dots::Shapes;
+use pr_dots::{Scale, Shapes};
 use pr_jobs::{
     CliFault, Ending, Start, Watched, bus_as_over, bus_over, check_as_over, check_over,
     pages_as_over, pages_over, raw_over,
 };
-use pr_render::{Format, Part};
+use pr_render::{Format, Layout, Look, Part, Size};
 use pr_report::Report;
 use pr_serial::Present;
 use pr_wire::Choices;
@@ -24,10 +24,19 @@ pub const BOTH: Present = Present {
     five: true,
 };
 
+/// Paper as people put it in.
+pub const LAYOUT: Layout = Layout {
+    top: 3,
+    size: Size::Continuous,
+    holes: false,
+};
+
 /// The picture of all pages.
 const SVG: Format = Format::Svg(Part {
     device: None,
     sheet: None,
+    layout: LAYOUT,
+    scale: Scale::Two,
 });
 
 /// A script that prints two letters.
@@ -116,7 +125,7 @@ const PICTURE: &str = "\
     id=\"paper\" width=\"12600\" height=\"630\" patternUnits=\"userSpaceOnUse\"><rect width=\"12600\" \
     height=\"630\" fill=\"#fff\"/><g fill=\"#e9e6df\" stroke=\"#b4afa2\" stroke-width=\"10\"><circle cx=\"315\" \
     cy=\"315\" r=\"100\"/><circle cx=\"12285\" cy=\"315\" r=\"100\"/><path stroke-dasharray=\"35\" d=\"M630 \
-    0v630M11970 0v630\"/></g></pattern>\n<pattern id=\"folds\" y=\"7560\" width=\"12600\" height=\"13860\" \
+    0v630M11970 0v630\"/></g></pattern>\n<pattern id=\"folds\" y=\"6930\" width=\"12600\" height=\"13860\" \
     patternUnits=\"userSpaceOnUse\"><path stroke=\"#b4afa2\" stroke-width=\"10\" stroke-dasharray=\"70\" d=\"M0 \
     6930h12600\"/></pattern>\n<rect width=\"100%\" height=\"100%\" fill=\"#e9e6df\"/>\n<defs>\n<path \
     stroke=\"#222\" id=\"u72\" d=\"M10 10h0M10 30h0M10 50h0M10 70h0M10 90h0M10 110h0M10 130h0M31 70h0M52 \
@@ -125,7 +134,7 @@ const PICTURE: &str = "\
     130h0\"/>\n</defs>\n<g transform=\"translate(630 1050)\">\n<text font-size=\"210\" fill=\"#555\" \
     y=\"-210\">Printer 4</text>\n<rect width=\"12600\" height=\"1890\" fill=\"url(#paper)\" stroke=\"#b4afa2\" \
     stroke-width=\"10\"/>\n<rect y=\"1260\" width=\"12600\" height=\"630\" fill=\"url(#folds)\"/>\n<g \
-    transform=\"translate(1260 630)\">\n<g stroke-width=\"22\" stroke-linecap=\"round\" fill-opacity=\"0\" \
+    transform=\"translate(1260 630)\">\n<g stroke-width=\"29\" stroke-linecap=\"round\" fill-opacity=\"0\" \
     font-size=\"140\">\n<g transform=\"translate(0 0)\">\n<use href=\"#u72\" x=\"0\"/>\n<use href=\"#u73\" \
     x=\"126\"/>\n<text x=\"0\" y=\"140\" textLength=\"252\" lengthAdjust=\"spacingAndGlyphs\" \
     xml:space=\"preserve\">HI</text>\n</g>\n</g>\n</g>\n</g>\n<text font-size=\"210\" fill=\"#555\" \
@@ -163,7 +172,7 @@ static ROWS: [Row; 18] = [
         "printer 4\nrow 0\n 0 cell 72\n 6 cell 73\nprinter 5\nstatus 0 0\nscreen\n",
     ),
     (
-        Call::Pages(Format::Lines),
+        Call::Pages(Format::Lines(Look::Blocks)),
         HI,
         "Printer 4\nHI\nPrinter 5\nStatuses: 0 0.\n",
     ),
@@ -173,7 +182,11 @@ static ROWS: [Row; 18] = [
         HI_BYTES,
         "printer 4\nrow 0\n 0 cell 72\n 6 cell 73\nprinter 5\nstatus\nscreen\n",
     ),
-    (Call::Raw(Format::Lines), HI_BYTES, "Printer 4\nHI\n"),
+    (
+        Call::Raw(Format::Lines(Look::Blocks)),
+        HI_BYTES,
+        "Printer 4\nHI\n",
+    ),
     (Call::Raw(SVG), HI_BYTES, PICTURE),
     (Call::TraceText, HI, TRACE_TEXT),
     (Call::Bus(TraceFormat::Vcd), HI, EXAMPLE_DUMP),

@@ -1,7 +1,8 @@
 //! The page text of an outcome, and sheets that are not there.
 
-use crate::cli::calls::{Call, typical};
+use crate::cli::calls::{Call, LAYOUT, typical};
 use pr_basic::{StatusMode, read_script};
+use pr_dots::Scale;
 use pr_jobs::{CliFault, PictureFault, pages_text};
 use pr_render::{Device, Format, Part};
 use pr_serial::Present;
@@ -40,14 +41,20 @@ fn sheets_that_are_not_there(rt: HostRuntime) {
     const SECOND: Part = Part {
         device: None,
         sheet: Some(2),
+        layout: LAYOUT,
+        scale: Scale::Two,
     };
     const NONE_OF_ALL: Part = Part {
         device: None,
         sheet: Some(0),
+        layout: LAYOUT,
+        scale: Scale::Two,
     };
     const NONE_OF_FOUR: Part = Part {
         device: Some(Device::Four),
         sheet: Some(0),
+        layout: LAYOUT,
+        scale: Scale::Two,
     };
     for format in [
         Format::Svg(SECOND),
