@@ -25,7 +25,7 @@ use std::fmt::{Display, Formatter};
 const TYPED_STRINGS: &str =
     "strings are sent as they are: small letters print graphics, or capitals \
      after OPEN file,device,7, and {name} prints its letters; --from petcat reads both as typed, \
-     and --from magazine names beside capitals";
+     and --from magazine reads names in braces among capitals";
 
 /// What is said of petcat's text whose strings have more capitals than small letters.
 const PETCAT_CAPITALS: &str =

@@ -134,9 +134,11 @@ fn show_error(rt: &(impl Print + Eprint + AllocGlobal), error: &UsageError) {
         return;
     };
     let word = quoted(text.as_str());
-    if error.kind() == UsageKind::UnknownArgument && is_negative(word) && is_timed(text.as_str()) {
+    if error.kind() == UsageKind::UnknownArgument && is_negative(word) {
         show_without_tip(rt, text.as_str());
-        let _ = rt.eprintln(format_args!("{MINUS}"));
+        if is_timed(text.as_str()) {
+            let _ = rt.eprintln(format_args!("{MINUS}"));
+        }
         return;
     }
     let _ = error.print(rt);

@@ -347,7 +347,7 @@ fn told(
     }
 }
 
-/// Says how many sheets the paper has, where one past the end is asked for.
+/// Says how many sheets the paper has, where one past the end is asked for, or how a picture gets smaller.
 pub fn tell_sheets(rt: &(impl Eprint + AllocGlobal), fault: PictureFault) {
     show(rt, sheets_told(rt, fault));
 }
@@ -359,7 +359,9 @@ fn sheets_told(rt: &impl AllocGlobal, fault: PictureFault) -> Result<String, All
         PictureFault::NoSuchSheet(sheets) => {
             format!(in rt.alloc(); "  the paper has {sheets} sheets\n")
         }
-        PictureFault::TooLarge => Ok(String::new(rt.alloc())),
+        PictureFault::TooLarge => {
+            format!(in rt.alloc(); "  try --scale 1, or --sheet for one sheet\n")
+        }
     }
 }
 

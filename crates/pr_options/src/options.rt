@@ -511,26 +511,27 @@ const QUIET_HELP: &str = "Leaves out notes and progress on standard\n\
      error";
 
 const DEVICE_HELP: &str = "4 or 5: the printer that svg, png and pdf draw\n\
-     or whose bytes are written [default: all, the\n\
-     first with a page for png, 4 for bytes]";
+     or whose bytes are written [default: all; png:\n\
+     the first that printed; bytes: 4]";
 
 const DEVICE_VALUES: &str = "4 or 5";
 
-const RAW_DEVICE_HELP: &str = "4 or 5: the printer that svg, png and pdf draw\n\
-     [default: all, or the first with a page for png]";
+const RAW_DEVICE_HELP: &str = "4, which prints the bytes, or 5, whose page is\n\
+     blank, for svg, png and pdf [default: 4]";
 
-const SHEET_HELP: &str = "The sheet of 11 inches that svg and png draw,\n\
-     from 1 [default: all]";
+const SHEET_HELP: &str = "The sheet of 11 inches, from 1, that svg and png\n\
+     draw, of one printer [default: all]";
 
 const SHEET_VALUES: &str = "a whole number from 1";
 
-const SCALE_HELP: &str = "The pixels of png for the place of a dot, across\n\
-     and down, 1 to 8";
+const SCALE_HELP: &str = "The pixels of png for each dot, across and down,\n\
+     1 to 8";
 
 const SCALE_VALUES: &str = "a whole number from 1 to 8";
 
-const TOP_HELP: &str = "The lines of 1/6 inch from the paper's upper edge\n\
-     to the first row of svg, png and pdf";
+const TOP_HELP: &str = "The lines of 1/6 inch, 0 to 65, from the upper\n\
+     edge of the paper to the first row of svg, png\n\
+     and pdf";
 
 const TOP_VALUES: &str = "a whole number from 0 to 65";
 
@@ -541,7 +542,7 @@ const PAPER_HELP: &str = "The paper of pdf: continuous (9.5 by 11 inches),\n\
 const PAPER_VALUES: &str = "continuous, a4 or letter";
 
 const HOLES_HELP: &str = "Draws the holes and perforations of continuous\n\
-     paper in png and pdf";
+     paper in png and pdf; svg always has them";
 
 const CHARACTERS_HELP: &str = "A file with the shapes of characters that svg,\n\
      png and pdf draw\n\

@@ -1,7 +1,7 @@
 -- What the strings of a row draw.
-use Rattle.std.proofs.Common.{◌≡◌, ℕ, zero, suc, ◌+◌, ◌-◌, ◌*◌, ◌/◌, ◌%◌, ◌^◌, ◌<◌, ◌≤◌, Bool, true, false, cond, List, [], ◌∷◌, ◌++◌, length, refl, sym, ap, ◌∙◌, arith, append_assoc, append-nil}
-use Rattle.std.specs.Prelude.{◌==◌, ◌&&◌, ◌||◌, filter, flat_map, map}
-use Rattle.std.proofs.lemmas.Bool.{and_from, and_parts, eq-eqb, eqb-true}
+use Rattle.std.proofs.Common.{◌≡◌, ℕ, ◌+◌, ◌-◌, ◌*◌, ◌/◌, ◌%◌, ◌^◌, ◌<◌, ◌≤◌, Bool, true, false, cond, List, [], ◌∷◌, ◌++◌, refl, ap, arith, append_assoc}
+use Rattle.std.specs.Prelude.{◌==◌, filter, flat_map, map}
+use Rattle.std.proofs.lemmas.Bool.{and_parts, eqb-true}
 use Rattle.std.proofs.lemmas.Grind.{common_steps}
 use Rattle.pr_page.specs.declared.paper.Mark.{Mark}
 use Rattle.pr_page.specs.declared.paper.Mark.TheVariants.{Cell, Dots}
@@ -11,8 +11,8 @@ use Rattle.pr_dots.specs.Dots.{Dot, bit_dots, column_dots, columns_dots, columns
 use Rattle.pr_dots.specs.declared.character_sets.Shapes.{Shapes}
 use Rattle.pr_pdf.specs.Drawn.{disc_on, moved, row_discs, run_discs, sheet_discs, string_discs}
 use Rattle.pr_pdf.specs.Fonts.{Disc, code_of, font_columns, font_of, glyph_disc, glyph_discs, mark_of}
-use Rattle.pr_dots.specs.Sheets.{first_sheet, is_on, last_sheet}
-use Rattle.pr_pdf.specs.Sheets.{Run, codes_taken, end_of, goes_on, height_on, joined, runs_left, runs_of}
+use Rattle.pr_dots.specs.Sheets.{is_on}
+use Rattle.pr_pdf.specs.Sheets.{Run, end_of, goes_on, height_on, joined, runs_of}
 
 -- a disc
 abbrev disc_at : ℕ → ℕ → Disc

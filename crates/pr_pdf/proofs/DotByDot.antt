@@ -1,5 +1,5 @@
 -- Which dots of rows are on a sheet.
-use Rattle.std.proofs.Common.{◌≡◌, ℕ, zero, suc, ◌+◌, ◌-◌, ◌*◌, ◌/◌, ◌%◌, ◌^◌, ◌<◌, ◌≤◌, Bool, true, false, cond, List, [], ◌∷◌, ◌++◌, length, refl, sym, ap, ◌∙◌, arith}
+use Rattle.std.proofs.Common.{◌≡◌, ℕ, ◌+◌, ◌-◌, ◌*◌, ◌/◌, ◌%◌, ◌^◌, ◌<◌, Bool, true, false, cond, List, [], ◌∷◌, ◌++◌, refl, sym, ap, ◌∙◌, arith}
 use Rattle.std.specs.Prelude.{◌==◌, ◌&&◌, ◌||◌, filter, flat_map, map}
 use Rattle.std.specs.List.{list_any}
 use Rattle.std.proofs.lemmas.Bool.Decides.{nat_tests}
@@ -10,9 +10,8 @@ use Rattle.pr_page.specs.declared.paper.Placed.{Placed}
 use Rattle.pr_page.specs.declared.paper.Row.{Row}
 use Rattle.pr_dots.specs.Dots.{Dot, bit_dots, column_dots, columns_dots, columns_of, dots_of, has_dot, is_at, row_dots}
 use Rattle.pr_dots.specs.declared.character_sets.Shapes.{Shapes}
-use Rattle.pr_pdf.specs.Drawn.{disc_on, has_disc, is_disc, sheet_discs}
-use Rattle.pr_pdf.specs.Fonts.{Disc}
-use Rattle.pr_dots.specs.Sheets.{first_sheet, is_on, last_sheet}
+use Rattle.pr_pdf.specs.Drawn.{disc_on, has_disc, sheet_discs}
+use Rattle.pr_dots.specs.Sheets.{is_on}
 use Rattle.pr_pdf.proofs.DiscByDisc.{sheets_draw}
 
 -- a dot is on a sheet

@@ -1,14 +1,14 @@
 -- The runs of marks, mark by mark.
-use Rattle.std.proofs.Common.{◌≡◌, ℕ, ◌+◌, ◌<◌, Bool, true, false, cond, List, [], ◌∷◌, ◌++◌, refl, sym, ap, ◌∙◌, arith}
+use Rattle.std.proofs.Common.{◌≡◌, ℕ, true, false, List, [], ◌∷◌, ◌++◌, refl, arith}
 use Rattle.std.specs.Prelude.{flat_map, nat_lt}
 use Rattle.std.proofs.lemmas.Grind.{common_steps}
 use Rattle.pr_page.specs.declared.paper.Mark.{Mark}
 use Rattle.pr_page.specs.declared.paper.Mark.TheVariants.{Cell, Dots}
 use Rattle.pr_page.specs.declared.paper.Placed.{Placed}
-use Rattle.pr_pdf.specs.Fonts.{code_of, font_of}
-use Rattle.pr_pdf.specs.Linked.{close_pdf, rest_pdf}
+use Rattle.pr_pdf.specs.Fonts.{font_of}
+use Rattle.pr_pdf.specs.Linked.{rest_pdf}
 use Rattle.pr_pdf.specs.Parts.{run_end}
-use Rattle.pr_pdf.specs.Sheets.{codes_taken, end_of, run_begin, run_pdf, runs_left, runs_of}
+use Rattle.pr_pdf.specs.Sheets.{codes_taken, end_of, run_pdf, runs_left, runs_of}
 use Rattle.pr_pdf.specs.Words.{hex_2}
 
 -- each mark has a font

@@ -1,6 +1,6 @@
 -- Which rows are on a sheet.
-use Rattle.std.proofs.Common.{◌≡◌, ℕ, zero, suc, ◌+◌, ◌*◌, ◌/◌, ◌%◌, ◌<◌, ◌≤◌, Bool, true, false, cond, List, [], ◌∷◌, ◌++◌, drop, length, refl, sym, ap, ◌∙◌, add-one, arith, drop-cons}
-use Rattle.std.specs.Prelude.{◌==◌, ◌&&◌, ◌||◌, filter, flat_map, map, nat_le, slice_index_or}
+use Rattle.std.proofs.Common.{◌≡◌, ℕ, zero, suc, ◌+◌, ◌*◌, ◌/◌, ◌<◌, ◌≤◌, Bool, true, false, List, [], ◌∷◌, ◌++◌, drop, length, refl, sym, ap, ◌∙◌, add-one, arith, drop-cons}
+use Rattle.std.specs.Prelude.{◌==◌, ◌||◌, filter, flat_map, map, nat_le, slice_index_or}
 use Rattle.std.proofs.lemmas.Bool.{and_parts}
 use Rattle.std.proofs.lemmas.Bool.Decides.{nat_tests}
 use Rattle.std.proofs.lemmas.Grind.{common_steps}
@@ -36,13 +36,14 @@ pub not_on : (row : Row) (sheet : ℕ) → last_sheet row < sheet → is_on shee
 not_on row sheet before = grind (arith, common_steps, before)
 
 -- one row more that ends before a sheet
-pub one_skipped : (top sheet count : ℕ) (rows : List Row) (row : Row) (rest : List Row) → IsSkipped sheet count (lowered_rows top rows)
-    → drop count rows ≡ row ∷ rest → drop (count + 1) rows ≡ rest → last_sheet (lowered_row top row) < sheet
+pub one_skipped : (top sheet count : ℕ) (rows : List Row) (row : Row) → IsSkipped sheet count (lowered_rows top rows)
+    → count < length rows → row ≡ slice_index_or rows count row → last_sheet (lowered_row top row) < sheet
     → IsSkipped sheet (count + 1) (lowered_rows top rows)
-one_skipped top sheet count rows row rest skipped here after before later from =
-    let first : drop count (lowered_rows top rows) ≡ lowered_row top row ∷ lowered_rows top rest =
+one_skipped top sheet count rows row skipped within at before later from =
+    let here : drop count rows ≡ row ∷ drop (count + 1) rows = rw (add-one, drop-cons rows count row, ← at) refl in
+    let first : drop count (lowered_rows top rows) ≡ lowered_row top row ∷ lowered_rows top (drop (count + 1) rows) =
     lowered_drop top count rows ∙ ap (lowered_rows top) here in
-    let next : drop (count + 1) (lowered_rows top rows) ≡ lowered_rows top rest = lowered_drop top (count + 1) rows ∙ ap (lowered_rows top) after in
+    let next : drop (count + 1) (lowered_rows top rows) ≡ lowered_rows top (drop (count + 1) rows) = lowered_drop top (count + 1) rows in
     grind (arith, common_steps, skipped later from, first, next, not_on (lowered_row top row) later, before, from)
 
 -- rows after a sheet are not on it
@@ -71,7 +72,7 @@ pub none_left : (top sheet i : ℕ) (rows : List Row) (row : Row) → i < length
     → ascend 0 rows ≡ true → sheet < first_sheet (lowered_row top row) → filter (is_on sheet) (lowered_rows top (drop i rows)) ≡ []
 none_left top sheet i rows row within at ascends past =
     let here : drop i rows ≡ row ∷ drop (i + 1) rows = rw (add-one, drop-cons rows i row, ← at) refl in
-    let low : ascend 0 (row ∷ drop (i + 1) rows) ≡ true = rw here at ascend_drop i rows ascends in
+    let low : ascend 0 (row ∷ drop (i + 1) rows) ≡ true = rw here at (ascend_drop i rows ascends) in
     let later = and_parts (nat_le 0 row.y) (ascend row.y (drop (i + 1) rows)) low in
     rw here (all (row.y + 21 * top) row.marks (lowered_rows top (drop (i + 1) rows)) (ascend_lowered top row.y (drop (i + 1) rows) later.1) past)
   where

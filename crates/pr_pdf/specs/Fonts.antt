@@ -1,6 +1,6 @@
 -- Trusted: the fonts of the document and their glyphs.
 -- A unit is 1/2520 inch: a dot column is 42 units wide, and 1/126 inch is 20 units.
-use Rattle.std.specs.Prelude.{ℕ, zero, suc, ◌+◌, ◌-◌, ◌*◌, ◌/◌, ◌%◌, Bool, false, List, [], ◌∷◌, ◌++◌, ◌==◌, nat_lt, codes, decimal, filter, flat_map, length, map, slice_index_or, if◌then◌else◌}
+use Rattle.std.specs.Prelude.{ℕ, ◌+◌, ◌-◌, ◌*◌, ◌/◌, ◌%◌, Bool, false, List, [], ◌∷◌, ◌++◌, ◌==◌, nat_lt, codes, decimal, filter, flat_map, length, map, slice_index_or, if◌then◌else◌}
 use Rattle.std.specs.List.{list_any}
 use Rattle.pr_page.specs.declared.paper.Mark.{Mark}
 use Rattle.pr_page.specs.declared.paper.Mark.TheVariants.{Cell, Dots}
@@ -8,7 +8,7 @@ use Rattle.pr_dots.specs.Dots.{Dot, columns_dots, columns_of}
 use Rattle.pr_dots.specs.declared.character_sets.Shapes.{Shapes}
 use Rattle.pr_render.specs.Characters.{character}
 use Rattle.pr_pdf.specs.Parts.{characters_begin, characters_end, dictionary_end, disc_move, disc_stroke, encoding_begin, font_begin, font_characters, font_glyphs, fonts_begin, glyph_box, glyph_strokes, list_end, reference}
-use Rattle.pr_pdf.specs.Words.{bit, hex_2, hex_4, numbers_from}
+use Rattle.pr_pdf.specs.Words.{bit, hex_4, numbers_from}
 
 -- the font of a mark: four for each character set, the graphic/upper case set first, of which the second is wide, the
 -- third reversed and the fourth both; and the last font has the columns of dots

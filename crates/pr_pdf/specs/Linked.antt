@@ -1,5 +1,5 @@
 -- Linking words, for proofs.
-use Rattle.std.specs.Prelude.{◌≡◌, ℕ, ◌≤◌, Bool, true, List, [], ◌∷◌, ◌++◌, ◌==◌, ◌&&◌, codes, drop, filter, length, map, nat_le, nat_lt, if◌then◌else◌}
+use Rattle.std.specs.Prelude.{◌≡◌, ℕ, ◌≤◌, Bool, true, List, [], ◌∷◌, ◌++◌, ◌==◌, ◌&&◌, drop, filter, map, nat_le, nat_lt, if◌then◌else◌}
 use Rattle.pr_page.specs.declared.paper.Mark.{Mark}
 use Rattle.pr_page.specs.declared.paper.Placed.{Placed}
 use Rattle.pr_page.specs.declared.paper.Row.{Row}

@@ -1,6 +1,6 @@
 -- Trusted: papers as a PDF document (ISO 32000-1): objects that are numbered from 1 on, a table of the places at which
 -- they begin, and a trailer.
-use Rattle.std.specs.Prelude.{ℕ, ◌+◌, ◌-◌, ◌*◌, ◌/◌, ◌%◌, Bool, List, [], ◌∷◌, ◌++◌, ◌&&◌, codes, decimal, flat_map, length, map, nat_lt, replicate, if◌then◌else◌}
+use Rattle.std.specs.Prelude.{ℕ, ◌+◌, ◌-◌, ◌*◌, ◌/◌, ◌%◌, Bool, List, [], ◌∷◌, ◌++◌, ◌&&◌, decimal, flat_map, length, map, nat_lt, replicate, if◌then◌else◌}
 use Rattle.std.specs.List.{concat}
 use Rattle.pr_page.specs.declared.paper.Paper.{Paper}
 use Rattle.pr_page.specs.declared.paper.Row.{Row}

@@ -94,7 +94,6 @@ pub fn push_sheet(
 }
 
 /// The first row, from one on, that does not end before a sheet.
-#[tactic(auto, using(crate::proofs::Sheeted::one_skipped))]
 pub fn skip_before(rows: &[Row], top: u8, from: usize, sheet: u64) -> usize
     requires { from ≤ length rows.now }
     ensures within { result ≤ length rows.now }

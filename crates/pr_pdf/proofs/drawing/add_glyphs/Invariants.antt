@@ -1,4 +1,3 @@
-use Rattle.std.proofs.Common.{◌≡◌}
 use Rattle.std.specs.Prelude.{map}
 use Rattle.pr_pdf.specs.Fonts.{used_among}
 use Rattle.pr_pdf.specs.Linked.{Adds}

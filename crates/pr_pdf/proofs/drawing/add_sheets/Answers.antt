@@ -1,5 +1,4 @@
 use Rattle.std.proofs.Common.{◌∙◌, ap, arith, refl, sym}
-use Rattle.std.proofs.lemmas.Grind.{common_steps}
 use Rattle.pr_dots.specs.Sheets.{lowered_rows}
 use Rattle.pr_pdf.specs.Sheets.{sheet_pdf}
 use Rattle.pr_pdf.proofs.SheetBySheet.{sheet_adds, sheet_adds_none, sheet_now}

@@ -1,7 +1,7 @@
-use Rattle.std.proofs.Common.{◌≡◌, true, ◌+◌, ◌*◌, ◌≤◌, length}
+use Rattle.std.proofs.Common.{◌≡◌, ◌+◌, ◌*◌, ◌≤◌, length}
 use Rattle.std.specs.Prelude.{map}
 use Rattle.pr_dots.specs.Sheets.{lowered_rows}
-use Rattle.pr_pdf.specs.Linked.{Adds, IsSkipped, ascend}
+use Rattle.pr_pdf.specs.Linked.{Adds, IsSkipped}
 use Rattle.pr_pdf.specs.Pdf.{sheet_bodies}
 use Rattle.pr_pdf.specs.Sheets.{sheet_pdf}
 use Rattle.pr_pdf.specs.Words.{numbers_from}

@@ -1,4 +1,4 @@
-use Rattle.std.proofs.Common.{◌≡◌, ℕ, ◌-◌, ◌<◌, ◌≤◌, length}
+use Rattle.std.proofs.Common.{◌-◌, ◌≤◌, length}
 use Rattle.pr_dots.specs.Sheets.{lowered_rows}
 use Rattle.pr_pdf.specs.Linked.{IsSkipped}
 use Rattle.pr_pdf.proofs.sheets.skip_before.Given as goal
