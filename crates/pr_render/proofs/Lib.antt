@@ -2,6 +2,7 @@ pub mod Blocks
 pub mod Defining
 pub mod Documents
 pub mod Drawn
+pub mod Farther
 pub mod Joined
 pub mod Names
 pub mod Pictures

@@ -10,14 +10,14 @@ use Rattle.pr_page.specs.declared.paper.Mark.TheVariants.{Cell, Dots}
 use Rattle.pr_serial.specs.declared.Present.{Present}
 use Rattle.pr_system.specs.declared.outcome.Outcome.{Outcome}
 use Rattle.pr_dots.specs.Dots.{dots_of}
-use Rattle.pr_dots.specs.Sheets.{rows_on}
+use Rattle.pr_dots.specs.Sheets.{lowered, rows_on}
 use Rattle.pr_dots.specs.declared.character_sets.Shapes.{Shapes}
 use Rattle.pr_render.specs.Characters.{character}
 use Rattle.pr_render.specs.Plain.{Sign, beside, held_text, rows_text, shown, sign_of, written}
 use Rattle.pr_render.specs.Words.{is_blank}
 use Rattle.pr_render.specs.declared.format.Look.{Look}
 use Rattle.pr_render.specs.SheetSvg.{sheet_svg_of}
-use Rattle.pr_render.specs.Svg.{Disc, disc_of, drawn_of, each_once, mark_discs, marks_of, name_svg, row_svg, svg_of}
+use Rattle.pr_render.specs.Svg.{Disc, disc_of, drawn_of, each_once, mark_discs, marks_down, marks_of, name_svg, row_svg, svg_of}
 
 -- the code or the value of a mark is a byte
 abbrev pub is_of_bytes : Mark → Bool
@@ -51,6 +51,14 @@ DiscsAreTheDots =
     (shapes : Shapes) (before : List Mark) (paper : Paper) (after : List Mark)
     → list_all is_of_bytes (before ++ (marks_of paper ++ after)) ≡ true
     → paper_discs shapes (each_once (before ++ (marks_of paper ++ after))) paper ≡ map disc_of (dots_of shapes paper)
+
+-- and as far down as a picture has its marks below the upper edge of the paper, they are the discs of the lowered paper's dots
+abbrev pub DiscsAreLowered : Type 0
+DiscsAreLowered =
+    (shapes : Shapes) (top : ℕ) (before : List Mark) (paper : Paper) (after : List Mark)
+    → list_all is_of_bytes (before ++ (marks_of paper ++ after)) ≡ true
+    → map (moved 0 (marks_down top)) (paper_discs shapes (each_once (before ++ (marks_of paper ++ after))) paper)
+    ≡ map disc_of (dots_of shapes (lowered top paper))
 
 -- different marks have different names
 abbrev pub NamesTellMarks : Type 0

@@ -185,9 +185,13 @@ sheet_room drawn top p = if drawn then 5 + sheet_picas top p else 0
 unfoldable pub name_line : (device above : ℕ) → List ℕ
 name_line device above = sheet_begin ++ decimal (210 * (above + 5)) ++ sheet_name ++ decimal device
 
--- where the marks of a sheet begin: these lines of 1/6 inch below the upper edge of the paper
+-- how far the marks of a sheet begin below the upper edge of the paper, in units: these lines of 1/6 inch
+abbrev pub marks_down : (top : ℕ) → ℕ
+marks_down top = 210 * top
+
+-- where the marks of a sheet begin
 unfoldable pub marks_place : (top : ℕ) → List ℕ
-marks_place top = sheet_marks ++ decimal (210 * top) ++ codes ")\">\n"
+marks_place top = sheet_marks ++ decimal (marks_down top) ++ codes ")\">\n"
 
 -- paper of this length in picas, with folds every 11 inches from its upper edge on
 unfoldable pub paper_svg : (top picas : ℕ) → List ℕ

@@ -1,12 +1,14 @@
 //! Laws of the definitions, with nothing to run.
 
-ghost use Rattle.pr_render.specs.Laws.{DiscsAreTheDots, ElementsTellRows, LinesShowEachCell, NamesTellMarks, PicturesTellPapers, SheetsTellRows, WideCellsShowABlank};
+ghost use Rattle.pr_render.specs.Laws.{DiscsAreLowered, DiscsAreTheDots, ElementsTellRows, LinesShowEachCell, NamesTellMarks, PicturesTellPapers, SheetsTellRows, WideCellsShowABlank};
 
 /// A law: what a picture draws of a paper's rows is a disc at each dot of the paper, and no other.
 /// An element draws what is defined under its name, moved to the element's place; each mark in the
-/// definitions is defined there once.
+/// definitions is defined there once. Measured from the upper edge of the paper, these are the discs of the lowered paper, of which
+/// sheets and bitmaps are drawn.
 pub fn discs_are_the_dots()
-    ensures { DiscsAreTheDots }
+    ensures dots { DiscsAreTheDots }
+    ensures lowered { DiscsAreLowered }
 {}
 
 /// A law: different marks have different names, so the elements of a row determine its marks.
