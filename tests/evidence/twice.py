@@ -232,7 +232,17 @@ def quiet():
     return differ("--quiet of print1525.mjs and of pr_options", page and page.groups(), (whole, "".join(sign for _, sign in said)))
 
 
+def paper():
+    """The lines above the first row in the page, and the width of a dot's disc in SVG and PDF, whose units are half as large."""
+    usual = re.search(r"\bLayout \{\s*top: (\d+),", text_of("crates/pr_render/src/format.rt")).group(1)
+    own = re.search(r"MARKS_DOWN = (\d+);", text_of("web/sheets.js")).group(1)
+    wrong = differ("MARKS_DOWN of web/sheets.js, in 1/1260 inch, and the usual lines of pr_render", int(own), 210 * int(usual))
+    wide = re.search(r'<g stroke-width=\\?"(\d+)\\?" stroke-linecap', text_of("crates/pr_render/src/parts.rt")).group(1)
+    stroke = re.search(r"d1\\n(\d+) w 1 J", text_of("crates/pr_pdf/src/parts.rt")).group(1)
+    return wrong + differ("the stroke of pr_pdf and twice that of pr_render", int(stroke), 2 * int(wide))
+
+
 def wrong(strings):
     """What differs, in words; `strings` are those of the code, each its file, line, what is before it and its text."""
     paths = sorted({path for path, *_ in strings})
-    return [*settings(), *drawn(), *lists(paths), *listings(), *wave(), *hints(), *quiet(), *options(strings)]
+    return [*settings(), *drawn(), *lists(paths), *listings(), *wave(), *hints(), *quiet(), *paper(), *options(strings)]
