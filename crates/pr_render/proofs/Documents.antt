@@ -1,10 +1,9 @@
 -- Papers by the whole document.
-use Rattle.std.proofs.Common.{◌≡◌, ℕ, ◌+◌, ◌-◌, ◌*◌, ◌<◌, ◌≤◌, ◌^◌, Bool, true, false, cond, List, [], ◌∷◌, ◌++◌, length, refl, sym, subst, ap, ◌∙◌, arith, get_or, decimal, codes}
-use Rattle.std.specs.Prelude.{◌≢◌, ◌&&◌, nat_lt, flat_map, map, if◌then◌else◌}
+use Rattle.std.proofs.Common.{◌≡◌, ℕ, ◌+◌, ◌-◌, ◌*◌, ◌<◌, Bool, true, false, List, [], ◌∷◌, ◌++◌, refl, sym, ap, ◌∙◌, arith, get_or, decimal, codes}
+use Rattle.std.specs.Prelude.{◌≢◌, flat_map}
 use Rattle.std.specs.List.{list_all}
 use Rattle.std.proofs.lemmas.Bool.{and_parts}
-use Rattle.std.proofs.lemmas.Fmt.{decimal_injective}
-use Rattle.std.proofs.lemmas.List.{append_assoc, append-nil, append_cancel_left}
+use Rattle.std.proofs.lemmas.List.{append_assoc, append_cancel_left}
 use Rattle.std.proofs.lemmas.List.Concat.{flat_map-cons}
 use Rattle.pr_page.specs.declared.paper.Mark.{Mark}
 use Rattle.pr_page.specs.declared.paper.Mark.TheVariants.{Cell, Dots}
@@ -15,11 +14,11 @@ use Rattle.pr_dots.specs.declared.character_sets.Shapes.{Shapes}
 use Rattle.pr_dots.specs.Sheets.{rows_on}
 use Rattle.pr_render.specs.Laws.{SheetsTellRows, is_drawn, is_paper, is_row}
 use Rattle.pr_render.specs.Parts.{definitions_begin, definitions_end, document_about, held_begin, ink_begin, mark_begin, mark_path, paper_folds, paper_piece, row_begin, sheet_begin, sheet_end, sheet_marks, sheet_name, sheet_paper, single_begin, single_end, single_marks, single_paper, single_size, use_end}
-use Rattle.pr_render.specs.SheetSvg.{row_marks, sheet_svg_of, single_head, single_sheet, single_svg, single_top}
+use Rattle.pr_render.specs.SheetSvg.{row_marks, single_head, single_sheet, single_svg, single_top}
 use Rattle.pr_render.specs.Svg.{Disc, definition_svg, definitions_svg, disc_svg, each_once, held_line, held_svg, ink_svg, line_svg, mark_discs, marks_place, name_line, name_svg, paper_svg, row_svg, rows_end, sheet_picas, sheet_svg}
 use Rattle.pr_render.specs.Words.{either_text, text_if}
 use Rattle.pr_render.proofs.Skipped.{after-part, after_line, free-number, in-append, in-flat, in-number, in_line, regroup-four}
-use Rattle.pr_render.proofs.Told.{cut-at, first-is, line-split, regroup, row-split}
+use Rattle.pr_render.proofs.Told.{cut-at, line-split, regroup, row-split}
 
 -- rows, and what follows them, which does not begin with a row
 abbrev Closes : List ℕ → Type 0

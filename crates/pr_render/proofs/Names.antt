@@ -1,6 +1,6 @@
 -- Marks by their names and by their numbers.
-use Rattle.std.proofs.Common.{◌≡◌, ℕ, ◌+◌, ◌*◌, ◌<◌, ◌≤◌, ◌%◌, ◌/◌, ◌^◌, Bool, true, false, cond, List, [], ◌∷◌, ◌++◌, length, refl, sym, ap, ◌∙◌, arith, get_or, decimal}
-use Rattle.std.specs.Prelude.{◌==◌, ◌&&◌, codes, nat_lt}
+use Rattle.std.proofs.Common.{◌≡◌, ℕ, ◌+◌, ◌*◌, ◌<◌, ◌≤◌, ◌%◌, ◌^◌, Bool, true, false, cond, List, [], ◌∷◌, ◌++◌, length, refl, sym, ap, ◌∙◌, arith, get_or, decimal}
+use Rattle.std.specs.Prelude.{◌==◌, codes, nat_lt}
 use Rattle.std.proofs.lemmas.Bool.{and_parts, eq-eqb, eqb-true}
 use Rattle.std.proofs.lemmas.Fmt.{decimal_by_steps, decimal_injective}
 use Rattle.std.proofs.lemmas.Grind.{common_steps}
@@ -8,7 +8,7 @@ use Rattle.pr_page.specs.declared.paper.Mark.{Mark}
 use Rattle.pr_page.specs.declared.paper.Mark.TheVariants.{Cell, Dots}
 use Rattle.pr_render.specs.Laws.{is_of_bytes, same_text}
 use Rattle.pr_render.specs.Svg.{name_svg, number_of}
-use Rattle.pr_render.specs.Words.{either_text, text_if}
+use Rattle.pr_render.specs.Words.{text_if}
 
 -- a text begins with a digit
 abbrev BeginsWithDigit : List ℕ → Type 0

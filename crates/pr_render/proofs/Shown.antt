@@ -1,8 +1,8 @@
 -- What a line of text shows, and where it is in the text of its paper.
 use Rattle.std.proofs.Common.{◌≡◌, ℕ, zero, suc, ◌+◌, ◌-◌, ◌<◌, ◌≤◌, ◌/◌, Bool, true, false, cond, List, [], ◌∷◌, ◌++◌, length, refl, sym, ap, ◌∙◌, arith, append_assoc}
-use Rattle.std.specs.Prelude.{◌==◌, ◌&&◌, ◌||◌, not, codes, map, replicate, slice_index_or, slice_set}
+use Rattle.std.specs.Prelude.{◌==◌, ◌&&◌, ◌||◌, not, codes, map, replicate, slice_index_or}
 use Rattle.std.specs.List.{list_all}
-use Rattle.std.proofs.lemmas.Bool.{and_parts, eq-eqb, eqb-true, not-true}
+use Rattle.std.proofs.lemmas.Bool.{and_parts, eqb-true, not-true}
 use Rattle.std.proofs.lemmas.Grind.{common_steps}
 use Rattle.pr_base.specs.Lines.{onto_first}
 use Rattle.pr_page.specs.declared.paper.Placed.{Placed}
@@ -11,7 +11,7 @@ use Rattle.pr_page.specs.declared.paper.Mark.{Mark}
 use Rattle.pr_page.specs.declared.paper.Mark.TheVariants.{Cell, Dots}
 use Rattle.pr_dots.specs.Codes.{place_of, printed_as}
 use Rattle.pr_render.specs.Characters.{character, lower_characters, upper_characters}
-use Rattle.pr_render.specs.Laws.{Shows, ShowsAt, lines_before, none_reaches, reaches, sign_lines}
+use Rattle.pr_render.specs.Laws.{Shows, lines_before, none_reaches, reaches, sign_lines}
 use Rattle.pr_render.specs.Plain.{Column, Sign, beside, empty_column, empty_lines, held_heading, held_text, is_bare, line_text, paint_cell, paint_mark, painted, put, rows_text, seen_in, shade_of, showing, shown, sign_of, trimmed, turned, written}
 use Rattle.pr_render.specs.Words.{is_blank}
 use Rattle.pr_render.specs.declared.format.Look.{Look}

@@ -1,5 +1,5 @@
 -- Texts by their lines.
-use Rattle.std.proofs.Common.{◌≡◌, ℕ, ◌+◌, ◌*◌, ◌<◌, ◌%◌, ◌/◌, Bool, true, false, cond, List, [], ◌∷◌, ◌++◌, refl, sym, subst, ap, ◌∙◌, arith, decimal, codes}
+use Rattle.std.proofs.Common.{◌≡◌, ℕ, ◌+◌, ◌<◌, ◌%◌, ◌/◌, Bool, true, false, cond, List, [], ◌∷◌, ◌++◌, refl, subst, ap, ◌∙◌, arith, decimal}
 use Rattle.std.specs.Prelude.{zero, suc, ◌≢◌, ◌==◌, ◌&&◌, not, flat_map}
 use Rattle.std.specs.Fmt.{digit_glyph, digits_onto}
 use Rattle.std.proofs.DigitsParse.{digits_onto-nil, digit_glyph_below_ten}

@@ -1,6 +1,6 @@
 -- Rows by the text of their elements.
-use Rattle.std.proofs.Common.{◌≡◌, ℕ, ◌+◌, ◌*◌, ◌<◌, ◌≤◌, ◌%◌, ◌^◌, Bool, true, false, List, [], ◌∷◌, ◌++◌, length, refl, sym, subst, ap, ◌∙◌, arith, get_or, decimal, codes}
-use Rattle.std.specs.Prelude.{◌≢◌, ◌&&◌, nat_lt, flat_map, if◌then◌else◌}
+use Rattle.std.proofs.Common.{◌≡◌, ℕ, ◌+◌, ◌*◌, ◌<◌, ◌≤◌, ◌%◌, ◌^◌, Bool, true, false, List, [], ◌∷◌, ◌++◌, refl, sym, subst, ap, ◌∙◌, arith, get_or, decimal, codes}
+use Rattle.std.specs.Prelude.{◌≢◌, nat_lt, flat_map, if◌then◌else◌}
 use Rattle.std.specs.List.{list_all}
 use Rattle.std.proofs.lemmas.Bool.{and_parts}
 use Rattle.std.proofs.lemmas.Fmt.{decimal_by_steps, decimal_injective}
@@ -11,8 +11,8 @@ use Rattle.pr_page.specs.declared.paper.Mark.TheVariants.{Cell, Dots}
 use Rattle.pr_page.specs.declared.paper.Placed.{Placed}
 use Rattle.pr_page.specs.declared.paper.Row.{Row}
 use Rattle.pr_render.specs.Laws.{is_drawn, is_of_bytes, is_row}
-use Rattle.pr_render.specs.Parts.{letters_fitted, letters_width, row_begin, text_end, use_begin, use_end, use_place}
-use Rattle.pr_render.specs.Svg.{Strip, cells_width, character_text, characters_svg, joins, lengthened, line_svg, name_svg, no_strip, row_svg, shows, strip_of, strip_svg, strips_svg, use_svg}
+use Rattle.pr_render.specs.Parts.{row_begin, use_begin, use_end, use_place}
+use Rattle.pr_render.specs.Svg.{Strip, characters_svg, joins, lengthened, line_svg, name_svg, no_strip, row_svg, shows, strip_of, strip_svg, strips_svg, use_svg}
 use Rattle.pr_render.specs.Words.{either_text, text_if}
 use Rattle.pr_render.proofs.Names.{byte-small, names-tell}
 

@@ -1,7 +1,7 @@
 -- Trusted: one sheet of a paper as an SVG document: 10 inches of continuous paper by 11 inches between two folds. Sheets are counted from 0.
 -- A unit of the document is 1/1260 inch. Rows have the distances from the upper edge of the paper, and the document of a later sheet
 -- begins further down.
-use Rattle.std.specs.Prelude.{ℕ, ◌+◌, ◌*◌, List, ◌++◌, codes, decimal, flat_map, map}
+use Rattle.std.specs.Prelude.{ℕ, ◌+◌, ◌*◌, List, ◌++◌, decimal, flat_map, map}
 use Rattle.pr_page.specs.declared.paper.Row.{Row}
 use Rattle.pr_page.specs.declared.paper.Paper.{Paper}
 use Rattle.pr_page.specs.declared.paper.Mark.{Mark}

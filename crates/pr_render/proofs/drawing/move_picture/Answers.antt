@@ -1,6 +1,6 @@
-use Rattle.std.proofs.Common.{◌≡◌, ◌++◌, ◌∙◌, [], ap, append_assoc, codes, sym}
+use Rattle.std.proofs.Common.{◌++◌, ◌∙◌, ap, append_assoc, codes, sym}
 use Rattle.pr_render.specs.Sheets.{joined, picture_back, picture_front}
-use Rattle.pr_render.specs.Svg.{definitions_svg, drawn_marks, head_svg, height_of, notes_svg, picture_svg, sheet_room, sheet_svg, sheets_picas}
+use Rattle.pr_render.specs.Svg.{notes_svg, picture_svg, sheet_room, sheet_svg, sheets_picas}
 use Rattle.pr_render.specs.Words.{text_if}
 use Rattle.pr_render.proofs.Blocks.{blocks-around}
 use Rattle.pr_render.proofs.drawing.move_picture.Goals as goal

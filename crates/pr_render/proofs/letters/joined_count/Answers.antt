@@ -1,5 +1,4 @@
-use Rattle.std.proofs.Common.{◌≡◌, ◌+◌, ◌∙◌, suc, drop, sym, ap, arith}
-use Rattle.pr_render.specs.Svg.{cells_width}
+use Rattle.std.proofs.Common.{◌+◌, ◌∙◌, suc, drop, sym, ap, arith}
 use Rattle.pr_render.specs.Tables.{joined_count}
 use Rattle.pr_render.proofs.Joined.{count-next, width-least}
 use Rattle.pr_render.proofs.letters.joined_count.Goals as goal

@@ -1,4 +1,4 @@
-use Rattle.std.proofs.Common.{◌≡◌, ◌+◌, ◌-◌, ◌++◌, ◌∙◌, drop, length, length-drop, take_all, sym, ap, arith, append_assoc}
+use Rattle.std.proofs.Common.{◌+◌, ◌-◌, ◌++◌, ◌∙◌, drop, length, length-drop, take_all, sym, ap, arith, append_assoc}
 use Rattle.pr_render.specs.Svg.{no_strip, strips_svg}
 use Rattle.pr_render.specs.Tables.{joined_count}
 use Rattle.pr_render.proofs.Joined.{first-cells}

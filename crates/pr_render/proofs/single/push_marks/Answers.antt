@@ -1,4 +1,3 @@
-use Rattle.std.specs.Prelude.{flat_map}
 use Rattle.pr_dots.specs.Sheets.{lowered_rows, rows_on}
 use Rattle.pr_render.specs.SheetSvg.{row_marks}
 use Rattle.pr_render.proofs.Defining.{one-sheet}
