@@ -38,6 +38,7 @@ pub const RAW_LIMIT: usize = 4_294_967_295;
 /// - [`CliFault::TooLarge`]: only if the input has more than [`RAW_LIMIT`] bytes.
 /// - [`CliFault::ReadFailed`] exactly if the input has failed, [`CliFault::WriteFailed`] exactly
 ///   if the output has; after the latter a beginning of the text has been written.
+/// - [`CliFault::Picture`]: the page has no such sheet, or its bitmap or document is too large; of pictures alone.
 /// - [`CliFault::NoMemory`]: memory was refused.
 ///
 /// After every error but `WriteFailed` nothing has been written.
