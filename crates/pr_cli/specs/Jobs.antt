@@ -82,10 +82,19 @@ abbrev pub seen_format : Format → Format
 seen_format (format.Lines look) = format.Lines Video
 seen_format other = other
 
+-- what is written of a run and of a recording, if its pages go to a terminal
+abbrev pub seen_output : PagesOutput → PagesOutput
+seen_output (output.Pages f) = output.Pages (seen_format f)
+seen_output other = other
+
+abbrev pub seen_reading : DecodeOutput → DecodeOutput
+seen_reading (reading.Pages f hearing) = reading.Pages (seen_format f) hearing
+seen_reading other = other
+
 -- a job whose pages go to a terminal; all else of it stays
 abbrev pub seen_job : Job → Job
-seen_job (Pages form present delays mode (output.Pages f)) = Pages form present delays mode (output.Pages (seen_format f))
-seen_job (Decode is_found input (reading.Pages f hearing)) = Decode is_found input (reading.Pages (seen_format f) hearing)
+seen_job (Pages form present delays mode written) = Pages form present delays mode (seen_output written)
+seen_job (Decode is_found input written) = Decode is_found input (seen_reading written)
 seen_job (Raw lower f) = Raw lower (seen_format f)
 seen_job job = job
 

@@ -6,7 +6,7 @@ ghost use Rattle.pr_jobs.specs.Does.{AreFresh, DoesJob};
 ghost use Rattle.pr_jobs.specs.Pages.{AnswersPages, IsRunFault, ReadsToEnd, WritesNothing};
 ghost use Rattle.pr_jobs.specs.Report.{IsReportFault};
 ghost use Rattle.pr_input.specs.Watched.{wrapped};
-ghost use Rattle.pr_cli.specs.Jobs.{AnswersJob, AnswersRecording, AnswersRun, AnswersTrace, AnswersTraced, IsJobFault, IsPrintFault, IsRecordingFault, KeepsOutput, KeepsRun, KeepsTrace, ReadsInput, ReadsRecording, ReadsTrace, found_input, found_job, listening_of, restarted_job, seen_format, seen_job};
+ghost use Rattle.pr_cli.specs.Jobs.{AnswersJob, AnswersRecording, AnswersRun, AnswersTrace, AnswersTraced, IsJobFault, IsPrintFault, IsRecordingFault, KeepsOutput, KeepsRun, KeepsTrace, ReadsInput, ReadsRecording, ReadsTrace, found_input, found_job, listening_of, restarted_job, seen_format, seen_job, seen_output, seen_reading};
 
 use pr_capture::{Source, TraceFormat, TraceInput, found_source};
 use pr_dots::Shapes;
@@ -120,26 +120,42 @@ fn seen_format(format: Format) -> Format
     }
 }
 
+/// What is written of a run, with pages as they are for a terminal.
+fn seen_output(output: PagesOutput) -> PagesOutput
+    ensures { result ≡ seen_output output }
+{
+    match output {
+        PagesOutput::Pages(format) => PagesOutput::Pages(seen_format(format)),
+        PagesOutput::Bytes(_) => output,
+    }
+}
+
+/// What is written of a recording, with pages as they are for a terminal.
+fn seen_reading(output: DecodeOutput) -> DecodeOutput
+    ensures { result ≡ seen_reading output }
+{
+    match output {
+        DecodeOutput::Pages(format, hearing) => DecodeOutput::Pages(seen_format(format), hearing),
+        _ => output,
+    }
+}
+
 /// Returns the job with its pages as they are for a terminal, where it writes pages. All else that the job says stays.
 pub fn seen_job<'a>(job: Job<'a>) -> Job<'a>
     ensures { result ≡ seen_job job.entry }
 {
     match job {
-        Job::Pages(form, present, delays, mode, PagesOutput::Pages(format)) => Job::Pages(
-            form,
-            present,
-            delays,
-            mode,
-            PagesOutput::Pages(seen_format(format)),
-        ),
+        Job::Pages(form, present, delays, mode, output) => {
+            Job::Pages(form, present, delays, mode, seen_output(output))
+        }
         Job::Decode {
             is_found,
             input,
-            output: DecodeOutput::Pages(format, hearing),
+            output,
         } => Job::Decode {
             is_found,
             input,
-            output: DecodeOutput::Pages(seen_format(format), hearing),
+            output: seen_reading(output),
         },
         Job::Raw { lower, format } => Job::Raw {
             lower,
