@@ -134,11 +134,9 @@ fn show_error(rt: &(impl Print + Eprint + AllocGlobal), error: &UsageError) {
         return;
     };
     let word = quoted(text.as_str());
-    if error.kind() == UsageKind::UnknownArgument && is_negative(word) {
+    if error.kind() == UsageKind::UnknownArgument && is_negative(word) && is_timed(text.as_str()) {
         show_without_tip(rt, text.as_str());
-        if is_timed(text.as_str()) {
-            let _ = rt.eprintln(format_args!("{MINUS}"));
-        }
+        let _ = rt.eprintln(format_args!("{MINUS}"));
         return;
     }
     let _ = error.print(rt);
