@@ -1,5 +1,5 @@
 -- Trusted: what the numbers and bytes that a caller passes mean.
-use Rattle.std.specs.Prelude.{◌≡◌, ℕ, ◌==◌, Bool, true, false, List, [], ◌∷◌, if◌then◌else◌, not, option_map, Option, Some, None, Result, Ok, take}
+use Rattle.std.specs.Prelude.{◌≡◌, ℕ, ◌==◌, Bool, true, false, List, [], ◌∷◌, if◌then◌else◌, not, option_map, nat_lt, Option, Some, None, Result, Ok, take}
 use Rattle.pr_basic.specs.declared.session.StatusMode.{StatusMode}
 use Rattle.pr_basic.specs.declared.session.StatusMode.TheVariants as mode
 use Rattle.pr_channels.specs.declared.faults.Stop.{Stop}
