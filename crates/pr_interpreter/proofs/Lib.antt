@@ -1,9 +1,11 @@
 pub mod AnswerLemmas
 pub mod BitLemmas
+pub mod DecimalLemmas
 pub mod ExactLemmas
 pub mod MadeLemmas
 pub mod NumberLemmas
 pub mod OrderLemmas
+pub mod PrintingLemmas
 pub mod RangeLemmas
 pub mod SignLemmas
 pub mod SpanLemmas

@@ -1,4 +1,6 @@
+pub mod Decimals
 pub mod Machine
 pub mod NumberLaws
 pub mod Numbers
+pub mod Printing
 pub mod Spans

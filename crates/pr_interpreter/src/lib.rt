@@ -41,17 +41,21 @@
 //! performs the same list, which follows by induction from the laws of numbers here.
 #![tactic(auto)]
 
+mod decimals;
 mod fault;
 pub mod laws;
 mod number;
 mod orders;
+mod printing;
 mod span;
 mod sums;
 mod whole_numbers;
 
+pub use decimals::{Decimal, Digits, ONES, decimal_of};
 pub use fault::NumberFault;
 pub use number::{Number, Sign, product, quotient};
 pub use orders::{Order, order_of};
+pub use printing::text_of;
 pub use span::{Span, answer};
 pub use sums::sum;
 pub use whole_numbers::{Whole, floor};
