@@ -5,6 +5,7 @@ pub mod ExactLemmas
 pub mod MadeLemmas
 pub mod NumberLemmas
 pub mod OrderLemmas
+pub mod PrintingLawLemmas
 pub mod PrintingLemmas
 pub mod RangeLemmas
 pub mod SignLemmas

@@ -3,4 +3,5 @@ pub mod Machine
 pub mod NumberLaws
 pub mod Numbers
 pub mod Printing
+pub mod PrintingLaws
 pub mod Spans

@@ -1,6 +1,7 @@
 //! Laws of the definitions, with nothing to run.
 
 ghost use Rattle.pr_interpreter.specs.NumberLaws.{FormsAreKept, MagnitudesAreCertain, NegationIsCertain, OrdersAreCertain, ProductsAreCertain, QuotientsAreCertain, SumsAreCertain, WholeNumbersAreExact, WholesAreCertain};
+ghost use Rattle.pr_interpreter.specs.PrintingLaws.{DigitsAreCertain, WholeNumbersReadBack};
 
 /// A law: whatever the machine may answer to a sum, a product or a quotient of values that two numbers
 /// enclose is in the number that is their sum, product or quotient; their order has what is true of the
@@ -16,4 +17,11 @@ pub fn calculations_are_certain()
     ensures orders { OrdersAreCertain }
     ensures forms { FormsAreKept }
     ensures wholes { WholesAreCertain }
+{}
+
+/// A law: whatever value a number stands for has the digits and the sign that are printed of the number; and a
+/// whole number below 1000000000 is printed, as the digits that write it, without a point.
+pub fn printing_is_certain()
+    ensures digits { DigitsAreCertain }
+    ensures whole { WholeNumbersReadBack }
 {}
