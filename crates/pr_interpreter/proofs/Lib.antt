@@ -1,5 +1,6 @@
 pub mod AnswerLemmas
 pub mod BitLemmas
+pub mod ConstantLemmas
 pub mod DecimalLemmas
 pub mod ExactLemmas
 pub mod MadeLemmas

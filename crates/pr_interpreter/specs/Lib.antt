@@ -1,3 +1,4 @@
+pub mod Constants
 pub mod Decimals
 pub mod Machine
 pub mod NumberLaws

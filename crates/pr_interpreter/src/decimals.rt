@@ -46,7 +46,7 @@ struct Count {
 
 /// Returns 5 ^ `exponent`.
 #[tactic(auto, using(crate::proofs::DecimalLemmas::five_fits, crate::proofs::DecimalLemmas::five_pos))]
-fn five(exponent: u16) -> u128
+pub fn five(exponent: u16) -> u128
     requires { exponent ≤ 37 }
     ensures value { result ≡ 5 ^ exponent }
     ensures within { result ≤ 5 ^ 37 }

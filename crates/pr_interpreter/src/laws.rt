@@ -1,6 +1,7 @@
 //! Laws of the definitions, with nothing to run.
 
 ghost use Rattle.pr_interpreter.specs.NumberLaws.{FormsAreKept, MagnitudesAreCertain, NegationIsCertain, OrdersAreCertain, ProductsAreCertain, QuotientsAreCertain, SumsAreCertain, WholeNumbersAreExact, WholesAreCertain};
+ghost use Rattle.pr_interpreter.specs.Constants.{ConstantsAreCertain};
 ghost use Rattle.pr_interpreter.specs.PrintingLaws.{DigitsAreCertain, WholeNumbersReadBack};
 
 /// A law: whatever the machine may answer to a sum, a product or a quotient of values that two numbers
@@ -24,4 +25,9 @@ pub fn calculations_are_certain()
 pub fn printing_is_certain()
     ensures digits { DigitsAreCertain }
     ensures whole { WholeNumbersReadBack }
+{}
+
+/// A law: whatever the machine may read of a decimal constant is in the number that is its value.
+pub fn constants_are_certain()
+    ensures { ConstantsAreCertain }
 {}

@@ -41,6 +41,7 @@
 //! performs the same list, which follows by induction from the laws of numbers here.
 #![tactic(auto)]
 
+mod constants;
 mod decimals;
 mod fault;
 pub mod laws;
@@ -51,6 +52,7 @@ mod span;
 mod sums;
 mod whole_numbers;
 
+pub use constants::{Constant, Tens, value_of};
 pub use decimals::{Decimal, Digits, ONES, decimal_of};
 pub use fault::NumberFault;
 pub use number::{Number, Sign, product, quotient};
