@@ -129,10 +129,10 @@ none_between units place count f large d h =
     elim (cases_lt d.place place) [
       | inl less ↦ let ten = f.finest d.place less in omega (arith, h.nine)
       | inr more ↦ elim (cases_lt place d.place) [
-          | inl less ↦ let ten = h.finest place less in omega (arith, ten, f.found, f.below)
-          | inr same ↦
-              let e : d.place ≡ place = omega arith in
-              let nine = subst (λ (p : ℕ). sixteenths p units < next_place) e h.nine in
-              omega (arith, f.found)
-        ]
+        | inl less ↦ let ten = h.finest place less in omega (arith, ten, f.found, f.below)
+        | inr same ↦
+            let e : d.place ≡ place = omega arith in
+            let nine = subst (λ (p : ℕ). sixteenths p units < next_place) e h.nine in
+            omega (arith, f.found)
+      ]
     ]

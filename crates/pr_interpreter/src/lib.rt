@@ -45,6 +45,7 @@ mod constants;
 mod decimals;
 mod fault;
 pub mod laws;
+mod lines;
 mod number;
 mod orders;
 mod printing;
@@ -54,7 +55,8 @@ mod whole_numbers;
 
 pub use constants::{Constant, Tens, value_of};
 pub use decimals::{Decimal, Digits, ONES, decimal_of};
-pub use fault::NumberFault;
+pub use fault::{NumberFault, ProgramFault};
+pub use lines::{Line, lines_of};
 pub use number::{Number, Sign, product, quotient};
 pub use orders::{Order, order_of};
 pub use printing::text_of;

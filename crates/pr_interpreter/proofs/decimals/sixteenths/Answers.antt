@@ -8,5 +8,5 @@ returns-in-None c =
     let large = rw five at c.in-None.ensures in
     rw (← sixteenths_found c.args.end c.args.scale c.args.place)
     (sixteenths_large
-        (c.args.end * 5 ^ (37 - c.args.place) * 2 ^ (c.args.scale + 41) / 2 ^ (c.args.place + 256))
-        c.args.place large c.requires.place)
+    (c.args.end * 5 ^ (37 - c.args.place) * 2 ^ (c.args.scale + 41) / 2 ^ (c.args.place + 256))
+    c.args.place large c.requires.place)
