@@ -1,18 +1,15 @@
-use Rattle.std.proofs.Common.{◌≡◌, ℕ, ℤ, pos, ◌≤ℤ◌, ◌+◌, ◌-◌, ◌*◌, ◌/◌, ◌^◌, ◌<◌, ◌≤◌, Bool, true, false, nat_le, if◌then◌else◌, arith, sym, subst, refl, ap, ◌∙◌, inl, inr, unsigned_abs, Result, Ok, Err}
+use Rattle.std.proofs.Common.{◌≡◌, ℕ, pos, ◌+◌, ◌-◌, ◌*◌, ◌/◌, ◌^◌, ◌<◌, ◌≤◌, Bool, true, false, nat_le, if◌then◌else◌, arith, sym, ap, ◌∙◌, inl, inr, Ok, Err}
 use Rattle.std.proofs.lemmas.Bool.{leb-true}
 use Rattle.std.proofs.lemmas.Int.{ints}
-use Rattle.std.proofs.lemmas.Nat.{pow_pos, pow-add, mul-pow}
+use Rattle.std.proofs.lemmas.Nat.{pow-add}
 use Rattle.std.proofs.Math.Nat.{mul-le-mul, mul-le-mul_right, div-mul-le_self, div-le_self}
-use Rattle.pr_interpreter.specs.Machine.{MayAnswer, unit_bits}
-use Rattle.pr_interpreter.specs.Spans.{IsWide, Holds, answer, bit_length}
+use Rattle.pr_interpreter.specs.Machine.{unit_bits}
+use Rattle.pr_interpreter.specs.Spans.{IsWide, Holds, answer}
 use Rattle.pr_interpreter.specs.Numbers.{Known, Encloses, signed, quotient_digits, quotient_scale}
 use Rattle.pr_interpreter.specs.Constants.{least, greatest, exponent_of, times_ten, over_ten, scaled_span, error_after, value_of, MayRead, ConstantsAreCertain}
-use Rattle.pr_interpreter.specs.declared.constants.Constant.{Constant}
 use Rattle.pr_interpreter.specs.declared.constants.Tens.{Tens}
 use Rattle.pr_interpreter.specs.declared.constants.Tens.TheVariants.{Times, Over}
-use Rattle.pr_interpreter.specs.declared.span.Span.{Span}
 use Rattle.pr_interpreter.specs.declared.number.Sign.TheVariants.{Plus}
-use Rattle.pr_interpreter.specs.declared.fault.NumberFault.{NumberFault}
 use Rattle.pr_interpreter.specs.declared.fault.NumberFault.TheVariants.{NotCertain}
 use Rattle.pr_interpreter.proofs.DecimalLemmas.{five_fits, five_pos, tens_split}
 use Rattle.pr_interpreter.proofs.PrintingLawLemmas.{ten_pos}

@@ -1,4 +1,4 @@
-use Rattle.std.proofs.Common.{◌≡◌, ◌≢◌, ℕ, ℤ, pos, ◌≤ℤ◌, zero, suc, ◌+◌, ◌-◌, ◌*◌, ◌/◌, ◌%◌, ◌^◌, ◌<◌, ◌≤◌, ◌==◌, Bool, true, false, List, [], ◌∷◌, ◌++◌, length, take, drop, get_or, if◌then◌else◌, arith, sym, subst, refl, ap, ◌∙◌, inl, inr, unsigned_abs}
+use Rattle.std.proofs.Common.{◌≡◌, ◌≢◌, ℕ, ℤ, pos, ◌≤ℤ◌, zero, suc, ◌+◌, ◌-◌, ◌*◌, ◌/◌, ◌%◌, ◌^◌, ◌<◌, ◌≤◌, Bool, true, false, List, [], ◌∷◌, get_or, if◌then◌else◌, arith, sym, subst, refl, ap, ◌∙◌, inl, inr, unsigned_abs}
 use Rattle.std.proofs.lemmas.Bool.{ne_eqb, cases_lt}
 use Rattle.std.proofs.lemmas.Int.{ints}
 use Rattle.std.proofs.lemmas.Nat.{pow_pos, pow-add, le-div}
@@ -7,16 +7,15 @@ use Rattle.std.proofs.Math.Nat.{add-sub_cancel_left, add-zero, div-div-eq-div-mu
 use Rattle.pr_interpreter.specs.Machine.{unit_bits}
 use Rattle.pr_interpreter.specs.Spans.{Holds}
 use Rattle.pr_interpreter.specs.Numbers.{Known, Encloses, HasSign, whole_number}
-use Rattle.pr_interpreter.specs.Decimals.{HasDigits, HasCommon, IsDecimal, sign_of, sixteenths, ten_digits, next_place}
-use Rattle.pr_interpreter.specs.Printing.{digit, nine_digits, significant, fraction, pointed, digits_text}
+use Rattle.pr_interpreter.specs.Decimals.{HasDigits, HasCommon, IsDecimal, sign_of, sixteenths, ten_digits}
+use Rattle.pr_interpreter.specs.Printing.{digit, nine_digits, significant, pointed, digits_text}
 use Rattle.pr_interpreter.specs.PrintingLaws.{DigitsAreCertain, AreDigits, read_digits, Writes, ReadsBack, WholeNumbersReadBack}
 use Rattle.pr_interpreter.specs.declared.decimals.Digits.{Digits}
 use Rattle.pr_interpreter.specs.declared.decimals.Decimal.{Decimal}
 use Rattle.pr_interpreter.specs.declared.span.Span.{Span}
 use Rattle.pr_interpreter.specs.declared.number.Sign.{Sign}
-use Rattle.pr_interpreter.specs.declared.number.Sign.TheVariants.{Plus, Minus, Either}
+use Rattle.pr_interpreter.specs.declared.number.Sign.TheVariants.{Plus, Minus}
 use Rattle.pr_interpreter.proofs.DecimalLemmas.{one_place, one_number}
-use Rattle.pr_interpreter.proofs.PrintingLemmas.{significant_none}
 
 -- ---- each value in a span has its digits
 

@@ -1,6 +1,6 @@
-use Rattle.std.proofs.Common.{◌≡◌, ◌≢◌, ℕ, zero, suc, ◌+◌, ◌-◌, ◌*◌, ◌/◌, ◌%◌, ◌^◌, ◌<◌, ◌≤◌, ◌==◌, Bool, true, false, List, [], ◌∷◌, ◌++◌, length, take, drop, get_or, if◌then◌else◌, arith, sym, subst, refl, ap, ◌∙◌, add-one}
+use Rattle.std.proofs.Common.{◌≡◌, ◌≢◌, ℕ, zero, suc, ◌+◌, ◌<◌, List, [], ◌∷◌, length, take, get_or, arith, refl, add-one}
 use Rattle.std.proofs.lemmas.Bool.{ne_eqb}
-use Rattle.pr_interpreter.specs.Printing.{significant, fraction}
+use Rattle.pr_interpreter.specs.Printing.{significant}
 
 -- ---- the last digit that is not 0
 

@@ -1,7 +1,7 @@
 -- Trusted: what is known of the value of a decimal constant.
 -- The machine reads the digits as a whole number, exactly below 2 ^ 32, and then multiplies or divides by ten for each
 -- place. It rounds each result to 32 binary digits, to the nearest.
-use Rattle.std.specs.Prelude.{ℕ, ℤ, pos, ◌+◌, ◌-◌, ◌*◌, ◌/◌, ◌^◌, ◌≤◌, ◌≡◌, Bool, nat_le, if◌then◌else◌, Result, Ok, Err}
+use Rattle.std.specs.Prelude.{ℕ, pos, ◌+◌, ◌-◌, ◌*◌, ◌/◌, ◌^◌, ◌≤◌, ◌≡◌, nat_le, if◌then◌else◌, Result, Ok, Err}
 use Rattle.pr_interpreter.specs.declared.constants.Constant.{Constant}
 use Rattle.pr_interpreter.specs.declared.constants.Tens.{Tens}
 use Rattle.pr_interpreter.specs.declared.constants.Tens.TheVariants.{Times, Over}
