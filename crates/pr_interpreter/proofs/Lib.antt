@@ -3,6 +3,7 @@ pub mod BitLemmas
 pub mod ConstantLemmas
 pub mod DecimalLemmas
 pub mod ExactLemmas
+pub mod LineLawLemmas
 pub mod LineLemmas
 pub mod MadeLemmas
 pub mod NumberLemmas

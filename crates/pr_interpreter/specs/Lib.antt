@@ -1,5 +1,6 @@
 pub mod Constants
 pub mod Decimals
+pub mod LineLaws
 pub mod Lines
 pub mod Machine
 pub mod NumberLaws

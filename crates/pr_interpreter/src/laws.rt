@@ -2,6 +2,7 @@
 
 ghost use Rattle.pr_interpreter.specs.NumberLaws.{FormsAreKept, MagnitudesAreCertain, NegationIsCertain, OrdersAreCertain, ProductsAreCertain, QuotientsAreCertain, SumsAreCertain, WholeNumbersAreExact, WholesAreCertain};
 ghost use Rattle.pr_interpreter.specs.Constants.{ConstantsAreCertain};
+ghost use Rattle.pr_interpreter.specs.LineLaws.{LinesAscend, TypedLinesCount};
 ghost use Rattle.pr_interpreter.specs.PrintingLaws.{DigitsAreCertain, WholeNumbersReadBack};
 
 /// A law: whatever the machine may answer to a sum, a product or a quotient of values that two numbers
@@ -30,4 +31,11 @@ pub fn printing_is_certain()
 /// A law: whatever the machine may read of a decimal constant is in the number that is its value.
 pub fn constants_are_certain()
     ensures { ConstantsAreCertain }
+{}
+
+/// A law: the lines of a text are sorted by their numbers, of which no two are equal; a line that is typed takes the
+/// place of the line of its number, or deletes it if it has nothing, and leaves all others.
+pub fn lines_are_sorted()
+    ensures sorted { LinesAscend }
+    ensures last { TypedLinesCount }
 {}
