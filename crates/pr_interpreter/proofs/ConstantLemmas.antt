@@ -52,7 +52,8 @@ times_parts a f p u m h = let product = mul-le-mul_right {m = a * u} {n = m} (p 
 pub times_parts_above : (a f p u m : ℕ) → m ≤ a * u → m * (p * f) ≤ a * f * (u * p) * 1
 times_parts_above a f p u m h = let product = mul-le-mul_right {m = m} {n = a * u} (p * f) h in omega arith
 
-pub times_holds : (n low high m : ℕ) → low * 2 ^ unit_bits ≤ m → m ≤ high * 2 ^ unit_bits → Holds (times_ten n low high) (m * 10 ^ n) 1
+pub times_holds : (n low high m : ℕ) → low * 2 ^ unit_bits ≤ m → m ≤ high * 2 ^ unit_bits
+    → Holds (times_ten n low high) (m * 10 ^ n) 1
 times_holds n low high m above below =
     let power = pow-add 2 unit_bits n in
     let ten = tens_split n in
@@ -67,41 +68,49 @@ over_parts c low f p q d s m e whole h =
     let product = mul-le-mul_right {m = c * f} {n = low * d} s whole in
     omega arith
 
-pub over_parts_above : (c high f p q d s m : ℕ) → p * q ≡ s → high * d ≤ c * f → m ≤ high * (d * s) → m ≤ c * p * (q * f)
+pub over_parts_above : (c high f p q d s m : ℕ) → p * q ≡ s → high * d ≤ c * f → m ≤ high * (d * s)
+    → m ≤ c * p * (q * f)
 over_parts_above c high f p q d s m e whole h =
     let same = ap (λ (t : ℕ). c * f * t) e in
     let product = mul-le-mul_right {m = high * d} {n = c * f} s whole in
     omega arith
 
-pub over_holds : (n low high m : ℕ) → n ≤ 37 → low * 2 ^ unit_bits ≤ m → m ≤ high * 2 ^ unit_bits → Holds (over_ten n low high) m (10 ^ n)
+pub over_holds : (n low high m : ℕ) → n ≤ 37 → low * 2 ^ unit_bits ≤ m → m ≤ high * 2 ^ unit_bits
+    → Holds (over_ten n low high) m (10 ^ n)
 over_holds n low high m h above below =
     let sum : quotient_scale - n + n ≡ quotient_scale = omega arith in
     let power = sym (pow-add 2 (quotient_scale - n) n) ∙ ap (λ (k : ℕ). 2 ^ k) sum in
     let ten = tens_split n in
     record {
       above = rw ten (over_parts (low * 2 ^ quotient_digits / 5 ^ n) low (5 ^ n) (2 ^ (quotient_scale - n)) (2 ^ n)
-          (2 ^ quotient_digits) (2 ^ quotient_scale) m power (div-mul-le_self (low * 2 ^ quotient_digits) (5 ^ n)) above);
-      below = rw ten (over_parts_above ((high * 2 ^ quotient_digits + (5 ^ n - 1)) / 5 ^ n) high (5 ^ n) (2 ^ (quotient_scale - n)) (2 ^ n)
-          (2 ^ quotient_digits) (2 ^ quotient_scale) m power (ceiling_of (high * 2 ^ quotient_digits) (5 ^ n) (five_pos n)) below);
+          (2 ^ quotient_digits) (2 ^ quotient_scale) m power (div-mul-le_self (low * 2 ^ quotient_digits) (5 ^ n))
+          above);
+      below = rw ten (over_parts_above ((high * 2 ^ quotient_digits + (5 ^ n - 1)) / 5 ^ n) high (5 ^ n)
+          (2 ^ (quotient_scale - n)) (2 ^ n)
+          (2 ^ quotient_digits) (2 ^ quotient_scale) m power
+          (ceiling_of (high * 2 ^ quotient_digits) (5 ^ n) (five_pos n)) below);
     }
 
 pub error_within : (roundings : ℕ) → error_after roundings ≤ 32
 unfolding error_after
 error_within roundings = omega arith
 
-pub value_encloses : (tens : Tens) (error low high m r : ℕ) (n : Known) → exponent_of tens ≤ 37 → error ≤ 32 → low ≤ high → high ≤ 2 ^ 33
+pub value_encloses : (tens : Tens) (error low high m r : ℕ) (n : Known) → exponent_of tens ≤ 37 → error ≤ 32
+    → low ≤ high → high ≤ 2 ^ 33
     → low * 2 ^ unit_bits ≤ m → m ≤ high * 2 ^ unit_bits → MayRead tens error m r
     → signed Plus (answer 32 error (scaled_span tens low high)) ≡ Ok n → Encloses n (pos r)
 value_encloses (Times k) error low high m r n h small order fits above below may e =
     let one : 0 < 1 = omega arith in
     let few : 32 ≤ 40 = omega arith in
     let scale : unit_bits + k ≤ 800 = omega arith in
-    signed_encloses Plus 32 error (times_ten k low high) n (m * 10 ^ k) 1 (pos r) (times_wide k low high h order fits) scale few small one
+    signed_encloses Plus 32 error (times_ten k low high) n (m * 10 ^ k) 1 (pos r)
+    (times_wide k low high h order fits) scale few small one
     (times_holds k low high m above below) may (omega (arith, ints)) e
 value_encloses (Over k) error low high m r n h small order fits above below may e =
     let few : 32 ≤ 40 = omega arith in
     let scale : quotient_scale - k ≤ 800 = omega arith in
-    signed_encloses Plus 32 error (over_ten k low high) n m (10 ^ k) (pos r) (over_wide k low high h order fits) scale few small (ten_pos k)
+    signed_encloses Plus 32 error (over_ten k low high) n m (10 ^ k) (pos r) (over_wide k low high h order fits)
+    scale few small (ten_pos k)
     (over_holds k low high m h above below) may (omega (arith, ints)) e
 
 pub one_more : (b : Bool) (n : ℕ) → n ≤ 2 ^ 32 → (n ≤ n + (if b then 1 else 0)) × (n + (if b then 1 else 0) ≤ 2 ^ 33)
@@ -112,9 +121,11 @@ pub constants_are_certain : ConstantsAreCertain
 unfolding value_of
 constants_are_certain c n m r few above below may e =
     let ends = one_more c.more c.digits few in
-    elim (known_branch (nat_le (exponent_of c.tens) 37) (signed Plus (answer 32 (error_after c.roundings) (scaled_span c.tens (least c) (greatest c)))) (Err NotCertain) n e) [
+    elim (known_branch (nat_le (exponent_of c.tens) 37) (signed Plus
+    (answer 32 (error_after c.roundings) (scaled_span c.tens (least c) (greatest c)))) (Err NotCertain) n e) [
       | inl found ↦
           let small = leb-true (exponent_of c.tens) 37 found.0 in
-          value_encloses c.tens (error_after c.roundings) (least c) (greatest c) m r n small (error_within c.roundings) ends.0 ends.1 above below may found.1
+          value_encloses c.tens (error_after c.roundings) (least c) (greatest c) m r n small
+          (error_within c.roundings) ends.0 ends.1 above below may found.1
       | inr none ↦ absurd (cc)
     ]

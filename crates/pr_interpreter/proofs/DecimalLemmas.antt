@@ -62,7 +62,8 @@ pub tens_split : (k : ℕ) → 10 ^ k ≡ 2 ^ k * 5 ^ k
 tens_split k = mul-pow 2 5 k
 
 pub sixteenths_found : (end scale place : ℕ)
-    → end * 5 ^ (37 - place) * 2 ^ (scale + 41) / 2 ^ (place + 256) / 5 ^ (place - 37) ≡ sixteenths place (end * 2 ^ scale)
+    → end * 5 ^ (37 - place) * 2 ^ (scale + 41) / 2 ^ (place + 256) / 5 ^ (place - 37) ≡ sixteenths place
+    (end * 2 ^ scale)
 unfolding sixteenths
 sixteenths_found end scale place =
     let up = pow-add 2 scale 41 in
@@ -71,8 +72,10 @@ sixteenths_found end scale place =
     let lower = mul-pos (pow_pos (place + 256)) (five_pos (place - 37)) in
     let tens : 0 < 10 ^ place = (let some : 0 < 10 = omega arith in omega (arith, one-le-pow place 10 some)) in
     let unit = mul-pos tens (pow_pos 256) in
-    let first : end * 5 ^ (37 - place) * 2 ^ (scale + 41) * (10 ^ place * 2 ^ 256) ≡ end * 2 ^ scale * 16 * 10 ^ 37 * (2 ^ (place + 256) * 5 ^ (place - 37))
-    = rw (up, down, ten) (crossed end (2 ^ scale) (5 ^ (37 - place)) (5 ^ (place - 37)) (2 ^ place) (5 ^ place) (2 ^ 256) (fives place)) in
+    let first : end * 5 ^ (37 - place) * 2 ^ (scale + 41) * (10 ^ place * 2 ^ 256) ≡ end * 2 ^ scale * 16 * 10 ^ 37
+    * (2 ^ (place + 256) * 5 ^ (place - 37))
+    = rw (up, down, ten) (crossed end (2 ^ scale) (5 ^ (37 - place)) (5 ^ (place - 37)) (2 ^ place) (5 ^ place)
+    (2 ^ 256) (fives place)) in
     div-div-eq-div-mul (end * 5 ^ (37 - place) * 2 ^ (scale + 41)) (2 ^ (place + 256)) (5 ^ (place - 37))
     ∙ same_quotient (end * 5 ^ (37 - place) * 2 ^ (scale + 41)) (2 ^ (place + 256) * 5 ^ (place - 37))
     (end * 2 ^ scale * 16 * 10 ^ 37) (10 ^ place * 2 ^ 256) lower unit first
@@ -105,7 +108,8 @@ one_number units d e h g =
 
 -- ---- what the first place gives
 
-pub digits_are : (units : ℕ) (d : Digits) (count : ℕ) → IsFirst units d.place count → count < next_place → d.digits ≡ (count + 8) / 16
+pub digits_are : (units : ℕ) (d : Digits) (count : ℕ) → IsFirst units d.place count → count < next_place
+    → d.digits ≡ (count + 8) / 16
     → HasDigits units d
 digits_are units d count h below e =
     let same = h.found in
@@ -117,14 +121,16 @@ digits_are units d count h below e =
     }
 
 -- without a place there are no digits
-pub none_without_place : (units : ℕ) → ((p : ℕ) → p < 68 → ten_digits ≤ sixteenths p units) → (d : Digits) → HasDigits units d → ⊥
+pub none_without_place : (units : ℕ) → ((p : ℕ) → p < 68 → ten_digits ≤ sixteenths p units) → (d : Digits)
+    → HasDigits units d → ⊥
 none_without_place units none d h =
     let within : d.place < 68 = omega (arith, h.within) in
     let large = none d.place within in
     omega (arith, h.nine)
 
 -- the first place is that of the digits
-pub none_between : (units place count : ℕ) → IsFirst units place count → next_place ≤ count → (d : Digits) → HasDigits units d → ⊥
+pub none_between : (units place count : ℕ) → IsFirst units place count → next_place ≤ count → (d : Digits)
+    → HasDigits units d → ⊥
 none_between units place count f large d h =
     elim (cases_lt d.place place) [
       | inl less ↦ let ten = f.finest d.place less in omega (arith, h.nine)

@@ -1,9 +1,9 @@
-use Rattle.std.proofs.Common.{◌≡◌, ◌≢◌, ℕ, zero, suc, ◌+◌, ◌<◌, ◌≤◌, ◌==◌, Bool, true, false, not, nat_lt, cond, List, [], ◌∷◌, ◌++◌, take, drop, filter, if◌then◌else◌, arith, sym, subst, refl, ap, ◌∙◌, Option, Some, None, Result, Ok, Err, inl, inr}
-use Rattle.std.specs.List.{insert, position_or_len, prefix_len}
-use Rattle.std.proofs.lemmas.Bool.{cases_lt, eq-eqb, eqb-false, le-ltb, lt-ltb}
+use Rattle.std.proofs.Common.{◌≡◌, ◌≢◌, ℕ, zero, suc, ◌+◌, ◌≤◌, ◌==◌, false, List, [], ◌∷◌, arith, subst, refl, ap, ◌∙◌, Option, Some, None, Result, Ok, Err, inl, inr}
+use Rattle.std.specs.List.{insert}
+use Rattle.std.proofs.lemmas.Bool.{cases_lt, eq-eqb, le-ltb, lt-ltb}
 use Rattle.std.proofs.lemmas.Bool.Decides.{eqb_tells}
-use Rattle.pr_interpreter.specs.Lines.{Row, after_rest, after_row, after_rows, enter, entered, go_on, is_empty, line_in, others, place_for, program_lines, rows_from}
-use Rattle.pr_interpreter.specs.LineLaws.{Ascend, LinesAscend, TypedLinesCount, line_of, typed_line}
+use Rattle.pr_interpreter.specs.Lines.{Row, after_rest, after_row, after_rows, enter, entered, go_on, others, place_for, program_lines, rows_from}
+use Rattle.pr_interpreter.specs.LineLaws.{Ascend, LinesAscend, TypedLinesCount, line_of}
 use Rattle.pr_interpreter.specs.declared.lines.Line.{Line}
 use Rattle.pr_interpreter.specs.declared.fault.ProgramFault.{ProgramFault}
 
@@ -19,7 +19,8 @@ lines_ok lines = Ok lines
 -- ---- the line of a number
 
 -- without the lines of a number the others stay
-pub others_line : (n number : ℕ) (lines : List Line) → (n == number) ≡ false → line_of number (others n lines) ≡ line_of number lines
+pub others_line : (n number : ℕ) (lines : List Line) → (n == number) ≡ false
+    → line_of number (others n lines) ≡ line_of number lines
 others_line n number [] e = refl
 others_line n number (x ∷ xs) e =
     elim (eqb_tells x.number n) [
@@ -63,22 +64,24 @@ unfolding enter
 typed_lines_count l lines number =
     elim (eqb_tells l.start l.end) [
       | inl empty ↦ elim (eqb_tells l.number number) [
-          | inl same ↦
-              rw (empty.0, same.0)
-              (subst (λ (n : ℕ). line_of n (others l.number lines) ≡ no_line) same.1 (others_none l.number lines))
-          | inr other ↦ rw (empty.0, other.0) (others_line l.number number lines other.0)
-        ]
+        | inl same ↦
+            rw (empty.0, same.0)
+            (subst (λ (n : ℕ). line_of n (others l.number lines) ≡ no_line) same.1 (others_none l.number lines))
+        | inr other ↦ rw (empty.0, other.0) (others_line l.number number lines other.0)
+      ]
       | inr full ↦ elim (eqb_tells l.number number) [
-          | inl same ↦
-              rw (full.0, same.0)
-              (subst
-                  (λ (n : ℕ). line_of n (insert (others l.number lines) (place_for l.number (others l.number lines)) l) ≡ some_line l) same.1
-                  (insert_found l (place_for l.number (others l.number lines)) (others l.number lines) (others_none l.number lines)))
-          | inr other ↦
-              rw (full.0, other.0)
-              (insert_other l number (place_for l.number (others l.number lines)) (others l.number lines) other.0
-              ∙ others_line l.number number lines other.0)
-        ]
+        | inl same ↦
+            rw (full.0, same.0)
+            (subst
+            (λ (n : ℕ). line_of n (insert (others l.number lines) (place_for l.number (others l.number lines)) l) ≡
+            some_line l) same.1
+            (insert_found l (place_for l.number (others l.number lines)) (others l.number lines)
+            (others_none l.number lines)))
+        | inr other ↦
+            rw (full.0, other.0)
+            (insert_other l number (place_for l.number (others l.number lines)) (others l.number lines) other.0
+            ∙ others_line l.number number lines other.0)
+      ]
     ]
 
 -- ---- their order
@@ -140,13 +143,15 @@ enter_ascends l lines asc =
 
 pub entered_ascends : (r : Result (Option Line) ProgramFault) (lines more : List Line) → Ascend 0 lines
     → entered r lines ≡ lines_ok more → Ascend 0 more
-entered_ascends (Ok None) lines more asc e = let same : lines ≡ more = cc in subst (λ (t : List Line). Ascend 0 t) same asc
+entered_ascends (Ok None) lines more asc e = let same : lines ≡ more = cc in subst (λ (t : List Line). Ascend 0 t)
+    same asc
 entered_ascends (Ok (Some l)) lines more asc e =
     let same : enter l lines ≡ more = cc in subst (λ (t : List Line). Ascend 0 t) same (enter_ascends l lines asc)
 entered_ascends (Err fault) lines more asc e = absurd (cc)
 
 -- what comes after a row comes of what the row left
-pub went_on : (r : Result (List Line) ProgramFault) (more : List Line → Result (List Line) ProgramFault) (out : List Line)
+pub went_on : (r : Result (List Line) ProgramFault) (more : List Line → Result (List Line) ProgramFault)
+    (out : List Line)
     → go_on r more ≡ lines_ok out → (lines : List Line) × (r ≡ lines_ok lines) × (more lines ≡ lines_ok out)
 went_on (Ok lines) more out e = (lines, refl, e)
 went_on (Err fault) more out e = absurd (cc)
@@ -156,7 +161,8 @@ pub rows_ascend : (text : List ℕ) (rows : List Row) (lines out : List Line) �
 unfolding after_row
 rows_ascend text [] lines out asc e = let same : lines ≡ out = cc in subst (λ (t : List Line). Ascend 0 t) same asc
 rows_ascend text (row ∷ rows) lines out asc e =
-    let step = went_on (after_row text row.start row.end lines) (λ (more : List Line). after_rows text rows more) out e in
+    let step = went_on (after_row text row.start row.end lines) (λ (more : List Line). after_rows text rows more)
+    out e in
     let kept = entered_ascends _ lines step.0 asc step.1 in
     rows_ascend text rows step.0 out kept step.2
 

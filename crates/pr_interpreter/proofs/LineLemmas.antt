@@ -22,18 +22,21 @@ pub too_large : (xs : List ℕ) (i n next whole : ℕ) → i < length xs → lin
 too_large xs i n next whole h e step large =
     let cons = drop-cons xs i 0 h in
     let grown = number_grows next (drop (suc i) xs) in
-    let same : line_number next (drop (suc i) xs) ≡ whole = rw step (sym (ap (λ (t : List ℕ). line_number n t) cons) ∙ e) in
+    let same : line_number next (drop (suc i) xs) ≡ whole = rw step
+    (sym (ap (λ (t : List ℕ). line_number n t) cons) ∙ e) in
     omega arith
 
 -- ---- a byte of a text
 
-pub row_ends : (text : List ℕ) (start place : ℕ) (lines : List Line) → place < length text → ends_row (get_or text place 0) ≡ true
+pub row_ends : (text : List ℕ) (start place : ℕ) (lines : List Line) → place < length text
+    → ends_row (get_or text place 0) ≡ true
     → after_rest text start place lines
     ≡ go_on (after_row text start place lines) (λ more. after_rest text (place + 1) (place + 1) more)
 unfolding after_rest
 row_ends text start place lines h e = rw (drop-cons text place 0 h, e, add-one place) refl
 
-pub row_goes_on : (text : List ℕ) (start place : ℕ) (lines : List Line) → place < length text → ends_row (get_or text place 0) ≡ false
+pub row_goes_on : (text : List ℕ) (start place : ℕ) (lines : List Line) → place < length text
+    → ends_row (get_or text place 0) ≡ false
     → after_rest text start place lines ≡ after_rest text start (place + 1) lines
 unfolding after_rest
 row_goes_on text start place lines h e = rw (drop-cons text place 0 h, e, add-one place) refl
@@ -44,8 +47,10 @@ ok_of lines = Ok lines
 abbrev pub err_of : ProgramFault → Result (List Line) ProgramFault
 err_of fault = Err fault
 
-pub row_taken : (text : List ℕ) (start place : ℕ) (lines more : List Line) → place < length text → ends_row (get_or text place 0) ≡ true
-    → after_row text start place lines ≡ ok_of more → after_rest text start place lines ≡ after_rest text (place + 1) (place + 1) more
+pub row_taken : (text : List ℕ) (start place : ℕ) (lines more : List Line) → place < length text
+    → ends_row (get_or text place 0) ≡ true
+    → after_row text start place lines ≡ ok_of more
+    → after_rest text start place lines ≡ after_rest text (place + 1) (place + 1) more
 row_taken text start place lines more h e done = row_ends text start place lines h e ∙ rw done refl
 
 pub row_refused : (text : List ℕ) (start place : ℕ) (lines : List Line) (fault : ProgramFault)
@@ -73,7 +78,8 @@ pub last_refused : (text : List ℕ) (start place : ℕ) (lines : List Line) (fa
     → after_row text start place lines ≡ err_of fault → after_rest text start place lines ≡ err_of fault
 last_refused text start place lines fault h done = last_row text start place lines h ∙ rw done refl
 
-pub last_fault : (text : List ℕ) (start place : ℕ) (lines : List Line) (fault : ProgramFault) (whole : Result (List Line) ProgramFault)
+pub last_fault : (text : List ℕ) (start place : ℕ) (lines : List Line) (fault : ProgramFault)
+    (whole : Result (List Line) ProgramFault)
     → place ≡ length text → (fault ≡ OutOfMemory) ⊎ (after_row text start (length text) lines ≡ err_of fault)
     → after_rest text start place lines ≡ whole → (fault ≡ OutOfMemory) ⊎ (whole ≡ err_of fault)
 last_fault text start place lines fault whole e (inl none) all = inl none

@@ -32,7 +32,8 @@ pub sixteenths_order : (p x y : ℕ) → x ≤ y → sixteenths p x ≤ sixteent
 unfolding sixteenths
 sixteenths_order p x y h =
     let product : x * 16 * 10 ^ 37 ≤ y * 16 * 10 ^ 37 = omega arith in
-    quotient_order (x * 16 * 10 ^ 37) (y * 16 * 10 ^ 37) (10 ^ p * 2 ^ unit_bits) (mul-pos (ten_pos p) (pow_pos unit_bits)) product
+    quotient_order (x * 16 * 10 ^ 37) (y * 16 * 10 ^ 37) (10 ^ p * 2 ^ unit_bits)
+    (mul-pos (ten_pos p) (pow_pos unit_bits)) product
 
 pub between : (a b c d : ℕ) → a ≤ b → b ≤ c → d ≡ (a + 8) / 16 → d ≡ (c + 8) / 16 → d ≡ (b + 8) / 16
 between a b c d first second low high = omega arith
@@ -42,7 +43,8 @@ squeezed low high u d above below first last =
     let under = sixteenths_order d.place low u above in
     let over = sixteenths_order d.place u high below in
     record {
-      rounded = between (sixteenths d.place low) (sixteenths d.place u) (sixteenths d.place high) d.digits under over first.rounded last.rounded;
+      rounded = between (sixteenths d.place low) (sixteenths d.place u) (sixteenths d.place high) d.digits under
+          over first.rounded last.rounded;
       nine = omega (arith, last.nine);
       finest = λ p h. (let ten = first.finest p h in let more = sixteenths_order p low u above in omega arith);
       within = first.within;
@@ -69,11 +71,16 @@ sign_is_certain n d x h e =
           subst (λ (s : Sign). HasSign s x) (h.sign ne) e.sign
       | inr none ↦
           let z : n.span.high ≡ 0 = omega arith in
-          subst (λ (b : Bool). HasSign (sign_of b) x) (sym (h.nothing z)) (sign_of_nothing n.span.high n.span.scale x e.magnitude.below z)
+          subst (λ (b : Bool). HasSign (sign_of b) x) (sym (h.nothing z))
+          (sign_of_nothing n.span.high n.span.scale x e.magnitude.below z)
     ]
 
 pub digits_are_certain : DigitsAreCertain
-digits_are_certain n d x h e = (enclosed n.span d.magnitude (unsigned_abs x) h.digits e.magnitude, sign_is_certain n d x h e)
+digits_are_certain n d x h e = (
+  enclosed n.span d.magnitude (unsigned_abs x) h.digits e.magnitude,
+  sign_is_certain n
+      d x h e,
+)
 
 -- ---- the digits of a whole number
 
@@ -92,7 +99,8 @@ whole_sixteenths n p h =
 pub ten_order : (i j : ℕ) → i ≤ j → 10 ^ i ≤ 10 ^ j
 ten_order i j h = let some : 0 < 10 = omega arith in pow-le-pow_right some h
 
-pub whole_finest : (n k p : ℕ) → k ≤ 8 → 10 ^ 9 ≤ n * 10 ^ k * 10 → p < 37 - k → ten_digits ≤ sixteenths p (n * 2 ^ unit_bits)
+pub whole_finest : (n k p : ℕ) → k ≤ 8 → 10 ^ 9 ≤ n * 10 ^ k * 10 → p < 37 - k
+    → ten_digits ≤ sixteenths p (n * 2 ^ unit_bits)
 whole_finest n k p few large h =
     let within : p ≤ 37 = omega arith in
     let finer : suc k ≤ 37 - p = omega arith in
@@ -135,7 +143,8 @@ zero_digit n k m e =
     let power = ap (λ (t : ℕ). 10 ^ t) (add-zero k) in
     let ten = ap (λ (t : ℕ). m * t) (pow-suc 10 k) in
     let whole : n ≡ m * 10 * 10 ^ k = omega (arith, e, ten) in
-    let quotient = ap (λ (t : ℕ). n / t) power ∙ ap (λ (t : ℕ). t / 10 ^ k) whole ∙ mul-div_cancel (m * 10) {n = 10 ^ k} (ten_pos k) in
+    let quotient = ap (λ (t : ℕ). n / t) power ∙ ap (λ (t : ℕ). t / 10 ^ k) whole ∙ mul-div_cancel (m * 10)
+    {n = 10 ^ k} (ten_pos k) in
     ap (λ (t : ℕ). 48 + t % 10) quotient ∙ omega arith
 
 pub zeros : (k n m : ℕ) → n ≡ m * 10 ^ k → significant (part k 0 n) ≡ 0
@@ -159,7 +168,8 @@ part_reads (suc w) k a n =
     let power = ap (λ (t : ℕ). 10 ^ t) order ∙ pow-add 10 k w in
     let down = div-div-eq-div-mul n (10 ^ k) (10 ^ w) ∙ sym (ap (λ (t : ℕ). n / t) power) in
     let turned : 10 ^ suc w ≡ 10 * 10 ^ w = omega (arith, pow-suc 10 w) in
-    let whole = ap (λ (t : ℕ). n / 10 ^ k % t) turned ∙ split ∙ ap (λ (t : ℕ). t % 10 * 10 ^ w + n / 10 ^ k % 10 ^ w) down in
+    let whole = ap (λ (t : ℕ). n / 10 ^ k % t) turned ∙ split ∙ ap
+    (λ (t : ℕ). t % 10 * 10 ^ w + n / 10 ^ k % 10 ^ w) down in
     let step = part_step a (n / 10 ^ (w + k) % 10) (10 ^ w) (n / 10 ^ k % 10 ^ w) (n / 10 ^ k % 10 ^ suc w) whole in
     last ∙ step ∙ ap (λ (t : ℕ). a * t + n / 10 ^ k % 10 ^ suc w) (sym (pow-suc 10 w))
 
@@ -170,7 +180,8 @@ pub record IsWritten (n : ℕ) : Type 0 where
   pub some : 0 < digits.place
   pub text : Writes (digits_text digits) n
 
-pub text_0 : (n : ℕ) → 100000000 ≤ n → digits_text (record { digits = n * 1; place = 37 }) ≡ part 9 0 (n * 1)
+pub text_0 : (n : ℕ) → 100000000 ≤ n
+    → digits_text (record { digits = n * 1; place = 37 }) ≡ part 9 0 (n * 1)
 unfolding digits_text pointed nine_digits
 text_0 n large =
     let some : n * 1 ≢ 0 = (λ e. omega arith) in
@@ -184,7 +195,8 @@ written_0 n large small =
     let above : 10 ^ 9 ≤ n * 10 ^ 0 * 10 = omega arith in
     let value : read_digits 0 (part 9 0 (n * 1)) ≡ n = omega (arith, part_reads 9 0 0 (n * 1)) in
     let first : get_or (part 9 0 (n * 1)) 0 0 ≢ 48 = (λ e. omega arith) in
-    let written : Writes (part 9 0 (n * 1)) n = record { digits = part_digits 9 0 (n * 1); first = first; value = value } in
+    let digits = part_digits 9 0 (n * 1) in
+    let written : Writes (part 9 0 (n * 1)) n = record { digits = digits; first = first; value = value } in
     record {
       digits = record { digits = n * 1; place = 37 };
       has = whole_has n 0 few below above;
@@ -192,7 +204,8 @@ written_0 n large small =
       text = rw (text_0 n large) written;
     }
 
-pub text_1 : (n : ℕ) → 10000000 ≤ n → digits_text (record { digits = n * 10; place = 36 }) ≡ part 8 1 (n * 10)
+pub text_1 : (n : ℕ) → 10000000 ≤ n
+    → digits_text (record { digits = n * 10; place = 36 }) ≡ part 8 1 (n * 10)
 unfolding digits_text pointed nine_digits
 text_1 n large =
     let some : n * 10 ≢ 0 = (λ e. omega arith) in
@@ -206,7 +219,8 @@ written_1 n large small =
     let above : 10 ^ 9 ≤ n * 10 ^ 1 * 10 = omega arith in
     let value : read_digits 0 (part 8 1 (n * 10)) ≡ n = omega (arith, part_reads 8 1 0 (n * 10)) in
     let first : get_or (part 8 1 (n * 10)) 0 0 ≢ 48 = (λ e. omega arith) in
-    let written : Writes (part 8 1 (n * 10)) n = record { digits = part_digits 8 1 (n * 10); first = first; value = value } in
+    let digits = part_digits 8 1 (n * 10) in
+    let written : Writes (part 8 1 (n * 10)) n = record { digits = digits; first = first; value = value } in
     record {
       digits = record { digits = n * 10; place = 36 };
       has = whole_has n 1 few below above;
@@ -214,7 +228,8 @@ written_1 n large small =
       text = rw (text_1 n large) written;
     }
 
-pub text_2 : (n : ℕ) → 1000000 ≤ n → digits_text (record { digits = n * 100; place = 35 }) ≡ part 7 2 (n * 100)
+pub text_2 : (n : ℕ) → 1000000 ≤ n
+    → digits_text (record { digits = n * 100; place = 35 }) ≡ part 7 2 (n * 100)
 unfolding digits_text pointed nine_digits
 text_2 n large =
     let some : n * 100 ≢ 0 = (λ e. omega arith) in
@@ -228,7 +243,8 @@ written_2 n large small =
     let above : 10 ^ 9 ≤ n * 10 ^ 2 * 10 = omega arith in
     let value : read_digits 0 (part 7 2 (n * 100)) ≡ n = omega (arith, part_reads 7 2 0 (n * 100)) in
     let first : get_or (part 7 2 (n * 100)) 0 0 ≢ 48 = (λ e. omega arith) in
-    let written : Writes (part 7 2 (n * 100)) n = record { digits = part_digits 7 2 (n * 100); first = first; value = value } in
+    let digits = part_digits 7 2 (n * 100) in
+    let written : Writes (part 7 2 (n * 100)) n = record { digits = digits; first = first; value = value } in
     record {
       digits = record { digits = n * 100; place = 35 };
       has = whole_has n 2 few below above;
@@ -236,7 +252,8 @@ written_2 n large small =
       text = rw (text_2 n large) written;
     }
 
-pub text_3 : (n : ℕ) → 100000 ≤ n → digits_text (record { digits = n * 1000; place = 34 }) ≡ part 6 3 (n * 1000)
+pub text_3 : (n : ℕ) → 100000 ≤ n
+    → digits_text (record { digits = n * 1000; place = 34 }) ≡ part 6 3 (n * 1000)
 unfolding digits_text pointed nine_digits
 text_3 n large =
     let some : n * 1000 ≢ 0 = (λ e. omega arith) in
@@ -250,7 +267,8 @@ written_3 n large small =
     let above : 10 ^ 9 ≤ n * 10 ^ 3 * 10 = omega arith in
     let value : read_digits 0 (part 6 3 (n * 1000)) ≡ n = omega (arith, part_reads 6 3 0 (n * 1000)) in
     let first : get_or (part 6 3 (n * 1000)) 0 0 ≢ 48 = (λ e. omega arith) in
-    let written : Writes (part 6 3 (n * 1000)) n = record { digits = part_digits 6 3 (n * 1000); first = first; value = value } in
+    let digits = part_digits 6 3 (n * 1000) in
+    let written : Writes (part 6 3 (n * 1000)) n = record { digits = digits; first = first; value = value } in
     record {
       digits = record { digits = n * 1000; place = 34 };
       has = whole_has n 3 few below above;
@@ -258,7 +276,8 @@ written_3 n large small =
       text = rw (text_3 n large) written;
     }
 
-pub text_4 : (n : ℕ) → 10000 ≤ n → digits_text (record { digits = n * 10000; place = 33 }) ≡ part 5 4 (n * 10000)
+pub text_4 : (n : ℕ) → 10000 ≤ n
+    → digits_text (record { digits = n * 10000; place = 33 }) ≡ part 5 4 (n * 10000)
 unfolding digits_text pointed nine_digits
 text_4 n large =
     let some : n * 10000 ≢ 0 = (λ e. omega arith) in
@@ -272,7 +291,8 @@ written_4 n large small =
     let above : 10 ^ 9 ≤ n * 10 ^ 4 * 10 = omega arith in
     let value : read_digits 0 (part 5 4 (n * 10000)) ≡ n = omega (arith, part_reads 5 4 0 (n * 10000)) in
     let first : get_or (part 5 4 (n * 10000)) 0 0 ≢ 48 = (λ e. omega arith) in
-    let written : Writes (part 5 4 (n * 10000)) n = record { digits = part_digits 5 4 (n * 10000); first = first; value = value } in
+    let digits = part_digits 5 4 (n * 10000) in
+    let written : Writes (part 5 4 (n * 10000)) n = record { digits = digits; first = first; value = value } in
     record {
       digits = record { digits = n * 10000; place = 33 };
       has = whole_has n 4 few below above;
@@ -280,7 +300,8 @@ written_4 n large small =
       text = rw (text_4 n large) written;
     }
 
-pub text_5 : (n : ℕ) → 1000 ≤ n → digits_text (record { digits = n * 100000; place = 32 }) ≡ part 4 5 (n * 100000)
+pub text_5 : (n : ℕ) → 1000 ≤ n
+    → digits_text (record { digits = n * 100000; place = 32 }) ≡ part 4 5 (n * 100000)
 unfolding digits_text pointed nine_digits
 text_5 n large =
     let some : n * 100000 ≢ 0 = (λ e. omega arith) in
@@ -294,7 +315,8 @@ written_5 n large small =
     let above : 10 ^ 9 ≤ n * 10 ^ 5 * 10 = omega arith in
     let value : read_digits 0 (part 4 5 (n * 100000)) ≡ n = omega (arith, part_reads 4 5 0 (n * 100000)) in
     let first : get_or (part 4 5 (n * 100000)) 0 0 ≢ 48 = (λ e. omega arith) in
-    let written : Writes (part 4 5 (n * 100000)) n = record { digits = part_digits 4 5 (n * 100000); first = first; value = value } in
+    let digits = part_digits 4 5 (n * 100000) in
+    let written : Writes (part 4 5 (n * 100000)) n = record { digits = digits; first = first; value = value } in
     record {
       digits = record { digits = n * 100000; place = 32 };
       has = whole_has n 5 few below above;
@@ -302,7 +324,8 @@ written_5 n large small =
       text = rw (text_5 n large) written;
     }
 
-pub text_6 : (n : ℕ) → 100 ≤ n → digits_text (record { digits = n * 1000000; place = 31 }) ≡ part 3 6 (n * 1000000)
+pub text_6 : (n : ℕ) → 100 ≤ n
+    → digits_text (record { digits = n * 1000000; place = 31 }) ≡ part 3 6 (n * 1000000)
 unfolding digits_text pointed nine_digits
 text_6 n large =
     let some : n * 1000000 ≢ 0 = (λ e. omega arith) in
@@ -316,7 +339,8 @@ written_6 n large small =
     let above : 10 ^ 9 ≤ n * 10 ^ 6 * 10 = omega arith in
     let value : read_digits 0 (part 3 6 (n * 1000000)) ≡ n = omega (arith, part_reads 3 6 0 (n * 1000000)) in
     let first : get_or (part 3 6 (n * 1000000)) 0 0 ≢ 48 = (λ e. omega arith) in
-    let written : Writes (part 3 6 (n * 1000000)) n = record { digits = part_digits 3 6 (n * 1000000); first = first; value = value } in
+    let digits = part_digits 3 6 (n * 1000000) in
+    let written : Writes (part 3 6 (n * 1000000)) n = record { digits = digits; first = first; value = value } in
     record {
       digits = record { digits = n * 1000000; place = 31 };
       has = whole_has n 6 few below above;
@@ -324,7 +348,8 @@ written_6 n large small =
       text = rw (text_6 n large) written;
     }
 
-pub text_7 : (n : ℕ) → 10 ≤ n → digits_text (record { digits = n * 10000000; place = 30 }) ≡ part 2 7 (n * 10000000)
+pub text_7 : (n : ℕ) → 10 ≤ n
+    → digits_text (record { digits = n * 10000000; place = 30 }) ≡ part 2 7 (n * 10000000)
 unfolding digits_text pointed nine_digits
 text_7 n large =
     let some : n * 10000000 ≢ 0 = (λ e. omega arith) in
@@ -338,7 +363,8 @@ written_7 n large small =
     let above : 10 ^ 9 ≤ n * 10 ^ 7 * 10 = omega arith in
     let value : read_digits 0 (part 2 7 (n * 10000000)) ≡ n = omega (arith, part_reads 2 7 0 (n * 10000000)) in
     let first : get_or (part 2 7 (n * 10000000)) 0 0 ≢ 48 = (λ e. omega arith) in
-    let written : Writes (part 2 7 (n * 10000000)) n = record { digits = part_digits 2 7 (n * 10000000); first = first; value = value } in
+    let digits = part_digits 2 7 (n * 10000000) in
+    let written : Writes (part 2 7 (n * 10000000)) n = record { digits = digits; first = first; value = value } in
     record {
       digits = record { digits = n * 10000000; place = 30 };
       has = whole_has n 7 few below above;
@@ -346,7 +372,8 @@ written_7 n large small =
       text = rw (text_7 n large) written;
     }
 
-pub text_8 : (n : ℕ) → 1 ≤ n → digits_text (record { digits = n * 100000000; place = 29 }) ≡ part 1 8 (n * 100000000)
+pub text_8 : (n : ℕ) → 1 ≤ n
+    → digits_text (record { digits = n * 100000000; place = 29 }) ≡ part 1 8 (n * 100000000)
 unfolding digits_text pointed nine_digits
 text_8 n large =
     let some : n * 100000000 ≢ 0 = (λ e. omega arith) in
@@ -360,7 +387,8 @@ written_8 n large small =
     let above : 10 ^ 9 ≤ n * 10 ^ 8 * 10 = omega arith in
     let value : read_digits 0 (part 1 8 (n * 100000000)) ≡ n = omega (arith, part_reads 1 8 0 (n * 100000000)) in
     let first : get_or (part 1 8 (n * 100000000)) 0 0 ≢ 48 = (λ e. omega arith) in
-    let written : Writes (part 1 8 (n * 100000000)) n = record { digits = part_digits 1 8 (n * 100000000); first = first; value = value } in
+    let digits = part_digits 1 8 (n * 100000000) in
+    let written : Writes (part 1 8 (n * 100000000)) n = record { digits = digits; first = first; value = value } in
     record {
       digits = record { digits = n * 100000000; place = 29 };
       has = whole_has n 8 few below above;
@@ -419,7 +447,8 @@ same_digits d e place digits =
     let made : ℕ → ℕ → Digits = (λ n p. record { digits = n; place = p }) in
     ap (λ (p : ℕ). made d.digits p) place ∙ ap (λ (n : ℕ). made n e.place) digits
 
-pub whole_decimal : (negative : Bool) (n : ℕ) → 0 < n → IsWritten n → (d : Decimal) × IsDecimal (whole_number negative n) d
+pub whole_decimal : (negative : Bool) (n : ℕ) → 0 < n → IsWritten n
+    → (d : Decimal) × IsDecimal (whole_number negative n) d
 whole_decimal negative n some w = (
   record { negative = negative; magnitude = w.digits },
   record {
@@ -430,7 +459,8 @@ whole_decimal negative n some w = (
   },
 )
 
-pub reads_back : (negative : Bool) (n : ℕ) (d : Decimal) → 0 < n → IsWritten n → IsDecimal (whole_number negative n) d → ReadsBack negative n d
+pub reads_back : (negative : Bool) (n : ℕ) (d : Decimal) → 0 < n → IsWritten n
+    → IsDecimal (whole_number negative n) d → ReadsBack negative n d
 reads_back negative n d some w h =
     let ne : n ≢ 0 = (λ e. omega arith) in
     let place = one_place (n * 2 ^ unit_bits) w.digits d.magnitude w.has h.digits.low in

@@ -28,6 +28,10 @@ pub record HasDigits (units : ℕ) (d : Digits) : Type 0 where
   pub finest : (p : ℕ) → p < d.place → ten_digits ≤ sixteenths p units
   pub within : d.place ≤ 67
 
+-- the count of sixteenths at a place where a magnitude has at most nine digits
+abbrev pub IsCount : ℕ → ℕ → ℕ → ℕ → Type 0
+IsCount units place at count = (at ≡ place) × (count ≡ sixteenths place units) × (count < ten_digits)
+
 -- the count of sixteenths at the first place where a magnitude has at most nine digits
 pub record IsFirst (units place count : ℕ) : Type 0 where
   pub found : count ≡ sixteenths place units

@@ -1,5 +1,5 @@
 -- What is certain of the lines of a text: they are sorted by their numbers, and of a number the line typed last counts.
-use Rattle.std.specs.Prelude.{ℕ, ◌+◌, ◌≤◌, ◌≡◌, ◌==◌, Bool, List, [], ◌∷◌, if◌then◌else◌, Option, Some, None, Result, Ok}
+use Rattle.std.specs.Prelude.{ℕ, ◌+◌, ◌≤◌, ◌≡◌, ◌==◌, List, [], ◌∷◌, if◌then◌else◌, Option, Some, None, Ok}
 use Rattle.pr_interpreter.specs.declared.lines.Line.{Line}
 use Rattle.pr_interpreter.specs.Lines.{enter, is_empty, program_lines}
 

@@ -1,10 +1,10 @@
 -- Trusted: the numbered lines of a program's text.
 -- A text is typed row by row. A row ends at a line feed (10), at a carriage return (13) or at the text's end.
-use Rattle.std.specs.Prelude.{ℕ, ◌+◌, ◌-◌, ◌*◌, ◌==◌, ◌||◌, ◌&&◌, Bool, not, List, [], ◌∷◌, length, take, drop, nat_lt, if◌then◌else◌, filter, slice_range, Option, Some, None, Result, Ok, Err}
+use Rattle.std.specs.Prelude.{ℕ, ◌+◌, ◌-◌, ◌*◌, ◌≡◌, ◌==◌, ◌⊎◌, ◌||◌, ◌&&◌, Bool, not, List, [], ◌∷◌, length, take, drop, nat_lt, if◌then◌else◌, filter, slice_range, Option, Some, None, Result, Ok, Err}
 use Rattle.std.specs.List.{insert, position_or_len}
 use Rattle.pr_interpreter.specs.declared.lines.Line.{Line}
 use Rattle.pr_interpreter.specs.declared.fault.ProgramFault.{ProgramFault}
-use Rattle.pr_interpreter.specs.declared.fault.ProgramFault.TheVariants.{LargeLineNumber, NoLineNumber}
+use Rattle.pr_interpreter.specs.declared.fault.ProgramFault.TheVariants.{LargeLineNumber, NoLineNumber, OutOfMemory}
 
 -- the byte ends a row
 abbrev pub ends_row : ℕ → Bool
@@ -87,7 +87,9 @@ entered (Err fault) lines = Err fault
 unfoldable pub after_row : List ℕ → ℕ → ℕ → List Line → Result (List Line) ProgramFault
 after_row text start end lines = entered (line_in start (slice_range text start end)) lines
 
-abbrev pub go_on : Result (List Line) ProgramFault → (List Line → Result (List Line) ProgramFault) → Result (List Line) ProgramFault
+-- what comes after a program, if there is one
+abbrev pub go_on : Result (List Line) ProgramFault → (List Line → Result (List Line) ProgramFault)
+    → Result (List Line) ProgramFault
 go_on (Ok lines) more = more lines
 go_on (Err fault) more = Err fault
 
@@ -103,3 +105,11 @@ after_rest text start place lines = after_rows text (rows_from start place (drop
 -- the lines of a text, sorted by their numbers
 unfoldable pub program_lines : List ℕ → Result (List Line) ProgramFault
 program_lines text = after_rest text 0 0 []
+
+-- memory ran out, or the fault is that of a definition
+abbrev pub FaultsAs : ProgramFault → Result (List Line) ProgramFault → Type 0
+FaultsAs fault wanted = (fault ≡ OutOfMemory) ⊎ (wanted ≡ Err fault)
+
+-- a program and a start lead on from the next byte as others do from a place
+abbrev pub LeadsOn : List ℕ → ℕ → ℕ → List Line → ℕ → List Line → Type 0
+LeadsOn text start place old next new = after_rest text start place old ≡ after_rest text next (place + 1) new

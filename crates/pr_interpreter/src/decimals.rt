@@ -2,7 +2,7 @@
 
 ghost use Rattle.std.specs.Prelude.{ℕ, ◌≡◌, ◌+◌, ◌-◌, ◌*◌, ◌/◌, ◌^◌, ◌<◌, ◌≤◌, MatchOption};
 ghost use Rattle.pr_interpreter.specs.Spans.{IsShort};
-ghost use Rattle.pr_interpreter.specs.Decimals.{HasCommon, HasDigits, IsDecimal, IsFirst, next_place, sixteenths, ten_digits};
+ghost use Rattle.pr_interpreter.specs.Decimals.{HasCommon, HasDigits, IsCount, IsDecimal, IsFirst, next_place, sixteenths, ten_digits};
 
 use crate::number::{Number, Sign};
 use crate::span::{Span, power};
@@ -103,7 +103,7 @@ fn count_at(end: u128, scale: u16, place: u16) -> Option<Count>
     requires end { end ≤ 2 ^ 40 }
     requires scale { scale ≤ 383 }
     requires place { place ≤ 67 }
-    ensures { MatchOption result (ten_digits ≤ sixteenths place (end * 2 ^ scale)) (λ c. (c.place ≡ place) × (c.sixteenths ≡ sixteenths place (end * 2 ^ scale)) × (c.sixteenths < ten_digits)) }
+    ensures { MatchOption result (ten_digits ≤ sixteenths place (end * 2 ^ scale)) (λ c. IsCount (end * 2 ^ scale) place c.place c.sixteenths) }
 {
     match sixteenths(end, scale, place) {
         Some(sixteenths) => {

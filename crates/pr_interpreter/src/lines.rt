@@ -1,7 +1,7 @@
 //! The numbered lines of a program's text.
 
-ghost use Rattle.std.specs.Prelude.{◌≡◌, ◌+◌, ◌^◌, ◌<◌, ◌≤◌, ◌⊎◌, length, MatchOption, MatchResult, OnOk, Ok, Err};
-ghost use Rattle.pr_interpreter.specs.Lines.{after_rest, after_row, blanks, ends_row, enter, front, is_empty, is_text, line_in, line_number, next_number, others, place_for, program_lines};
+ghost use Rattle.std.specs.Prelude.{◌≡◌, ◌+◌, ◌^◌, ◌<◌, ◌≤◌, length, IfErr, IfOk, IfSome, MatchOption, OnOk, Ok};
+ghost use Rattle.pr_interpreter.specs.Lines.{FaultsAs, LeadsOn, after_rest, after_row, blanks, ends_row, enter, front, is_empty, is_text, line_in, line_number, next_number, others, place_for, program_lines};
 
 use crate::fault::ProgramFault;
 use std::alloc::{AllocError, Global};
@@ -67,7 +67,8 @@ fn next_number(number: u32, b: u8) -> u32
 
 /// Returns the line number that digits make, with blanks between them, if it is at most 63999.
 fn line_number(digits: &[u8]) -> Option<u16>
-    ensures { MatchOption result (63999 < line_number 0 digits.now) (λ n. (n ≡ line_number 0 digits.now) × (n ≤ 63999)) }
+    ensures value { MatchOption result (63999 < line_number 0 digits.now) (λ n. n ≡ line_number 0 digits.now) }
+    ensures within { IfSome result (λ n. n ≤ 63999) }
 {
     let mut number: u32 = 0;
     for b in digits {
@@ -154,7 +155,8 @@ fn enter_row(
 ) -> Result<(), ProgramFault>
     requires order { start ≤ end }
     requires within { end ≤ length text.now }
-    ensures { MatchResult result (λ _. after_row text.now start end lines.old.items ≡ Ok lines.new.items) (λ fault. (fault ≡ ProgramFault.OutOfMemory) ⊎ (after_row text.now start end lines.old.items ≡ Err fault)) }
+    ensures ok { OnOk result (after_row text.now start end lines.old.items ≡ Ok lines.new.items) }
+    ensures err { IfErr result (λ fault. FaultsAs fault (after_row text.now start end lines.old.items)) }
 {
     match line_in(start, &text[start..end]) {
         Ok(Some(line)) => match enter(lines, line) {
@@ -183,7 +185,9 @@ fn take_byte(
 ) -> Result<usize, ProgramFault>
     requires order { start ≤ place }
     requires within { place < length text.now }
-    ensures { MatchResult result (λ next. (after_rest text.now start place lines.old.items ≡ after_rest text.now next (place + 1) lines.new.items) × (next ≤ place + 1)) (λ fault. (fault ≡ ProgramFault.OutOfMemory) ⊎ (after_rest text.now start place lines.old.items ≡ Err fault)) }
+    ensures ok { IfOk result (λ next. LeadsOn text.now start place lines.old.items next lines.new.items) }
+    ensures order { IfOk result (λ next. next ≤ place + 1) }
+    ensures err { IfErr result (λ fault. FaultsAs fault (after_rest text.now start place lines.old.items)) }
 {
     if ends_row(text[place]) {
         match enter_row(lines, text, start, place) {
@@ -203,7 +207,8 @@ fn take_byte(
 /// The first row that does not begin with a line number, or with one above 63999; or that memory ran out.
 #[tactic(auto, using(crate::proofs::LineLemmas::from_start, crate::proofs::LineLemmas::last_taken, crate::proofs::LineLemmas::last_refused))]
 pub fn lines_of(alloc: Global, text: &[u8]) -> Result<Vec<Line>, ProgramFault>
-    ensures { MatchResult result (λ lines. program_lines text.now ≡ Ok lines.items) (λ fault. (fault ≡ ProgramFault.OutOfMemory) ⊎ (program_lines text.now ≡ Err fault)) }
+    ensures lines { IfOk result (λ lines. program_lines text.now ≡ Ok lines.items) }
+    ensures fault { IfErr result (λ fault. FaultsAs fault (program_lines text.now)) }
 {
     let mut lines = Vec::new(alloc);
     let mut start = 0;

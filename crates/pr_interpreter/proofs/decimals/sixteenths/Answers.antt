@@ -4,7 +4,8 @@ use Rattle.pr_interpreter.proofs.decimals.sixteenths.Goals as goal
 
 pub returns-in-None : goal.returns-in-None
 returns-in-None c =
-    let five : c.five.result ≡ 5 ^ (37 - c.args.place) = c.five.ensures.value ∙ ap (λ (k : ℕ). 5 ^ k) c.saturating_sub.ensures in
+    let exponent = ap (λ (k : ℕ). 5 ^ k) c.saturating_sub.ensures in
+    let five : c.five.result ≡ 5 ^ (37 - c.args.place) = c.five.ensures.value ∙ exponent in
     let large = rw five at c.in-None.ensures in
     rw (← sixteenths_found c.args.end c.args.scale c.args.place)
     (sixteenths_large
