@@ -1,9 +1,15 @@
 pub mod AnswerLemmas
 pub mod BitLemmas
+pub mod ConstantLemmas
+pub mod DecimalLemmas
 pub mod ExactLemmas
+pub mod LineLawLemmas
+pub mod LineLemmas
 pub mod MadeLemmas
 pub mod NumberLemmas
 pub mod OrderLemmas
+pub mod PrintingLawLemmas
+pub mod PrintingLemmas
 pub mod RangeLemmas
 pub mod SignLemmas
 pub mod SpanLemmas

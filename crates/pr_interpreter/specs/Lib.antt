@@ -1,4 +1,10 @@
+pub mod Constants
+pub mod Decimals
+pub mod LineLaws
+pub mod Lines
 pub mod Machine
 pub mod NumberLaws
 pub mod Numbers
+pub mod Printing
+pub mod PrintingLaws
 pub mod Spans

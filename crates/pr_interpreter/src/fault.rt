@@ -1,4 +1,4 @@
-//! Why a calculation has no result.
+//! Why a calculation has no result, or a text is no program.
 
 /// Why a calculation has no result.
 #[derive(Clone, Copy, Debug, PartialEq, Eq)]
@@ -9,4 +9,15 @@ pub enum NumberFault {
     Overflow,
     /// The divisor is 0: the machine reports `?DIVISION BY ZERO ERROR`.
     DivisionByZero,
+}
+
+/// Why a text is no program.
+#[derive(Clone, Copy, Debug, PartialEq, Eq)]
+pub enum ProgramFault {
+    /// Memory ran out.
+    OutOfMemory,
+    /// At this place, the number of bytes before it, a row does not begin with a line number.
+    NoLineNumber(usize),
+    /// At this place is a line number above 63999.
+    LargeLineNumber(usize),
 }

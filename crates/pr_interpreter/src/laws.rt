@@ -1,6 +1,9 @@
 //! Laws of the definitions, with nothing to run.
 
 ghost use Rattle.pr_interpreter.specs.NumberLaws.{FormsAreKept, MagnitudesAreCertain, NegationIsCertain, OrdersAreCertain, ProductsAreCertain, QuotientsAreCertain, SumsAreCertain, WholeNumbersAreExact, WholesAreCertain};
+ghost use Rattle.pr_interpreter.specs.Constants.{ConstantsAreCertain};
+ghost use Rattle.pr_interpreter.specs.LineLaws.{LinesAscend, TypedLinesCount};
+ghost use Rattle.pr_interpreter.specs.PrintingLaws.{DigitsAreCertain, WholeNumbersReadBack};
 
 /// A law: whatever the machine may answer to a sum, a product or a quotient of values that two numbers
 /// enclose is in the number that is their sum, product or quotient; their order has what is true of the
@@ -16,4 +19,23 @@ pub fn calculations_are_certain()
     ensures orders { OrdersAreCertain }
     ensures forms { FormsAreKept }
     ensures wholes { WholesAreCertain }
+{}
+
+/// A law: whatever value a number stands for has the digits and the sign that are printed of the number; and a
+/// whole number below 1000000000 is printed, as the digits that write it, without a point.
+pub fn printing_is_certain()
+    ensures digits { DigitsAreCertain }
+    ensures whole { WholeNumbersReadBack }
+{}
+
+/// A law: whatever the machine may read of a decimal constant is in the number that is its value.
+pub fn constants_are_certain()
+    ensures { ConstantsAreCertain }
+{}
+
+/// A law: the lines of a text are sorted by their numbers, of which no two are equal; a line that is typed takes the
+/// place of the line of its number, or deletes it if it has nothing, and leaves all others.
+pub fn lines_are_sorted()
+    ensures sorted { LinesAscend }
+    ensures last { TypedLinesCount }
 {}

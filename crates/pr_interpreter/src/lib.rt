@@ -12,8 +12,12 @@
 //!   ([`answer`]); `specs/Spans.antt` defines both.
 //! - `number` has numbers, a sign and a span, and their products and quotients; `sums`, `orders` and
 //!   `whole_numbers` have their sums, their comparisons and INT. `specs/Numbers.antt` defines them.
+//! - `decimals` has the nine digits that are printed of a number, where they are certain, and `printing` their text;
+//!   `constants` has the value of a decimal constant.
+//! - `lines` has the numbered lines of a program's text, sorted.
 //! - `laws` has what is proved of the definitions: what the machine may answer to a calculation
-//!   (`specs/Machine.antt`) is in the number that the calculation gives, for all values in its operands.
+//!   (`specs/Machine.antt`) is in the number that the calculation gives, for all values in its operands; what is
+//!   printed of a number is so for each of its values; the lines of a text are sorted.
 //!
 //! # How the rest is to be built on it
 //!
@@ -24,8 +28,9 @@
 //! Its definition is a recursion over the tree: `value_of : State → Expression → Result Value Stop`, where
 //! a stop is a fault of BASIC (an error with its line, which ends the run) or a refusal (`not certain`, or
 //! what is refused by name) with its place. A node takes its operands' values from left to right, and the
-//! first stop counts. A number goes into an index, `TAB`, `CHR$` or `ON` by [`floor`], and into a text by its
-//! digits, which answer only if the whole span gives one answer.
+//! first stop counts. A number goes into an index, `TAB`, `CHR$` or `ON` by [`floor`], and into a text by
+//! [`decimal_of`] and [`text_of`], which answer only if the whole span gives one answer. A constant is read into a
+//! [`Constant`]: its digits, and how often the machine may round on the way.
 //!
 //! **Statements.** A state is the variables, the arrays, the loops and returns that are open (a stack), the
 //! place in DATA, the files, the column of the screen (known or not), and the place of the next statement.
@@ -41,17 +46,25 @@
 //! performs the same list, which follows by induction from the laws of numbers here.
 #![tactic(auto)]
 
+mod constants;
+mod decimals;
 mod fault;
 pub mod laws;
+mod lines;
 mod number;
 mod orders;
+mod printing;
 mod span;
 mod sums;
 mod whole_numbers;
 
-pub use fault::NumberFault;
+pub use constants::{Constant, Tens, value_of};
+pub use decimals::{Decimal, Digits, ONES, decimal_of};
+pub use fault::{NumberFault, ProgramFault};
+pub use lines::{Line, lines_of};
 pub use number::{Number, Sign, product, quotient};
 pub use orders::{Order, order_of};
+pub use printing::text_of;
 pub use span::{Span, answer};
 pub use sums::sum;
 pub use whole_numbers::{Whole, floor};

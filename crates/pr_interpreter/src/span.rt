@@ -20,7 +20,7 @@ pub struct Span {
 }
 
 /// Returns 2 ^ `exponent`.
-fn power(exponent: u32) -> u128
+pub fn power(exponent: u32) -> u128
     requires { exponent ≤ 127 }
     ensures { result ≡ 2 ^ exponent }
 {
