@@ -27,11 +27,12 @@ mod state;
 mod work;
 
 pub use carriage::{Carriage, Made, MarkOnPaper};
+pub use codes::code_name;
 pub use head::{Head, LAST_LINE, heads_make_pages};
 pub use input::Input;
 pub use paper::{Mark, Paper, Placed, Row, Sequence};
 pub use pending::Pending;
 pub use pr_base::NoMemory;
 pub use printer::{Printer, each_list_has_one_page};
-pub use settings::Settings;
+pub use settings::{Settings, modes_look_back};
 pub use work::LINE_DOTS;

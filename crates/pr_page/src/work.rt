@@ -3,10 +3,9 @@
 ghost use Rattle.std.specs.Prelude.{◌≡◌, Bool};
 ghost use Rattle.pr_page.specs.Token.{Plain};
 ghost use Rattle.pr_page.specs.Acts.{acts_in, is_cell, moves_to_column, moves_to_dot};
-ghost use Rattle.pr_page.specs.Linked.{modes_of};
 ghost use Rattle.pr_page.specs.Steps.{acts_of_tokens, acts_of_work, completed_by, tokens_by, FitsLine};
 
-use crate::codes::{CARRIAGE_RETURN, COLUMN, LINE_FEED};
+use crate::codes::{COLUMN, ends_line};
 use crate::paper::Mark;
 use crate::pending::{Pending, begins_command};
 use crate::settings::Settings;
@@ -45,10 +44,10 @@ impl Work {
     /// What a byte by itself does under these settings and with this set selected.
     #[inline(always)]
     pub fn of_plain(settings: Settings, lower: bool, b: u8) -> Work
-        ensures acts { acts_of_work settings.graphic result ≡ acts_in (modes_of settings) (Plain lower b) }
+        ensures acts { acts_of_work settings.graphic result ≡ acts_in settings (Plain lower b) }
         ensures fits { FitsLine result }
     {
-        if b == LINE_FEED || b == CARRIAGE_RETURN {
+        if ends_line(b) {
             Work::EndLine
         } else if settings.graphic {
             if b >= 128 {
