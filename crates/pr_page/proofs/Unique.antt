@@ -33,7 +33,8 @@ pending_after_all p (b ∷ bs) = pending_after_all (pending_after p b) bs
 
 -- bytes that complete no token, and then one that completes a command
 command_front : (p : Pending) (bs : List ℕ) (z : ℕ) (t : Token) (front more : List Came) → IsQuiet p bs →
-    ((lower : Bool) → tokens_by (pending_after_all p bs) lower z ≡ t ∷ []) → pending_after (pending_after_all p bs) z ≡ Idle →
+    ((lower : Bool) → tokens_by (pending_after_all p bs) lower z ≡ t ∷ []) →
+    pending_after (pending_after_all p bs) z ≡ Idle →
     map (λ c. c.byte) front ≡ bs ++ z ∷ [] → run p (front ++ more) ≡ t ∷ run Idle more
 command_front p [] z t [] more quiet completes idle h = absurd cc
 command_front p [] z t (x ∷ []) more quiet completes idle h =
@@ -78,19 +79,24 @@ plain_front (x ∷ []) more lower b h k n16 n26 n27 =
 plain_front (x ∷ y ∷ front) more lower b h k n16 n26 n27 = absurd cc
 
 front_run : (front more : List Came) (t : Token) → map (λ c. c.byte) front ≡ spelling_of t → MayStand front t more → run Idle (front ++ more) ≡ t ∷ run Idle more
-front_run front more (Column a b) h k = command_front Idle (16 ∷ a ∷ []) b (Column a b) front more ((λ l. refl), ((λ l. refl), tt)) (λ l. refl) refl h
-front_run front more (Repeat n d) h k = command_front Idle (26 ∷ n ∷ []) d (Repeat n d) front more ((λ l. refl), ((λ l. refl), tt)) (λ l. refl) refl h
-front_run front more (Address u l) h k =
-    command_front Idle (27 ∷ 16 ∷ u ∷ []) l (Address u l) front more ((λ l. refl), ((λ l. refl), ((λ l. refl), tt))) (λ l. refl) refl h
+front_run front more (Column a b) h k =
+    command_front Idle (16 ∷ a ∷ []) b (Column a b) front more ((λ l. refl), ((λ l. refl), tt)) (λ l. refl) refl h
+front_run front more (Repeat n d) h k =
+    command_front Idle (26 ∷ n ∷ []) d (Repeat n d) front more ((λ l. refl), ((λ l. refl), tt)) (λ l. refl) refl h
+front_run front more (Address u d) h k =
+    command_front Idle (27 ∷ 16 ∷ u ∷ []) d (Address u d) front more
+    ((λ l. refl), ((λ l. refl), ((λ l. refl), tt))) (λ l. refl) refl h
 front_run front more Nothing h k = nothing_front front more h k
 front_run front more (Plain lower b) h k = plain_front front more lower b h k.0 k.1 k.2 k.3
 
 -- the bytes that are left complete no token
 rest_run : (rest : List Came) (t : Token) (next : ℕ) (more : List ℕ) → spelling_of t ≡ map (λ c. c.byte) rest ++ next ∷ more → run Idle rest ≡ []
-rest_run rest (Column a b) next more h = quiet_front Idle (16 ∷ a ∷ []) b rest next more ((λ l. refl), ((λ l. refl), tt)) (sym h)
-rest_run rest (Repeat n d) next more h = quiet_front Idle (26 ∷ n ∷ []) d rest next more ((λ l. refl), ((λ l. refl), tt)) (sym h)
-rest_run rest (Address u l) next more h =
-    quiet_front Idle (27 ∷ 16 ∷ u ∷ []) l rest next more ((λ l. refl), ((λ l. refl), ((λ l. refl), tt))) (sym h)
+rest_run rest (Column a b) next more h =
+    quiet_front Idle (16 ∷ a ∷ []) b rest next more ((λ l. refl), ((λ l. refl), tt)) (sym h)
+rest_run rest (Repeat n d) next more h =
+    quiet_front Idle (26 ∷ n ∷ []) d rest next more ((λ l. refl), ((λ l. refl), tt)) (sym h)
+rest_run rest (Address u d) next more h =
+    quiet_front Idle (27 ∷ 16 ∷ u ∷ []) d rest next more ((λ l. refl), ((λ l. refl), ((λ l. refl), tt))) (sym h)
 rest_run rest Nothing next more h = quiet_front Idle [] 27 rest next more tt (sym h)
 rest_run rest (Plain lower b) next more h = quiet_front Idle [] b rest next more tt (sym h)
 

@@ -8,20 +8,19 @@ pub record Code : Type 0 where
   pub ends_line : Bool
   pub sets : Settings → Settings
 
--- a code that ends no line
+-- a code that ends no line, and one that does
 abbrev pub code : (name : List ℕ) → (Settings → Settings) → Code
 code name sets = record { name = name; ends_line = false; sets = sets }
 
--- a code in character mode alone: in graphic mode its byte is a column of dots
-abbrev pub character_code : (name : List ℕ) → (Settings → Settings) → Code
-character_code name sets = code name (λ m. if m.graphic then m else sets m)
+abbrev pub line_end : (name : List ℕ) → (Settings → Settings) → Code
+line_end name sets = record { name = name; ends_line = true; sets = sets }
 
--- the row of a byte; a byte that is no control code has no name and sets nothing
+-- the row of a byte; one that is no code has no name and sets nothing. 145 and 146 are columns of dots in graphic mode
 unfoldable pub code_of : ℕ → Code
 code_of b =
     if b == 8 then code (codes "graphic mode") (λ m. record m { graphic = true })
-    else (if b == 10 then record (code (codes "line feed") (λ m. m)) { ends_line = true }
-    else (if b == 13 then record (code (codes "return") (λ m. record m { reverse = false; override_set = None })) { ends_line = true }
+    else (if b == 10 then line_end (codes "line feed") (λ m. m)
+    else (if b == 13 then line_end (codes "return") (λ m. record m { reverse = false; override_set = None })
     else (if b == 14 then code (codes "double width") (λ m. record m { graphic = false; wide = true })
     else (if b == 15 then code (codes "standard width") (λ m. record m { graphic = false; wide = false })
     else (if b == 16 then code (codes "column") (λ m. m)
@@ -29,6 +28,7 @@ code_of b =
     else (if b == 18 then code (codes "reverse on") (λ m. record m { reverse = true })
     else (if b == 26 then code (codes "repeat") (λ m. m)
     else (if b == 27 then code (codes "escape") (λ m. m)
-    else (if b == 145 then character_code (codes "upper case") (λ m. record m { override_set = Some false })
-    else (if b == 146 then character_code (codes "reverse off") (λ m. record m { reverse = false })
+    else (if b == 145 then code (codes "upper case")
+    (λ m. if m.graphic then m else record m { override_set = Some false })
+    else (if b == 146 then code (codes "reverse off") (λ m. if m.graphic then m else record m { reverse = false })
     else code [] (λ m. m))))))))))))

@@ -20,15 +20,14 @@ last_width before = last_byte (λ earlier b. b == 14 || b == 15) before
 
 -- the last of 13, 18, and 146 outside graphic mode
 abbrev pub last_reverse : List Token → ℕ
-last_reverse before =
-    last_byte (λ earlier b. b == 13 || (b == 18 || (b == 146 && not (last_mode earlier == 8)))) before
+last_reverse before = last_byte (λ earlier b. b == 13 || (b == 18 || (b == 146 && not (last_mode earlier == 8)))) before
 
 -- the last of 13, 17, and 145 outside graphic mode
 abbrev pub last_set : List Token → ℕ
 last_set before = last_byte (λ earlier b. b == 13 || (b == 17 || (b == 145 && not (last_mode earlier == 8)))) before
 
--- the modes that such bytes make: graphic mode is 8, double width 14, reverse printing 18, the lower/upper case set 17 and
--- the graphic/upper case set 145
+-- the modes that such bytes make: 8 is graphic mode, 14 double width, 18 reverse printing, 17 the lower/upper case set
+-- and 145 the graphic/upper case set
 abbrev pub modes_of : (mode width reverse set : ℕ) → Settings
 modes_of mode width reverse set = record {
   graphic = mode == 8;

@@ -3,10 +3,10 @@
 ghost use Rattle.std.specs.Prelude.{◌≡◌, Bool};
 ghost use Rattle.pr_page.specs.Codes.{code_of};
 ghost use Rattle.pr_page.specs.ModeLaws.{ModesLookBack};
-ghost use Rattle.pr_page.specs.Steps.{completed_by, settings_of_tokens, tokens_by};
+ghost use Rattle.pr_page.specs.Steps.{settings_of_tokens, tokens_by};
 
 use crate::codes::{
-    CARRIAGE_RETURN, COLUMN, DOUBLE_WIDTH, GRAPHIC_MODE, LOWER_CASE, REVERSE_OFF, REVERSE_ON,
+    CARRIAGE_RETURN, DOUBLE_WIDTH, GRAPHIC_MODE, LOWER_CASE, REVERSE_OFF, REVERSE_ON,
     STANDARD_WIDTH, UPPER_CASE,
 };
 use crate::pending::{Pending, begins_command};
@@ -50,28 +50,16 @@ impl Settings {
         self
     }
 
-    /// The settings after a byte that no command takes, which may begin one.
-    #[inline(always)]
-    fn after_unclaimed(self, b: u8) -> Settings
-        ensures { (lower : Bool) → result ≡ settings_of_tokens self (completed_by lower b) }
-    {
-        if begins_command(b) {
-            self
-        } else {
-            self.after(b)
-        }
-    }
-
     /// The settings after a byte that comes after the bytes of a command that are pending.
     #[inline(always)]
     pub fn after_byte(self, pending: Pending, b: u8) -> Settings
         ensures { (lower : Bool) → result ≡ settings_of_tokens self (tokens_by pending lower b) }
     {
         match pending {
-            Pending::Idle => self.after_unclaimed(b),
-            Pending::EscapeCode if b == COLUMN => self,
-            Pending::EscapeCode => self.after_unclaimed(b),
-            Pending::ColumnCode
+            Pending::Idle | Pending::EscapeCode if !begins_command(b) => self.after(b),
+            Pending::Idle
+            | Pending::EscapeCode
+            | Pending::ColumnCode
             | Pending::ColumnTens(_)
             | Pending::RepeatCode
             | Pending::RepeatCount(_)
