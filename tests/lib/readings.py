@@ -55,10 +55,9 @@ GUIDE = {
     "longest high half": (20, None),
     "acknowledgement": (0, 1000),
 }
-CODES = {
-    8: "graphic mode", 10: "line feed", 13: "return", 14: "double width", 15: "standard width", 16: "column", 17: "lower case",
-    18: "reverse on", 26: "repeat", 27: "escape", 145: "upper case", 146: "reverse off",
-}
+# The printer's codes with their names, as the definitions have them.
+with open(os.path.dirname(os.path.abspath(__file__)) + "/../../crates/pr_page/specs/Codes.antt", encoding="utf-8") as file:
+    CODES = {int(code): name for code, name in re.findall(r'b == (\d+) then .*?codes "([^"]+)"', file.read())}
 
 
 class Edge:

@@ -4,7 +4,7 @@ use Rattle.std.specs.Prelude.{◌==◌, ◌||◌, ◌&&◌, not, if◌then◌els
 use Rattle.std.proofs.lemmas.Bool.Decides.{eqb_tells}
 use Rattle.pr_page.specs.Codes.{code_of}
 use Rattle.pr_page.specs.ModeLaws.{last_mode, last_width, last_reverse, last_set, modes_of, ModesLookBack}
-use Rattle.pr_page.specs.Token.{Token, Column, Repeat, Address, Nothing, Plain}
+use Rattle.pr_page.specs.Token.{Plain}
 
 -- a byte is this one or not
 one_of : (k : ℕ) (P : ℕ → Type 0) (b : ℕ) → P k → ((b == k) ≡ false → P b) → P b
@@ -33,7 +33,4 @@ looks_back [] = refl
 looks_back (Plain lower b ∷ before) =
     ap (code_of b).sets (looks_back before)
     ∙ looks_at (last_mode before) (last_width before) (last_reverse before) (last_set before) b
-looks_back (Column x y ∷ before) = looks_back before
-looks_back (Repeat x y ∷ before) = looks_back before
-looks_back (Address x y ∷ before) = looks_back before
-looks_back (Nothing ∷ before) = looks_back before
+looks_back (t ∷ before) = looks_back before

@@ -24,6 +24,14 @@ pub struct Settings {
     pub override_set: Option<bool>,
 }
 
+/// The modes of a printer that has taken nothing.
+pub const FIRST_SETTINGS: Settings = Settings {
+    graphic: false,
+    wide: false,
+    reverse: false,
+    override_set: None,
+};
+
 impl Settings {
     /// The settings after a byte by itself.
     #[inline(always)]

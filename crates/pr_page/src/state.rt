@@ -10,7 +10,7 @@ ghost use Rattle.pr_page.specs.Steps.{begun_by, completed_by, tokens_by, state_a
 use crate::input::Input;
 use crate::paper::{Paper, Sequence};
 use crate::pending::Pending;
-use crate::settings::Settings;
+use crate::settings::{FIRST_SETTINGS, Settings};
 use crate::sheet::Sheet;
 use crate::work::Work;
 use std::alloc::{AllocError, Global};
@@ -44,12 +44,7 @@ impl PrinterState {
         ensures { result ≡ start }
     {
         PrinterState {
-            settings: Settings {
-                graphic: false,
-                wide: false,
-                reverse: false,
-                override_set: None,
-            },
+            settings: FIRST_SETTINGS,
             lower: false,
             pending: Pending::Idle,
             sheet: Sheet {
