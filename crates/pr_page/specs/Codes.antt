@@ -8,27 +8,24 @@ pub record Code : Type 0 where
   pub ends_line : Bool
   pub sets : Settings → Settings
 
--- a code that ends no line, and one that does
-abbrev pub code : (name : List ℕ) → (Settings → Settings) → Code
-code name sets = record { name = name; ends_line = false; sets = sets }
-
-abbrev pub line_end : (name : List ℕ) → (Settings → Settings) → Code
-line_end name sets = record { name = name; ends_line = true; sets = sets }
+-- a row of the table
+abbrev pub row : (name : List ℕ) → (ends_line : Bool) → (Settings → Settings) → Code
+row name ends_line sets = record { name = name; ends_line = ends_line; sets = sets }
 
 -- the row of a byte; one that is no code has no name and sets nothing. 145 and 146 are columns of dots in graphic mode
 unfoldable pub code_of : ℕ → Code
 code_of b =
-    if b == 8 then code (codes "graphic mode") (λ m. record m { graphic = true })
-    else (if b == 10 then line_end (codes "line feed") (λ m. m)
-    else (if b == 13 then line_end (codes "return") (λ m. record m { reverse = false; override_set = None })
-    else (if b == 14 then code (codes "double width") (λ m. record m { graphic = false; wide = true })
-    else (if b == 15 then code (codes "standard width") (λ m. record m { graphic = false; wide = false })
-    else (if b == 16 then code (codes "column") (λ m. m)
-    else (if b == 17 then code (codes "lower case") (λ m. record m { override_set = Some true })
-    else (if b == 18 then code (codes "reverse on") (λ m. record m { reverse = true })
-    else (if b == 26 then code (codes "repeat") (λ m. m)
-    else (if b == 27 then code (codes "escape") (λ m. m)
-    else (if b == 145 then code (codes "upper case")
+    if b == 8 then row (codes "graphic mode") false (λ m. record m { graphic = true })
+    else (if b == 10 then row (codes "line feed") true (λ m. m)
+    else (if b == 13 then row (codes "return") true (λ m. record m { reverse = false; override_set = None })
+    else (if b == 14 then row (codes "double width") false (λ m. record m { graphic = false; wide = true })
+    else (if b == 15 then row (codes "standard width") false (λ m. record m { graphic = false; wide = false })
+    else (if b == 16 then row (codes "column") false (λ m. m)
+    else (if b == 17 then row (codes "lower case") false (λ m. record m { override_set = Some true })
+    else (if b == 18 then row (codes "reverse on") false (λ m. record m { reverse = true })
+    else (if b == 26 then row (codes "repeat") false (λ m. m)
+    else (if b == 27 then row (codes "escape") false (λ m. m)
+    else (if b == 145 then row (codes "upper case") false
     (λ m. if m.graphic then m else record m { override_set = Some false })
-    else (if b == 146 then code (codes "reverse off") (λ m. if m.graphic then m else record m { reverse = false })
-    else code [] (λ m. m))))))))))))
+    else (if b == 146 then row (codes "reverse off") false (λ m. if m.graphic then m else record m { reverse = false })
+    else row [] false (λ m. m))))))))))))

@@ -3,7 +3,7 @@ use Rattle.std.specs.Prelude.{ℕ, zero, suc, ◌+◌, ◌*◌, ◌≤◌, ◌^�
 use Rattle.pr_page.specs.Token.{Token, Column, Repeat, Address, Nothing, Plain}
 use Rattle.pr_page.specs.Acts.{Act, End, Move, Print, acts_in}
 use Rattle.pr_page.specs.Lines.{line_dots, pitch_of}
-use Rattle.pr_page.specs.Modes.{first_modes, modes_after}
+use Rattle.pr_page.specs.Modes.{modes_after, modes_at}
 use Rattle.pr_page.specs.declared.input.Input.{Input}
 use Rattle.pr_page.specs.declared.input.Input.TheVariants.{Select, Byte}
 use Rattle.pr_page.specs.declared.settings.Settings.{Settings}
@@ -130,7 +130,7 @@ state_after s (x ∷ inputs) = state_after (step s x) inputs
 -- what is kept at first
 abbrev pub start : PrinterState
 start = record {
-  settings = first_modes;
+  settings = modes_at [];
   lower = false;
   pending = Idle;
   sheet = record { y = 0; position = 0; paper = record { rows = []; held = [] } };

@@ -11,7 +11,7 @@
 //! A printer keeps no history: its contracts relate a list of inputs to a printer (`HasTaken`), and
 //! `proofs/Refines.antt` carries that from a list to the list with one input more. `Cutting` is one
 //! more byte for the tokens, `Paging` one more act for the last line, `Columns` the repeat, `Unique`
-//! the law that a list has one page.
+//! the law that a list has one page, `LookingBack` the law that the last codes decide the modes.
 #![tactic(auto)]
 
 mod carriage;
