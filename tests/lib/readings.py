@@ -21,6 +21,8 @@ import os
 import re
 import sys
 
+from codes import NAMES
+
 LONGEST_BIT = 1000
 SIGROK = ("silence", "call", "answer")
 
@@ -55,9 +57,6 @@ GUIDE = {
     "longest high half": (20, None),
     "acknowledgement": (0, 1000),
 }
-# The printer's codes with their names, as the definitions have them.
-with open(os.path.dirname(os.path.abspath(__file__)) + "/../../crates/pr_page/specs/Codes.antt", encoding="utf-8") as file:
-    CODES = {int(code): name for code, name in re.findall(r'b == (\d+) then .*?codes "([^"]+)"', file.read())}
 
 
 class Edge:
@@ -213,7 +212,7 @@ def data_words(byte, is_printed):
         return '"\'"'
     if 32 <= byte <= 126:
         return f"'{chr(byte)}'"
-    return CODES[byte] if is_printed and byte in CODES else f"byte {byte}"
+    return NAMES[byte] if is_printed and byte in NAMES else f"byte {byte}"
 
 
 class Context:
