@@ -78,6 +78,7 @@ impl Settings {
 }
 
 /// A law, with nothing to run: the modes at a byte are those that the last codes before it have set.
+#[tactic(auto, using(crate::proofs::LookingBack::looks_back))]
 pub fn modes_look_back()
     ensures { ModesLookBack }
 {}
