@@ -1,29 +1,29 @@
-// The delays that edges end, once more: the table of lawful traces as rows of a place, the levels that may follow, the kind of delay,
-// its bounds and the place after it. tests/browser/compare holds the module's numbers to these.
+// The delays that edges end, once more: the table of lawful traces as rows of a place, the levels that may follow, the kind of delay
+// and the place after it. The bounds of each kind are those of the definitions. tests/browser/compare holds the module's numbers to these.
 
-export const KINDS = ['Bb', 'Aw', 'Ne', 'Ry', 'S', 'V', 'R', 'Cr', 'At', 'H', 'Ye', 'Ei', 'F', 'Dr'];
-const REST = 14, UNKNOWN = 15;
-const BOUNDS = {
-  Bb: [100, 1000], Aw: [1000, 2000], Ne: [1, 199], Ry: [1, 60], S: [20, 200], V: [20, 200], R: [100, 200], Cr: [100, 200],
-  At: [1, 1000], H: [1, 10000], Ye: [200, 250], Ei: [80, 200], F: [1, 80], Dr: [1, 60],
-};
+import { readFileSync } from 'fs';
+
+const TABLE = readFileSync(new URL('../../crates/pr_wire/specs/Delays.antt', import.meta.url), 'utf8');
+export const BOUNDS = Object.fromEntries(Array.from(TABLE.matchAll(/^bounds_of (\w+) = \((\d+), \d+, (\d+)\)$/gm), ([, kind, ...bounds]) => [kind, bounds.map(Number)]));
+const KINDS = Object.keys(BOUNDS), REST = 14, UNKNOWN = 15;
+if (KINDS.length !== 14) throw new Error(`${KINDS.length} delays in Delays.antt`);
 
 /** What an edge at a moment to some levels is at a place: its delay's kind, when it may come, and the place after it; null where it may not. */
 function rowAt(place, time, [atn, clock, data]) {
   const { name, since, role } = place, levels = `${atn}${clock}${data}`, ownAtn = role === 'data' ? 1 : 0;
   const row = (kind, next, from = since + BOUNDS[kind][0], to = since + BOUNDS[kind][1]) => ({ kind: KINDS.indexOf(kind), from, to, place: { since: time, role, ...next } });
   switch (name) {
-    case 'idle': return levels === '001' ? { kind: REST, from: since + 100, to: Infinity, place: { name: 'call', since: time } } : null;
+    case 'idle': return levels === '001' ? { kind: REST, from: since + BOUNDS.Bb[0], to: Infinity, place: { name: 'call', since: time } } : null;
     case 'call':
       if (!place.answered && levels === '000') return row('At', { name: 'call', since, answered: true });
       if (!place.answered && levels === '111') return row('Aw', { name: 'idle' });
       // (without an answer before it, the computer looks in the microsecond in which a printer answers)
-      return levels === '010' ? row('Aw', { name: 'ready', role: 'first' }, since + 1000, since + (place.answered ? 2000 : 1000)) : null;
+      return levels === '010' ? row('Aw', { name: 'ready', role: 'first' }, since + BOUNDS.Aw[0], since + BOUNDS.Aw[place.answered ? 1 : 0]) : null;
     case 'ready': return clock && data && atn === ownAtn ? row('H', { name: 'free' }) : null;
     case 'free':
       if (!clock && atn === ownAtn) return row('Ne', { name: 'bit', bits: [], bit: data });
       return levels === '110' && role === 'data' ? row('Ye', { name: 'pulse', free: since }) : null;
-    case 'pulse': return levels === '111' ? row('Ei', { name: 'after' }, since + 80, place.free + 450) : null;
+    case 'pulse': return levels === '111' ? row('Ei', { name: 'after' }, since + BOUNDS.Ei[0], place.free + BOUNDS.Ye[1] + BOUNDS.Ei[1]) : null;
     case 'after': return atn && !clock ? row('Ry', { name: 'bit', bits: [], bit: data }) : null;
     case 'bit': return clock && atn === ownAtn && data === place.bit ? row('S', { name: 'high', bits: [...place.bits, place.bit] }) : null;
     case 'high':

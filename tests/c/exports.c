@@ -363,10 +363,8 @@ static const number_row number_rows[] = {
     /* CLOCK is released at 1100, DATA at 1150, CLOCK is pulled at 1190, and the recording ends: no bit comes. */
     {"a byte without a bit", reading_rows, CALL, 0, 40, {0, 0, 0, 18}, 17,
      {4, 0, 0, 0, 1, 1100, 1150, 0, 0, 0, 1190, 1190, 0, 0, 0, 0, 0}},
-    /* bounds_of_each_kind; the typical delays are those of tests/rows/trace_of_two_letters.case. */
-    {"the bounds of delays", bounds, "", 0, 40, {0, 0, 0, 30}, 30,
-     {100, 1000, 1000, 2000, 1, 199, 1, 60, 20, 200, 20, 200, 100, 200, 100, 200,
-      1, 1000, 1, 10000, 200, 250, 80, 200, 1, 80, 1, 60, 80, 250}},
+    /* bounds_of_each_kind: BOUNDS comes from tests/lib/bounds.py. The typical delays are those of tests/rows/trace_of_two_letters.case. */
+    {"the bounds of delays", bounds, "", 0, 40, {0, 0, 0, 30}, 30, {BOUNDS}},
     {"delays up to a late edge", edge_delays, LATE, 0, 20, {0, 0, 0, 18}, 18,
      {15, 0, 14, 0, 8, 100, 1, 100, 9, 1100, 2, 1150, 4, 1190, 5, 1260, 15, 0}},
     {"delays of no format", edge_delays, "0 111\n", 5, 20, {2, 29, 0, 0}, 0, {0}},

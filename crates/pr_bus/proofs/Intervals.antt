@@ -3,48 +3,13 @@ use Rattle.std.proofs.Common.{◌≡◌, ℕ, zero, suc, ◌+◌, ◌*◌, ◌/�
 use Rattle.std.proofs.lemmas.Bool.Decides.{eqb_tells}
 use Rattle.std.proofs.Common.{inl, inr}
 use Rattle.std.proofs.Math.Nat.{pow-succ'}
-use Rattle.std.specs.List.{slice_get}
-use Rattle.pr_wire.specs.declared.delay.Kind.{Kind}
-use Rattle.pr_wire.specs.declared.delay.Kind.TheVariants.{Bb, Aw, Ne, Ry, S, V, R, Cr, At, H, Ye, Ei, F, Dr}
+use Rattle.pr_wire.specs.declared.delay.Kind.TheVariants.{Ne, Ry, S, V, H, Ye, Ei, F}
 use Rattle.pr_wire.specs.Levels.{byte_of}
-use Rattle.pr_wire.specs.Delays.{bounds_of, delay_of, delay_at}
+use Rattle.pr_wire.specs.Delayed.{IsDelay}
+use Rattle.pr_wire.specs.Delays.{bounds_of, delay_at}
 use Rattle.pr_wire.specs.Pieces.{IsWithin, AreClocked, IsFrame, levels_of, byte_sent}
 use Rattle.pr_bus.specs.Timed.{ListenerTiming, greatest, least, bits_of, bit_times, frame_times}
-
--- a delay lies within the bounds of its kind, with a number and without
-by_number : (k : Kind) (o : Option ℕ) → IsWithin (elim o [ None ↦ (bounds_of k).1 | Some r ↦ delay_of k r ]) (bounds_of k).0 (bounds_of k).2
-by_number Bb None = record { from = omega arith; to = omega arith }
-by_number Bb (Some r) = record { from = omega arith; to = omega arith }
-by_number Aw None = record { from = omega arith; to = omega arith }
-by_number Aw (Some r) = record { from = omega arith; to = omega arith }
-by_number Ne None = record { from = omega arith; to = omega arith }
-by_number Ne (Some r) = record { from = omega arith; to = omega arith }
-by_number Ry None = record { from = omega arith; to = omega arith }
-by_number Ry (Some r) = record { from = omega arith; to = omega arith }
-by_number S None = record { from = omega arith; to = omega arith }
-by_number S (Some r) = record { from = omega arith; to = omega arith }
-by_number V None = record { from = omega arith; to = omega arith }
-by_number V (Some r) = record { from = omega arith; to = omega arith }
-by_number R None = record { from = omega arith; to = omega arith }
-by_number R (Some r) = record { from = omega arith; to = omega arith }
-by_number Cr None = record { from = omega arith; to = omega arith }
-by_number Cr (Some r) = record { from = omega arith; to = omega arith }
-by_number At None = record { from = omega arith; to = omega arith }
-by_number At (Some r) = record { from = omega arith; to = omega arith }
-by_number H None = record { from = omega arith; to = omega arith }
-by_number H (Some r) = record { from = omega arith; to = omega arith }
-by_number Ye None = record { from = omega arith; to = omega arith }
-by_number Ye (Some r) = record { from = omega arith; to = omega arith }
-by_number Ei None = record { from = omega arith; to = omega arith }
-by_number Ei (Some r) = record { from = omega arith; to = omega arith }
-by_number F None = record { from = omega arith; to = omega arith }
-by_number F (Some r) = record { from = omega arith; to = omega arith }
-by_number Dr None = record { from = omega arith; to = omega arith }
-by_number Dr (Some r) = record { from = omega arith; to = omega arith }
-
--- a delay lies within the bounds of its kind
-pub delay_in : (k : Kind) (numbers : List ℕ) (i : ℕ) → IsWithin (delay_at k numbers i) (bounds_of k).0 (bounds_of k).2
-delay_in k numbers i = by_number k (slice_get numbers i)
+use Rattle.pr_bus.proofs.Numbers.{delay_in}
 
 -- the bits of a frame
 bits-clocked : (c : ℕ) (numbers : List ℕ) (bs : List Bool) → AreClocked c (bit_times c numbers bs)
@@ -81,10 +46,10 @@ bits-byte (suc n) b h =
 
 -- what a hearer waits lies within the bounds
 pub record IsHearer (eoi : Bool) (h : ListenerTiming) : Type 0 where
-  pub hold : IsWithin h.hold 1 10000
-  pub accept : IsWithin h.accept 1 80
-  pub wait : eoi ≡ true → IsWithin h.wait 200 250
-  pub answer : eoi ≡ true → IsWithin h.answer 80 200
+  pub hold : IsDelay H h.hold
+  pub accept : IsDelay F h.accept
+  pub wait : eoi ≡ true → IsDelay Ye h.wait
+  pub answer : eoi ≡ true → IsDelay Ei h.answer
 
 -- what each of them waits lies within the bounds
 abbrev pub AreHearers : Bool → List ListenerTiming → Type 0
@@ -112,10 +77,10 @@ least_head f h (g ∷ hs) = omega arith
 pub frame-lawful : (x : Bool) (look : ℕ) (eoi : Bool) (byte : ℕ) (numbers : List ℕ) (h : ListenerTiming) (hs : List ListenerTiming) → AreHearers eoi (h ∷ hs) → (eoi ≡ true → x ≡ true)
     → IsFrame x look (frame_times look eoi byte numbers (h ∷ hs))
 frame-lawful x look true byte numbers h hs a e =
-    let free = greatest_in (λ (h : ListenerTiming). h.hold) 1 10000 true (λ g k. k.hold) h hs a in
-    let accept = least_in (λ (h : ListenerTiming). h.accept) 1 80 true (λ g k. k.accept) h hs a in
-    let wait = least_in (λ (h : ListenerTiming). h.wait) 200 250 true (λ g k. k.wait refl) h hs a in
-    let all = greatest_in (λ (h : ListenerTiming). h.wait + h.answer) 280 450 true (λ g k. let u = k.wait refl in let v = k.answer refl in record { from = omega (arith, u.from, v.from); to = omega (arith, u.to, v.to) }) h hs a in
+    let free = greatest_in (λ (h : ListenerTiming). h.hold) _ _ true (λ g k. k.hold) h hs a in
+    let accept = least_in (λ (h : ListenerTiming). h.accept) _ _ true (λ g k. k.accept) h hs a in
+    let wait = least_in (λ (h : ListenerTiming). h.wait) _ _ true (λ g k. k.wait refl) h hs a in
+    let all = greatest_in (λ (h : ListenerTiming). h.wait + h.answer) ((bounds_of Ye).0 + (bounds_of Ei).0) ((bounds_of Ye).2 + (bounds_of Ei).2) true (λ g k. let u = k.wait refl in let v = k.answer refl in record { from = omega (arith, u.from, v.from); to = omega (arith, u.to, v.to) }) h hs a in
     let head : least (map (λ (h : ListenerTiming). h.wait) (h ∷ hs)) ≤ h.wait = least_head (λ (h : ListenerTiming). h.wait) h hs in
     let answer = a.0.answer refl in
     let ry = delay_in Ry numbers 0 in
@@ -132,8 +97,8 @@ frame-lawful x look true byte numbers h hs a e =
       ack = record { from = omega (arith, accept.from); to = omega (arith, accept.to) };
     }
 frame-lawful x look false byte numbers h hs a e =
-    let free = greatest_in (λ (h : ListenerTiming). h.hold) 1 10000 false (λ g k. k.hold) h hs a in
-    let accept = least_in (λ (h : ListenerTiming). h.accept) 1 80 false (λ g k. k.accept) h hs a in
+    let free = greatest_in (λ (h : ListenerTiming). h.hold) _ _ false (λ g k. k.hold) h hs a in
+    let accept = least_in (λ (h : ListenerTiming). h.accept) _ _ false (λ g k. k.accept) h hs a in
     let ne = delay_in Ne numbers 0 in
     record {
       free = record { from = omega (arith, free.from); to = omega (arith, free.to) };

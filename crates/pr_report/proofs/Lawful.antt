@@ -4,6 +4,10 @@ use Rattle.std.specs.Option.{option_map, option_to_list}
 use Rattle.std.specs.Prelude.{◌||◌}
 use Rattle.std.proofs.lemmas.Bool.{le-ltb}
 use Rattle.std.proofs.lemmas.List.{append_assoc}
+use Rattle.pr_wire.specs.declared.delay.Kind.{Kind}
+use Rattle.pr_wire.specs.declared.delay.Kind.TheVariants.{Ne, Ye, Ei, Ry, S, V}
+use Rattle.pr_wire.specs.Delayed.{IsDelay, IsDelayed}
+use Rattle.pr_wire.specs.Delays.{bounds_of}
 use Rattle.pr_wire.specs.Pieces.{AreClocked, AreLawful, Between, BitTimes, EoiAnswer, FrameTimes, IsFrame, IsOpened, IsPiece, IsSecond, IsWithin, Piece, SecondFrame, after_piece}
 use Rattle.pr_wire.specs.Pieces.Between.{Resting}
 use Rattle.pr_wire.specs.Pieces.Piece.{Attention, DataByte, Dropped, Unanswered}
@@ -15,7 +19,7 @@ use Rattle.pr_report.specs.declared.detail.Bounds.{Bounds}
 use Rattle.pr_report.specs.declared.detail.Bounds.TheVariants.{Guide, Profile}
 use Rattle.pr_report.specs.declared.interval.Interval.{Interval}
 use Rattle.pr_report.specs.declared.interval.Interval.TheVariants.{Ready, FirstPull, Answer, AnswerLength, PullAfterAnswer, ShortestLow, LongestLow, ShortestHigh, LongestHigh, Acknowledgement}
-use Rattle.pr_report.specs.Intervals.{highest_of, is_above, is_outside, length_of, lowest_of, profile_greatest, unless_answered}
+use Rattle.pr_report.specs.Intervals.{highest_of, is_above, is_outside, length_of, longest_answer, lowest_of, profile_greatest, unless_answered}
 use Rattle.pr_report.specs.ReadingLaws.{AreInside, LawfulTracesAreWithin}
 use Rattle.pr_report.specs.Summary.{lengths}
 
@@ -23,6 +27,10 @@ use Rattle.pr_report.specs.Summary.{lengths}
 abbrev pub AreWithin : (low high : ℕ) → List ℕ → Type 0
 AreWithin low high [] = Unit {0}
 AreWithin low high (n ∷ ns) = IsWithin n low high × AreWithin low high ns
+
+-- lengths are delays of a kind
+abbrev AreDelays : Kind → List ℕ → Type 0
+AreDelays k ns = AreWithin (bounds_of k).0 (bounds_of k).2 ns
 
 within-more : (low high : ℕ) (ms ns : List ℕ) → AreWithin low high ms → AreWithin low high ns → AreWithin low high (ms ++ ns)
 within-more low high [] ns a b = b
@@ -43,73 +51,71 @@ greatest-within : (low high n : ℕ) (ns : List ℕ) → IsWithin n low high →
 greatest-within low high n [] a b = a
 greatest-within low high n (m ∷ ms) a b = greatest-within low high (max n m) ms (max-within low high n m a b.0) b.1
 
+-- the time between two moments
+after-within : (a b low high : ℕ) → IsWithin b (a + low) (a + high) → IsWithin (b - a) low high
+after-within a b low high h = record { from = omega arith; to = omega arith }
+
 -- the halves of bits
-half-within : (c t : ℕ) → IsWithin t (c + 20) (c + 200) → IsWithin (t - c) 20 200
-half-within c t h = record { from = omega arith; to = omega arith }
-
-low-within : (c : ℕ) (bs : List BitTimes) → AreClocked c bs → AreWithin 20 200 (low_times c bs)
+low-within : (c : ℕ) (bs : List BitTimes) → AreClocked c bs → AreDelays S (low_times c bs)
 low-within c [] h = tt
-low-within c (b ∷ bs) h = (half-within c b.up h.0, low-within b.down bs h.2)
+low-within c (b ∷ bs) h = (after-within c b.up _ _ h.0, low-within b.down bs h.2)
 
-high-within : (c : ℕ) (bs : List BitTimes) → AreClocked c bs → AreWithin 20 200 (high_times bs)
+high-within : (c : ℕ) (bs : List BitTimes) → AreClocked c bs → AreDelays V (high_times bs)
 high-within c [] h = tt
-high-within c (b ∷ bs) h = (half-within b.up b.down h.1, high-within b.down bs h.2)
+high-within c (b ∷ bs) h = (after-within b.up b.down _ _ h.1, high-within b.down bs h.2)
 
 none-of-eight : length {A = BitTimes} [] ≡ 8 → ⊥
 none-of-eight e = omega arith
 
-shortest-low : (c : ℕ) (bs : List BitTimes) → AreClocked c bs → length bs ≡ 8 → IsWithin (halves (low_times c bs)).shortest 20 200
+shortest-low : (c : ℕ) (bs : List BitTimes) → AreClocked c bs → length bs ≡ 8 → IsDelay S (halves (low_times c bs)).shortest
 shortest-low c [] h e = absurd (none-of-eight e)
 shortest-low c (b ∷ bs) h e =
-    least-within 20 200 (b.up - c) (low_times b.down bs) (half-within c b.up h.0) (low-within b.down bs h.2)
+    least-within _ _ (b.up - c) (low_times b.down bs) (after-within c b.up _ _ h.0) (low-within b.down bs h.2)
 
-longest-low : (c : ℕ) (bs : List BitTimes) → AreClocked c bs → length bs ≡ 8 → IsWithin (halves (low_times c bs)).longest 20 200
+longest-low : (c : ℕ) (bs : List BitTimes) → AreClocked c bs → length bs ≡ 8 → IsDelay S (halves (low_times c bs)).longest
 longest-low c [] h e = absurd (none-of-eight e)
 longest-low c (b ∷ bs) h e =
-    greatest-within 20 200 (b.up - c) (low_times b.down bs) (half-within c b.up h.0) (low-within b.down bs h.2)
+    greatest-within _ _ (b.up - c) (low_times b.down bs) (after-within c b.up _ _ h.0) (low-within b.down bs h.2)
 
-shortest-high : (c : ℕ) (bs : List BitTimes) → AreClocked c bs → length bs ≡ 8 → IsWithin (halves (high_times bs)).shortest 20 200
+shortest-high : (c : ℕ) (bs : List BitTimes) → AreClocked c bs → length bs ≡ 8 → IsDelay V (halves (high_times bs)).shortest
 shortest-high c [] h e = absurd (none-of-eight e)
 shortest-high c (b ∷ bs) h e =
-    least-within 20 200 (b.down - b.up) (high_times bs) (half-within b.up b.down h.1) (high-within b.down bs h.2)
+    least-within _ _ (b.down - b.up) (high_times bs) (after-within b.up b.down _ _ h.1) (high-within b.down bs h.2)
 
-longest-high : (c : ℕ) (bs : List BitTimes) → AreClocked c bs → length bs ≡ 8 → IsWithin (halves (high_times bs)).longest 20 200
+longest-high : (c : ℕ) (bs : List BitTimes) → AreClocked c bs → length bs ≡ 8 → IsDelay V (halves (high_times bs)).longest
 longest-high c [] h e = absurd (none-of-eight e)
 longest-high c (b ∷ bs) h e =
-    greatest-within 20 200 (b.down - b.up) (high_times bs) (half-within b.up b.down h.1) (high-within b.down bs h.2)
-
--- what is between ready and CLOCK's first pull
-after-within : (a b low high : ℕ) → IsWithin b (a + low) (a + high) → IsWithin (b - a) low high
-after-within a b low high h = record { from = omega arith; to = omega arith }
+    greatest-within _ _ (b.down - b.up) (high_times bs) (after-within b.up b.down _ _ h.1) (high-within b.down bs h.2)
 
 first-within : (x : Bool) (free pull : ℕ) (o : Option EoiAnswer) → IsOpened x free o pull
-    → AreWithin 1 199 (option_to_list (unless_answered (pulse_read o) (pull - free)))
-first-within x free pull None h = (after-within free pull 1 199 h, tt)
+    → AreDelays Ne (option_to_list (unless_answered (pulse_read o) (pull - free)))
+first-within x free pull None h = (after-within free pull _ _ h, tt)
 first-within x free pull (Some p) h = tt
 
 answer-within : (x : Bool) (free pull : ℕ) (o : Option EoiAnswer) → IsOpened x free o pull
-    → AreWithin 200 250 (option_to_list (option_map (λ p. p.pulled - free) (pulse_read o)))
+    → AreDelays Ye (option_to_list (option_map (λ p. p.pulled - free) (pulse_read o)))
 answer-within x free pull None h = tt
-answer-within x free pull (Some p) h = (after-within free p.pulled 200 250 h.1, tt)
+answer-within x free pull (Some p) h = (after-within free p.pulled _ _ h.1, tt)
 
-joined-within : (free pulled released : ℕ) → IsWithin pulled (free + 200) (free + 250) → IsWithin released (pulled + 80) (free + 450)
-    → IsWithin (released - pulled) 80 250
+joined-within : (free pulled released : ℕ) → IsDelayed Ye free pulled
+    → IsWithin released (pulled + (bounds_of Ei).0) (free + ((bounds_of Ye).2 + (bounds_of Ei).2))
+    → IsWithin (released - pulled) (bounds_of Ei).0 longest_answer
 joined-within free pulled released a b = record { from = omega arith; to = omega arith }
 
 answer_length-within : (x : Bool) (free pull : ℕ) (o : Option EoiAnswer) → IsOpened x free o pull
-    → AreWithin 80 250 (option_to_list (option_map (λ p. p.released - p.pulled) (pulse_read o)))
+    → AreWithin (bounds_of Ei).0 longest_answer (option_to_list (option_map (λ p. p.released - p.pulled) (pulse_read o)))
 answer_length-within x free pull None h = tt
 answer_length-within x free pull (Some p) h = (joined-within free p.pulled p.released h.1 h.2, tt)
 
 behind-within : (x : Bool) (free pull : ℕ) (o : Option EoiAnswer) → IsOpened x free o pull
-    → AreWithin 1 60 (option_to_list (option_map (λ p. pull - p.released) (pulse_read o)))
+    → AreDelays Ry (option_to_list (option_map (λ p. pull - p.released) (pulse_read o)))
 behind-within x free pull None h = tt
-behind-within x free pull (Some p) h = (after-within p.released pull 1 60 h.3, tt)
+behind-within x free pull (Some p) h = (after-within p.released pull _ _ h.3, tt)
 
 -- the intervals of a frame
 pub frame-within : (i : Interval) (x : Bool) (look : ℕ) (f : FrameTimes) → IsFrame x look f
     → AreWithin (lowest_of Profile i) (profile_greatest i) (option_to_list (length_of i (frame_read x look f)))
-frame-within Ready x look f h = (after-within look f.free 1 10000 h.free, tt)
+frame-within Ready x look f h = (after-within look f.free _ _ h.free, tt)
 frame-within FirstPull x look f h = first-within x f.free f.pull f.pulse h.opened
 frame-within Answer x look f h = answer-within x f.free f.pull f.pulse h.opened
 frame-within AnswerLength x look f h = answer_length-within x f.free f.pull f.pulse h.opened
@@ -118,7 +124,7 @@ frame-within ShortestLow x look f h = (shortest-low f.pull f.bits h.clocked h.ei
 frame-within LongestLow x look f h = (longest-low f.pull f.bits h.clocked h.eight, tt)
 frame-within ShortestHigh x look f h = (shortest-high f.pull f.bits h.clocked h.eight, tt)
 frame-within LongestHigh x look f h = (longest-high f.pull f.bits h.clocked h.eight, tt)
-frame-within Acknowledgement x look f h = (after-within _ f.ack 1 80 h.ack, tt)
+frame-within Acknowledgement x look f h = (after-within _ f.ack _ _ h.ack, tt)
 
 -- those of one frame, those of a piece, and those of pieces
 one-within : (i : Interval) (x : Bool) (look : ℕ) (f : FrameTimes) → IsFrame x look f

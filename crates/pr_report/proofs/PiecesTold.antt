@@ -10,9 +10,12 @@ use Rattle.pr_wire.specs.declared.bus_state.ByteRole.TheVariants.{First, Second,
 use Rattle.pr_wire.specs.declared.bus_state.BusState.{BusState}
 use Rattle.pr_wire.specs.declared.bus_state.BusState.TheVariants.{Idle, Call, Ready, Free, Bit, Last, Ack, Freed}
 use Rattle.pr_wire.specs.declared.bus_state.Step.{Step}
+use Rattle.pr_wire.specs.declared.delay.Kind.TheVariants.{Bb, Aw, Ne, Cr, At, F, Dr}
+use Rattle.pr_wire.specs.Delayed.{IsDelayed}
+use Rattle.pr_wire.specs.Delays.{bounds_of}
 use Rattle.pr_wire.specs.Levels.{edge_at, byte_of, start}
 use Rattle.pr_wire.specs.Table.{Row, row, atn_of, differ, is_late, same, timed, verdict, where_true}
-use Rattle.pr_wire.specs.Pieces.{IsWithin, BitTimes, EoiAnswer, FrameTimes, Ending, SecondFrame, Between, Piece, last_pull, AreClocked, IsFrame, levels_of, byte_sent, bit_edges, frame_edges, IsAnswered, IsSecond, last_ack, last_byte, AreReleased, IsEnded, IsPiece, after_lines, after_ending, after_piece, AreLawful, call_edge, answer_edges, second_edges, line_edges, clock_edges, ending_edges, piece_edges, edges_of}
+use Rattle.pr_wire.specs.Pieces.{BitTimes, EoiAnswer, FrameTimes, Ending, SecondFrame, Between, Piece, last_pull, AreClocked, IsFrame, levels_of, byte_sent, bit_edges, frame_edges, IsAnswered, IsSecond, last_ack, last_byte, AreReleased, IsEnded, IsPiece, after_lines, after_ending, after_piece, AreLawful, call_edge, answer_edges, second_edges, line_edges, clock_edges, ending_edges, piece_edges, edges_of}
 use Rattle.pr_wire.specs.Pieces.Between.{Resting, Held, Loose}
 use Rattle.pr_wire.specs.Pieces.Piece.{Unanswered, Attention, DataByte, Dropped}
 use Rattle.pr_report.specs.declared.timed_frame.TimedFrame.{TimedFrame}
@@ -114,7 +117,7 @@ bits-told look s eoi seen c b (b' ∷ bs) tail fs h n w = (
   ),
 )
 
-pull-told : (look : ℕ) (s : ByteRole) (pull free : ℕ) (b : Bool) (es : List Edge) (fs : List TimedFrame) → IsWithin pull (free + 1) (free + 199)
+pull-told : (look : ℕ) (s : ByteRole) (pull free : ℕ) (b : Bool) (es : List Edge) (fs : List TimedFrame) → IsDelayed Ne free pull
     → Tells look (edge_at pull (atn_of s) false b) (Bit pull s false [] b) es fs
     → FitsRow look (row (Free free s) pull (atn_of s) false b) pull fs (λ q n gs. Tells n (edge_at pull (atn_of s) false b) q es gs)
 pull-told look First pull free b es fs h v = (omega arith, omega arith, v)
@@ -123,7 +126,7 @@ pull-told look Data pull free b es fs h v = (omega arith, omega arith, v)
 
 -- the bits of a frame and its acknowledgement, from the pull that brings the first bit
 pulled-told : (look : ℕ) (s : ByteRole) (eoi : Bool) (c : ℕ) (bits : List BitTimes) (ack : ℕ) (tail : List Edge) (fs : List TimedFrame) (last : Edge) (place : BusState)
-    → AreClocked c bits → length bits ≡ 8 → IsWithin ack (last_pull c bits + 1) (last_pull c bits + 80)
+    → AreClocked c bits → length bits ≡ 8 → IsDelayed F (last_pull c bits) ack
     → ((b : Bool) (es : List Edge) → Tells look (edge_at c (atn_of s) false b) (Bit c s eoi [] b) es (told_by s look eoi (levels_of bits) ack ∷ fs) → Tells look last place (edge_at c (atn_of s) false b ∷ es) (told_by s look eoi (levels_of bits) ack ∷ fs))
     → Tells look (edge_at ack (atn_of s) false false) (Ack ack s (byte_of (levels_of bits))) tail fs
     → Tells look last place ((bit_edges (atn_of s) c bits ++ edge_at ack (atn_of s) false false ∷ []) ++ tail) (told_by s look eoi (levels_of bits) ack ∷ fs)
@@ -211,14 +214,14 @@ TellsFrom (Resting i) es fs = (n : ℕ) → Tells n (edge_at i true true true) (
 TellsFrom (Held k) es fs =
     (n : ℕ) → Tells n (edge_at k true false false) (Freed k false false) es fs
     × ((byte : ℕ) → Tells n (edge_at k true false false) (Ack k Data byte) es fs)
-TellsFrom (Loose r) es fs = (d : ℕ) → IsWithin d (r + 1) (r + 60) → (n : ℕ) → Tells n (edge_at d true false true) (Freed r false true) es fs
+TellsFrom (Loose r) es fs = (d : ℕ) → IsDelayed Dr r d → (n : ℕ) → Tells n (edge_at d true false true) (Freed r false true) es fs
 
 lines-told : (n : ℕ) (u : Bool) (r : ℕ) (line clock : Option ℕ) (tail : List Edge) (fs : List TimedFrame) → AreReleased u r line clock
     → TellsFrom (after_lines r line clock) tail fs
     → Tells n (edge_at r true false false) (Freed r u false) ((line_edges line ++ clock_edges clock) ++ tail) fs
 lines-told n true r (Some d) (Some c) tail fs h w =
-    let a : IsWithin d (r + 1) (r + 60) = h.0 in
-    let b : IsWithin c (r + 100) (r + 200) = h.1 in
+    let a : IsDelayed Dr r d = h.0 in
+    let b : IsDelayed Cr r c = h.1 in
     (omega arith, refl, (omega arith, omega arith, (omega arith, refl, (omega arith, omega arith, w n))))
 lines-told n true r (Some d) None tail fs h w = absurd h
 lines-told n true r None c tail fs h w = absurd h
@@ -257,7 +260,7 @@ commands-told : (look : ℕ) (f : FrameTimes) (second : Option SecondFrame) (e :
 commands-told look f second e tail fs h g k w = frame-told First look f _ _ h (second-told look f second e tail fs g k w)
 
 -- DATA pulled in answer to ATN, and the look
-answer-told : (n a d look : ℕ) (es : List Edge) (fs : List TimedFrame) → IsWithin d (a + 1) (a + 1000) → IsWithin look (a + 1000) (a + 2000)
+answer-told : (n a d look : ℕ) (es : List Edge) (fs : List TimedFrame) → IsDelayed At a d → IsDelayed Aw a look
     → Tells look (edge_at look false true false) (Ready look First) es fs
     → Tells n (edge_at a false false true) (Call a false) (answer_edges (Some d) look ++ es) fs
 answer-told n a d look es fs h k w =
@@ -296,33 +299,33 @@ attention-told n b a answer look f second e tail fs h g k l w =
 piece-told : (b : Between) (p : Piece) (tail : List Edge) (fs : List TimedFrame) → IsPiece b p → TellsFrom (after_piece p) tail fs
     → TellsFrom b (piece_edges b p ++ tail) (piece_timed p ++ fs)
 piece-told (Resting i) (Unanswered a r) tail fs h w = λ n.
-    let c : i + 100 ≤ a = h.1 in
-    let e : IsWithin r (a + 1000) (a + 2000) = h.2 in
+    let c : i + (bounds_of Bb).0 ≤ a = h.1 in
+    let e : IsDelayed Aw a r = h.2 in
     (omega arith, refl, (omega arith, tt, (omega arith, refl, (omega arith, omega arith, w n))))
 piece-told (Held k) (Unanswered a r) tail fs h w = absurd h.0
 piece-told (Loose k) (Unanswered a r) tail fs h w = λ d g n.
-    let c : IsWithin a (k + 100) (k + 1000) = h.1 in
-    let e : IsWithin r (a + 1000) (a + 2000) = h.2 in
+    let c : IsDelayed Bb k a = h.1 in
+    let e : IsDelayed Aw a r = h.2 in
     (omega arith, refl, (omega arith, omega arith, (omega arith, refl, (omega arith, omega arith, w n))))
 piece-told (Resting i) (Attention a answer look f second e) tail fs h w = λ n.
-    let c : i + 100 ≤ a = h.0 in
+    let c : i + (bounds_of Bb).0 ≤ a = h.0 in
     (omega arith, refl, (omega arith, tt, attention-told n (Resting i) a answer look f second e tail fs h.1 h.2 h.3 h.4 w))
 piece-told (Held k) (Attention a answer look f second e) tail fs h w = λ n.
-    let c : IsWithin a (k + 100) (k + 1000) = h.0 in
+    let c : IsDelayed Bb k a = h.0 in
     let v : Tells n (call_edge (Held k) a) (Call a true) _ _ = attention-told n (Held k) a answer look f second e tail fs h.1 h.2 h.3 h.4 w in
     ((omega arith, refl, (omega arith, omega arith, v)), λ byte. (omega arith, refl, (omega arith, omega arith, v)))
 piece-told (Loose k) (Attention a answer look f second e) tail fs h w = λ d g n.
-    let c : IsWithin a (k + 100) (k + 1000) = h.0 in
+    let c : IsDelayed Bb k a = h.0 in
     (omega arith, refl, (omega arith, omega arith, attention-told n (Loose k) a answer look f second e tail fs h.1 h.2 h.3 h.4 w))
 piece-told (Held k) (DataByte l f) tail fs h w = λ n.
-    let c : IsWithin l (k + 100) (k + 1000) = h.0 in
+    let c : IsDelayed Bb k l = h.0 in
     let v : Tells l (edge_at l true true false) (Ready l Data) (frame_edges true f ++ tail) (frame_timed Data l f ∷ fs) =
     frame-told Data l f tail fs h.1 ((w l).1 (byte_sent f)) in
     ((omega arith, refl, (omega arith, omega arith, v)), λ byte. (omega arith, refl, (omega arith, omega arith, v)))
 piece-told (Resting k) (DataByte l f) tail fs h w = absurd h.0
 piece-told (Loose k) (DataByte l f) tail fs h w = absurd h.0
 piece-told (Loose k) (Dropped l) tail fs h w = λ d g n.
-    let c : IsWithin l (k + 100) (k + 1000) = h in
+    let c : IsDelayed Bb k l = h in
     (omega arith, refl, (omega arith, omega arith, w n))
 piece-told (Resting k) (Dropped l) tail fs h w = absurd h
 piece-told (Held k) (Dropped l) tail fs h w = absurd h

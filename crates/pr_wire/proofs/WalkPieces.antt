@@ -9,6 +9,9 @@ use Rattle.pr_wire.specs.declared.bus_state.ByteRole.{ByteRole}
 use Rattle.pr_wire.specs.declared.bus_state.ByteRole.TheVariants.{First, Second, Data}
 use Rattle.pr_wire.specs.declared.bus_state.BusState.{BusState}
 use Rattle.pr_wire.specs.declared.bus_state.BusState.TheVariants.{Idle, Call, Ready, Free, Pulse, After, Bit, High, Last, Ack, Freed}
+use Rattle.pr_wire.specs.declared.delay.Kind.TheVariants.{Bb, Aw, Ne, Ry, S, V, R, Cr, At, H, Ye, Ei, F}
+use Rattle.pr_wire.specs.Delayed.{IsDelayed}
+use Rattle.pr_wire.specs.Delays.{bounds_of}
 use Rattle.pr_wire.specs.Levels.{edge_at, byte_of}
 use Rattle.pr_wire.specs.Table.{row, atn_of, frame_of, same, may_end}
 use Rattle.pr_wire.specs.Pieces.{IsWithin, BitTimes, EoiAnswer, FrameTimes, Ending, SecondFrame, Between, last_pull, AreClocked, IsOpened, IsFrame, levels_of, byte_sent, has_pulse, frame_sent, bit_edges, pulse_edges, frame_edges, IsCalled, IsAnswered, IsReleased, IsSecond, last_ack, last_byte, AreReleased, IsEnded, after_lines, after_ending, call_edge, answer_edges, second_edges, line_edges, clock_edges, ending_edges, edges_of, second_frames}
@@ -49,7 +52,7 @@ pub record Pulled (s : ByteRole) (eoi : Bool) (c : ℕ) (es : List Edge) (fs : L
   pub frames_after : List Frame
   pub clocked : AreClocked c bits
   pub eight : length bits ≡ 8
-  pub acked : IsWithin ack (last_pull c bits + 1) (last_pull c bits + 80)
+  pub acked : IsDelayed F (last_pull c bits) ack
   pub edges : es ≡ bit_edges (atn_of s) c bits ++ edge_at ack (atn_of s) false false ∷ tail
   pub frames : fs ≡ frame_of s eoi (levels_of bits) ∷ frames_after
   pub goes : Acked s (byte_of (levels_of bits)) ack tail frames_after
@@ -62,11 +65,11 @@ pub record AtBit (c : ℕ) (s : ByteRole) (eoi : Bool) (seen : List Bool) (b : B
   pub ack : ℕ
   pub tail : List Edge
   pub frames_after : List Frame
-  pub raised : IsWithin up (c + 20) (c + 200)
-  pub lowered : IsWithin down (up + 20) (up + 200)
+  pub raised : IsDelayed S c up
+  pub lowered : IsDelayed V up down
   pub clocked : AreClocked down bits
   pub eight : length seen + suc (length bits) ≡ 8
-  pub acked : IsWithin ack (last_pull down bits + 1) (last_pull down bits + 80)
+  pub acked : IsDelayed F (last_pull down bits) ack
   pub edges : es ≡ edge_at up (atn_of s) true b ∷ (bit_edges (atn_of s) down bits ++ edge_at ack (atn_of s) false false ∷ tail)
   pub frames : fs ≡ frame_of s eoi (seen ++ b ∷ levels_of bits) ∷ frames_after
   pub goes : Acked s (byte_of (seen ++ b ∷ levels_of bits)) ack tail frames_after
@@ -78,10 +81,10 @@ pub record AtHigh (u : ℕ) (s : ByteRole) (eoi : Bool) (seen : List Bool) (b : 
   pub ack : ℕ
   pub tail : List Edge
   pub frames_after : List Frame
-  pub lowered : IsWithin down (u + 20) (u + 200)
+  pub lowered : IsDelayed V u down
   pub clocked : AreClocked down bits
   pub eight : length seen + suc (length bits) ≡ 8
-  pub acked : IsWithin ack (last_pull down bits + 1) (last_pull down bits + 80)
+  pub acked : IsDelayed F (last_pull down bits) ack
   pub edges : es ≡ bit_edges (atn_of s) down bits ++ edge_at ack (atn_of s) false false ∷ tail
   pub frames : fs ≡ frame_of s eoi (seen ++ b ∷ levels_of bits) ∷ frames_after
   pub goes : Acked s (byte_of (seen ++ b ∷ levels_of bits)) ack tail frames_after
@@ -91,7 +94,7 @@ pub record AtLast (z : ℕ) (s : ByteRole) (eoi : Bool) (seen : List Bool) (es :
   pub ack : ℕ
   pub tail : List Edge
   pub frames_after : List Frame
-  pub acked : IsWithin ack (z + 1) (z + 80)
+  pub acked : IsDelayed F z ack
   pub edges : es ≡ edge_at ack (atn_of s) false false ∷ tail
   pub frames : fs ≡ frame_of s eoi seen ∷ frames_after
   pub goes : Acked s (byte_of seen) ack tail frames_after
@@ -99,14 +102,14 @@ pub record AtLast (z : ℕ) (s : ByteRole) (eoi : Bool) (seen : List Bool) (es :
 -- the rest after an EOI answer
 pub record AtAfter (q : ℕ) (es : List Edge) (fs : List Frame) : Type 0 where
   pub pull : ℕ
-  pub opened : IsWithin pull (q + 1) (q + 60)
+  pub opened : IsDelayed Ry q pull
   pub pulled : Pulled Data true pull es fs
 
 -- the rest within an EOI answer
 pub record AtPulse (p d : ℕ) (es : List Edge) (fs : List Frame) : Type 0 where
   pub released : ℕ
   pub tail : List Edge
-  pub is_released : IsWithin released (p + 80) (d + 450)
+  pub is_released : IsWithin released (p + (bounds_of Ei).0) (d + ((bounds_of Ye).2 + (bounds_of Ei).2))
   pub edges : es ≡ edge_at released true true true ∷ tail
   pub after : AtAfter released tail fs
 
@@ -133,7 +136,7 @@ pub record AtReady (look : ℕ) (s : ByteRole) (es : List Edge) (fs : List Frame
 pub record AtAnswered (last a : ℕ) (es : List Edge) (fs : List Frame) : Type 0 where
   pub look : ℕ
   pub tail : List Edge
-  pub looked : IsWithin look (a + 1000) (a + 2000)
+  pub looked : IsDelayed Aw a look
   pub later : last < look
   pub edges : es ≡ edge_at look false true false ∷ tail
   pub ready : AtReady look First tail fs
@@ -142,7 +145,7 @@ pub record AtAnswered (last a : ℕ) (es : List Edge) (fs : List Frame) : Type 0
 pub record AtUnanswered (a : ℕ) (es : List Edge) (fs : List Frame) : Type 0 where
   pub release : ℕ
   pub tail : List Edge
-  pub ended : IsWithin release (a + 1000) (a + 2000)
+  pub ended : IsDelayed Aw a release
   pub edges : es ≡ edge_at release true true true ∷ tail
   pub onwards : Onwards (Resting release) tail fs
 
@@ -151,8 +154,8 @@ pub record AtCalled (a : ℕ) (es : List Edge) (fs : List Frame) : Type 0 where
   pub answer : ℕ
   pub look : ℕ
   pub tail : List Edge
-  pub answered : IsWithin answer (a + 1) (a + 1000)
-  pub looked : IsWithin look (a + 1000) (a + 2000)
+  pub answered : IsDelayed At a answer
+  pub looked : IsDelayed Aw a look
   pub edges : es ≡ answer_edges (Some answer) look ++ tail
   pub ready : AtReady look First tail fs
 
@@ -169,7 +172,7 @@ pub record AtFreed (r : ℕ) (unlisten : Bool) (es : List Edge) (fs : List Frame
 pub record AtClosed (r : ℕ) (es : List Edge) (fs : List Frame) : Type 0 where
   pub clock : ℕ
   pub tail : List Edge
-  pub released : IsWithin clock (r + 100) (r + 200)
+  pub released : IsDelayed Cr r clock
   pub edges : es ≡ edge_at clock true true true ∷ tail
   pub onwards : Onwards (Resting clock) tail fs
 
@@ -237,7 +240,7 @@ attention-piece b a answer look tail es fs c w e h =
       frames = rw (h.frames, g.frames, o.frames) refl;
     }
 
-data-piece : (k l : ℕ) (es : List Edge) (fs : List Frame) → IsWithin l (k + 100) (k + 1000) → AtReady l Data es fs → Onwards (Held k) (edge_at l true true false ∷ es) fs
+data-piece : (k l : ℕ) (es : List Edge) (fs : List Frame) → IsDelayed Bb k l → AtReady l Data es fs → Onwards (Held k) (edge_at l true true false ∷ es) fs
 data-piece k l es fs w h = let o = h.goes in record {
   pieces = DataByte l h.sent ∷ o.pieces;
   lawful = ((w, h.is_frame), o.lawful);
@@ -245,7 +248,7 @@ data-piece k l es fs w h = let o = h.goes in record {
   frames = rw (h.frames, o.frames) refl;
 }
 
-dropped-piece : (r l : ℕ) (es : List Edge) (fs : List Frame) → IsWithin l (r + 100) (r + 1000) → Onwards (Resting l) es fs → Onwards (Loose r) (edge_at l true true true ∷ es) fs
+dropped-piece : (r l : ℕ) (es : List Edge) (fs : List Frame) → IsDelayed Bb r l → Onwards (Resting l) es fs → Onwards (Loose r) (edge_at l true true true ∷ es) fs
 dropped-piece r l es fs w o = record {
   pieces = Dropped l ∷ o.pieces;
   lawful = (w, o.lawful);
@@ -266,7 +269,7 @@ called-piece (Loose i) a es fs r c h = elim h [
 called-piece (Held i) a es fs r c h = absurd r
 
 -- ATN pulled where DATA is pulled
-held-piece : (k a : ℕ) (es : List Edge) (fs : List Frame) → IsWithin a (k + 100) (k + 1000) → AtAnswered a a es fs → Onwards (Held k) (edge_at a false false false ∷ es) fs
+held-piece : (k a : ℕ) (es : List Edge) (fs : List Frame) → IsDelayed Bb k a → AtAnswered a a es fs → Onwards (Held k) (edge_at a false false false ∷ es) fs
 held-piece k a es fs w h = attention-piece (Held k) a None h.look h.tail es fs w h.looked h.edges h.ready
 
 -- a frame's first bit, at the pull of CLOCK that brings it
@@ -306,7 +309,7 @@ step-call last a false t false false false es fs next w =
       ready = h.ready;
     }
 step-call last a false t false true false es fs next w =
-    let low : a + 1000 ≤ t = w.2.0 in let high : t ≤ a + 1000 = w.2.1 in
+    let low : a + (bounds_of Aw).0 ≤ t = w.2.0 in let high : t ≤ a + (bounds_of Aw).0 = w.2.1 in
     inr record {
       answer = t;
       look = t;
@@ -331,7 +334,7 @@ step-call last a true t false true true es fs next w = absurd w.2
 put-together : {A : Type 0} (p b : List A) (a : A) (t : List A) → p ++ (b ++ (a ∷ t)) ≡ ((p ++ b) ++ (a ∷ [])) ++ t
 put-together p b a t = simp append_assoc
 
-ready-of : (l : ℕ) (s : ByteRole) (t : ℕ) (x : Bool) (es : List Edge) (fs : List Frame) → x ≡ atn_of s → IsWithin t (l + 1) (l + 10000) → AtFree t s es fs → AtReady l s (edge_at t x true true ∷ es) fs
+ready-of : (l : ℕ) (s : ByteRole) (t : ℕ) (x : Bool) (es : List Edge) (fs : List Frame) → x ≡ atn_of s → IsDelayed H l t → AtFree t s es fs → AtReady l s (edge_at t x true true ∷ es) fs
 ready-of l s t x es fs e k h =
     let p = h.pulled in
     record {
@@ -352,7 +355,7 @@ step-ready last l s t x true true es fs next w =
 step-ready last l s t x false d es fs next w = absurd w.2
 step-ready last l s t x true false es fs next w = absurd w.2
 
-plain-free : (d t : ℕ) (s : ByteRole) (x b : Bool) (es : List Edge) (fs : List Frame) → x ≡ atn_of s → IsWithin t (d + 1) (d + 199) → AtBit t s false [] b es fs → AtFree d s (edge_at t x false b ∷ es) fs
+plain-free : (d t : ℕ) (s : ByteRole) (x b : Bool) (es : List Edge) (fs : List Frame) → x ≡ atn_of s → IsDelayed Ne d t → AtBit t s false [] b es fs → AtFree d s (edge_at t x false b ∷ es) fs
 plain-free d t s x b es fs e h k = record { pulse = None; pull = t; tail = edge_at t x false b ∷ es; opened = h; edges = refl; pulled = first-bit s false t x b es fs e k }
 
 step-free : (last : Edge) (f : ℕ) (s : ByteRole) (t : ℕ) (x c d : Bool) (es : List Edge) (fs : List Frame) → Next (edge_at t x c d) es → Walks last (Free f s) (edge_at t x c d ∷ es) fs → Rest last (Free f s) (edge_at t x c d ∷ es) fs
@@ -400,7 +403,7 @@ step-after last q t true false d es fs next w = record { pull = t; opened = reco
 step-after last q t false c d es fs next w = absurd w.2
 step-after last q t true true d es fs next w = absurd w.2
 
-bit-of : (c t : ℕ) (s : ByteRole) (eoi : Bool) (seen : List Bool) (b b' x : Bool) (es : List Edge) (fs : List Frame) → x ≡ atn_of s → b ≡ b' → IsWithin t (c + 20) (c + 200)
+bit-of : (c t : ℕ) (s : ByteRole) (eoi : Bool) (seen : List Bool) (b b' x : Bool) (es : List Edge) (fs : List Frame) → x ≡ atn_of s → b ≡ b' → IsDelayed S c t
     → AtHigh t s eoi seen b es fs → AtBit c s eoi seen b (edge_at t x true b' ∷ es) fs
 bit-of c t s eoi seen b b' x es fs e g k h = record {
   up = t;
@@ -427,7 +430,7 @@ step-bit last k s eoi seen b t x true d es fs next w =
     bit-of k t s eoi seen b d x es fs (same-eq x (atn_of s) e.0) (same-eq b d e.1) (record { from = v.1.0; to = v.1.1 }) (next (High t s eoi seen b) fs v.1.2)
 step-bit last k s eoi seen b t x false d es fs next w = absurd w.2
 
-high-bit : (u t : ℕ) (s : ByteRole) (eoi : Bool) (seen : List Bool) (b b' x : Bool) (es : List Edge) (fs : List Frame) → x ≡ atn_of s → IsWithin t (u + 20) (u + 200)
+high-bit : (u t : ℕ) (s : ByteRole) (eoi : Bool) (seen : List Bool) (b b' x : Bool) (es : List Edge) (fs : List Frame) → x ≡ atn_of s → IsDelayed V u t
     → AtBit t s eoi (seen ++ b ∷ []) b' es fs → AtHigh u s eoi seen b (edge_at t x false b' ∷ es) fs
 high-bit u t s eoi seen b b' x es fs e k h = record {
   down = t;
@@ -444,7 +447,7 @@ high-bit u t s eoi seen b b' x es fs e k h = record {
   goes = rw append_assoc at h.goes;
 }
 
-high-last : (u t : ℕ) (s : ByteRole) (eoi : Bool) (seen : List Bool) (b b' x : Bool) (es : List Edge) (fs : List Frame) → x ≡ atn_of s → b' ≡ true → length seen ≡ 7 → IsWithin t (u + 20) (u + 200)
+high-last : (u t : ℕ) (s : ByteRole) (eoi : Bool) (seen : List Bool) (b b' x : Bool) (es : List Edge) (fs : List Frame) → x ≡ atn_of s → b' ≡ true → length seen ≡ 7 → IsDelayed V u t
     → AtLast t s eoi (seen ++ b ∷ []) es fs → AtHigh u s eoi seen b (edge_at t x false b' ∷ es) fs
 high-last u t s eoi seen b b' x es fs e g n k h = record {
   down = t;
@@ -474,7 +477,7 @@ step-high last k s eoi seen b t x false d es fs next w =
     ]
 step-high last k s eoi seen b t x true d es fs next w = absurd w.2
 
-last-of : (z t : ℕ) (s : ByteRole) (eoi : Bool) (seen : List Bool) (x : Bool) (es : List Edge) (f : Frame) (fs : List Frame) → x ≡ atn_of s → IsWithin t (z + 1) (z + 80) → f ≡ frame_of s eoi seen
+last-of : (z t : ℕ) (s : ByteRole) (eoi : Bool) (seen : List Bool) (x : Bool) (es : List Edge) (f : Frame) (fs : List Frame) → x ≡ atn_of s → IsDelayed F z t → f ≡ frame_of s eoi seen
     → Acked s (byte_of seen) t es fs → AtLast z s eoi seen (edge_at t x false false ∷ es) (f ∷ fs)
 last-of z t s eoi seen x es f fs e k g h = record { ack = t; tail = es; frames_after = fs; acked = k; edges = rw e refl; frames = rw g refl; goes = h }
 
@@ -488,7 +491,7 @@ step-last last k s eoi seen t x false false es [] next w =
 step-last last k s eoi seen t x true d es fs next w = absurd w.2
 step-last last k s eoi seen t x false true es fs next w = absurd w.2
 
-ends-of : (k t byte : ℕ) (es : List Edge) (fs : List Frame) → IsWithin t (k + 100) (k + 200) → AtFreed t (eqb byte 63) es fs → Ends byte k (edge_at t true false false ∷ es) fs
+ends-of : (k t byte : ℕ) (es : List Edge) (fs : List Frame) → IsDelayed R k t → AtFreed t (eqb byte 63) es fs → Ends byte k (edge_at t true false false ∷ es) fs
 ends-of k t byte es fs w h = record { ending = record { atn = t; line = h.line; clock = h.clock }; tail = h.tail; ended = record { atn = w; lines = h.released }; edges = rw h.edges refl; onwards = h.onwards }
 
 step-ack : (last : Edge) (k : ℕ) (s : ByteRole) (byte : ℕ) (t : ℕ) (x c d : Bool) (es : List Edge) (fs : List Frame) → Next (edge_at t x c d) es

@@ -11,6 +11,9 @@ use Rattle.pr_wire.specs.declared.bus_state.Step.{Step}
 use Rattle.pr_wire.specs.declared.bus_state.BusState.{BusState}
 use Rattle.pr_wire.specs.declared.bus_state.BusState.TheVariants.{Ready, Free, Pulse, After, Bit, Ack}
 use Rattle.pr_wire.specs.declared.ahead.Start.{Start}
+use Rattle.pr_wire.specs.declared.delay.Kind.TheVariants.{H, Ne, Ye, Ei, Ry}
+use Rattle.pr_wire.specs.Delayed.{IsDelayed}
+use Rattle.pr_wire.specs.Delays.{bounds_of}
 use Rattle.pr_wire.specs.Levels.{edge_at}
 use Rattle.pr_wire.specs.Table.{atn_of}
 use Rattle.pr_wire.specs.Reached.{Reached, reached, one_more, led, onto, step_of}
@@ -21,29 +24,29 @@ use Rattle.pr_wire.proofs.Reached.{reached-append}
 use Rattle.pr_wire.proofs.BitPairs.{edge-is}
 
 -- DATA is released
-frees : (s : ByteRole) (l f : ℕ) (before : List Frame) (n : ℕ) → l + 1 ≤ f → f ≤ l + 10000
+frees : (s : ByteRole) (l f : ℕ) (before : List Frame) (n : ℕ) → IsDelayed H l f
     → one_more (behind (edge_at l (atn_of s) true false) (Ready l s) before n) (edge_at f (atn_of s) true true) ≡ Ok (behind (edge_at f (atn_of s) true true) (Free f s) before (n + 1))
-frees s l f before n h m = rw (lt-ltb l f (omega arith), same-self (atn_of s), le-ltb f (l + 1) h, le-ltb (l + 10000) f m) refl
+frees s l f before n h = rw (lt-ltb l f (omega (arith, h.from)), same-self (atn_of s), le-ltb f (l + (bounds_of H).0) h.from, le-ltb (l + (bounds_of H).2) f h.to) refl
 
 -- CLOCK is pulled, and brings the first bit
-pulls : (s : ByteRole) (f p : ℕ) (b : Bool) (before : List Frame) (n : ℕ) → f + 1 ≤ p → p ≤ f + 199
+pulls : (s : ByteRole) (f p : ℕ) (b : Bool) (before : List Frame) (n : ℕ) → IsDelayed Ne f p
     → one_more (behind (edge_at f (atn_of s) true true) (Free f s) before n) (edge_at p (atn_of s) false b) ≡ Ok (behind (edge_at p (atn_of s) false b) (Bit p s false [] b) before (n + 1))
-pulls s f p b before n h m = rw (lt-ltb f p (omega arith), same-self (atn_of s), le-ltb p (f + 1) h, le-ltb (f + 199) p m) refl
+pulls s f p b before n h = rw (lt-ltb f p (omega (arith, h.from)), same-self (atn_of s), le-ltb p (f + (bounds_of Ne).0) h.from, le-ltb (f + (bounds_of Ne).2) p h.to) refl
 
 -- DATA is pulled in answer to end-or-identify
-answers : (f p : ℕ) (before : List Frame) (n : ℕ) → f + 200 ≤ p → p ≤ f + 250
+answers : (f p : ℕ) (before : List Frame) (n : ℕ) → IsDelayed Ye f p
     → one_more (behind (edge_at f true true true) (Free f Data) before n) (edge_at p true true false) ≡ Ok (behind (edge_at p true true false) (Pulse p f) before (n + 1))
-answers f p before n h m = rw (lt-ltb f p (omega arith), le-ltb p (f + 200) h, le-ltb (f + 250) p m) refl
+answers f p before n h = rw (lt-ltb f p (omega (arith, h.from)), le-ltb p (f + (bounds_of Ye).0) h.from, le-ltb (f + (bounds_of Ye).2) p h.to) refl
 
 -- and released
-ends-answer : (f p q : ℕ) (before : List Frame) (n : ℕ) → p + 80 ≤ q → q ≤ f + 450
+ends-answer : (f p q : ℕ) (before : List Frame) (n : ℕ) → p + (bounds_of Ei).0 ≤ q → q ≤ f + ((bounds_of Ye).2 + (bounds_of Ei).2)
     → one_more (behind (edge_at p true true false) (Pulse p f) before n) (edge_at q true true true) ≡ Ok (behind (edge_at q true true true) (After q) before (n + 1))
-ends-answer f p q before n h m = rw (lt-ltb p q (omega arith), le-ltb q (p + 80) h, le-ltb (f + 450) q m) refl
+ends-answer f p q before n h m = rw (lt-ltb p q (omega arith), le-ltb q (p + (bounds_of Ei).0) h, le-ltb (f + ((bounds_of Ye).2 + (bounds_of Ei).2)) q m) refl
 
 -- and CLOCK is pulled
-pulls-after : (q p : ℕ) (b : Bool) (before : List Frame) (n : ℕ) → q + 1 ≤ p → p ≤ q + 60
+pulls-after : (q p : ℕ) (b : Bool) (before : List Frame) (n : ℕ) → IsDelayed Ry q p
     → one_more (behind (edge_at q true true true) (After q) before n) (edge_at p true false b) ≡ Ok (behind (edge_at p true false b) (Bit p Data true [] b) before (n + 1))
-pulls-after q p b before n h m = rw (lt-ltb q p (omega arith), le-ltb p (q + 1) h, le-ltb (q + 60) p m) refl
+pulls-after q p b before n h = rw (lt-ltb q p (omega (arith, h.from)), le-ltb p (q + (bounds_of Ry).0) h.from, le-ltb (q + (bounds_of Ry).2) p h.to) refl
 
 -- one edge more
 push-step : (r q p : Reached) (es : List Edge) (e : Edge) → reached r es ≡ Ok q → one_more q e ≡ Ok p → reached r (es ++ e ∷ []) ≡ Ok p
@@ -84,8 +87,8 @@ begun old s last look free before n b o =
     push-step r (behind look (Ready look.time s.sending) before (n + 1)) (behind free (Free free.time s.sending) before (n + 1 + 1)) (look ∷ []) free
     (push-step r r (behind look (Ready look.time s.sending) before (n + 1)) [] look refl (b last look before n o.later o.clock o.looks))
     (behind-both (Ready look.time s.sending) (Free free.time s.sending) x true false x true true look free before (n + 1)
-    (record { old_is = in-is look _ s.since s.least s.greatest o.looks; new_is = in-is free _ look.time 1 10000 o.frees })
-    (frees s.sending look.time free.time before (n + 1) o.frees.from o.frees.to))
+    (record { old_is = in-is look _ s.since s.least s.greatest o.looks; new_is = in-is free _ look.time _ _ o.frees })
+    (frees s.sending look.time free.time before (n + 1) o.frees.in_time))
 
 -- the three edges that open a frame without end-or-identify
 opens : (old : BusState) (s : Start) (last look free pull : Edge) (before : List Frame) (n : ℕ) → Begins old s → IsBegunBy last s look free → IsPulledBy s.sending free pull
@@ -94,8 +97,8 @@ opens old s last look free pull before n b o k =
     let x = atn_of s.sending in
     push-step (behind last old before n) _ _ (look ∷ free ∷ []) pull (begun old s last look free before n b o)
     (behind-both (Free free.time s.sending) (Bit pull.time s.sending false [] pull.levels.line) x true true x false pull.levels.line free pull before (n + 1 + 1)
-    (record { old_is = in-is free _ look.time 1 10000 o.frees; new_is = in-is pull _ free.time 1 199 k })
-    (pulls s.sending free.time pull.time pull.levels.line before (n + 1 + 1) k.from k.to))
+    (record { old_is = in-is free _ look.time _ _ o.frees; new_is = in-is pull _ free.time _ _ k })
+    (pulls s.sending free.time pull.time pull.levels.line before (n + 1 + 1) k.in_time))
 
 -- the five edges that open a data frame with it
 opens-answered : (old : BusState) (s : Start) (last look free pulse release pull : Edge) (before : List Frame) (n : ℕ) → s.sending ≡ Data → Begins old s → IsBegunBy last s look free → IsAnsweredBy free pulse release pull
@@ -105,19 +108,19 @@ opens-answered old s last look free pulse release pull before n d b o k =
     let h : reached r (look ∷ free ∷ []) ≡ Ok (behind free (Free free.time Data) before (n + 1 + 1))
     = subst (λ z. reached r (look ∷ free ∷ []) ≡ Ok (behind free (Free free.time z) before (n + 1 + 1))) d (begun old s last look free before n b o) in
     let f : free ≡ edge_at free.time true true true
-    = subst (λ z. free ≡ edge_at free.time (atn_of z) true true) d (in-is free _ look.time 1 10000 o.frees) in
-    let p : pulse ≡ edge_at pulse.time true true false = in-is pulse _ free.time 200 250 k.pulses in
-    let q : release ≡ edge_at release.time true true true = in-is release _ free.time 280 450 k.releases in
-    let z : pull ≡ edge_at pull.time true false pull.levels.line = in-is pull _ release.time 1 60 k.pulls in
+    = subst (λ z. free ≡ edge_at free.time (atn_of z) true true) d (in-is free _ look.time _ _ o.frees) in
+    let p : pulse ≡ edge_at pulse.time true true false = in-is pulse _ free.time _ _ k.pulses in
+    let q : release ≡ edge_at release.time true true true = in-is release _ free.time _ _ k.releases in
+    let z : pull ≡ edge_at pull.time true false pull.levels.line = in-is pull _ release.time _ _ k.pulls in
     push-step r _ _ (look ∷ free ∷ pulse ∷ release ∷ []) pull
     (push-step r _ _ (look ∷ free ∷ pulse ∷ []) release
     (push-step r _ _ (look ∷ free ∷ []) pulse h
     (behind-both (Free free.time Data) (Pulse pulse.time free.time) true true true true true false free pulse before (n + 1 + 1) (record { old_is = f; new_is = p })
-    (answers free.time pulse.time before (n + 1 + 1) k.pulses.from k.pulses.to)))
+    (answers free.time pulse.time before (n + 1 + 1) k.pulses.in_time)))
     (behind-both (Pulse pulse.time free.time) (After release.time) true true false true true true pulse release before (n + 1 + 1 + 1) (record { old_is = p; new_is = q })
-    (ends-answer free.time pulse.time release.time before (n + 1 + 1 + 1) k.lasts k.releases.to)))
+    (ends-answer free.time pulse.time release.time before (n + 1 + 1 + 1) k.lasts k.releases.in_time.to)))
     (behind-both (After release.time) (Bit pull.time Data true [] pull.levels.line) true true true true false pull.levels.line release pull before (n + 1 + 1 + 1 + 1) (record { old_is = q; new_is = z })
-    (pulls-after release.time pull.time pull.levels.line before (n + 1 + 1 + 1 + 1) k.pulls.from k.pulls.to))
+    (pulls-after release.time pull.time pull.levels.line before (n + 1 + 1 + 1 + 1) k.pulls.in_time))
 
 -- edges after others come by no frame more
 both-same : (es fs : List Edge) (r q : Reached) → reached r es ≡ Ok q → MatchResult (reached q fs) (λ p. p.before ≡ r.before) (λ _. ⊥) → MatchResult (reached r (es ++ fs)) (λ p. p.before ≡ r.before) (λ _. ⊥)

@@ -11,6 +11,11 @@ use Rattle.pr_wire.specs.declared.ahead.Start.{Start}
 use Rattle.pr_wire.specs.Reached.{reached, one_more}
 use Rattle.pr_wire.specs.Ahead.{behind, last_of, PassesFrame, EndsNoneSooner}
 use Rattle.pr_wire.specs.Table.{atn_of}
+use Rattle.pr_wire.specs.declared.delay.Kind.{Kind}
+use Rattle.pr_wire.specs.declared.delay.Kind.TheVariants.{H, Ne, Ye, Ei, Ry, S, V, F}
+use Rattle.pr_wire.specs.Delayed.{IsDelayed}
+use Rattle.pr_wire.specs.Delays.{bounds_of}
+use Rattle.pr_wire.specs.Pieces.{IsWithin}
 
 -- the edges of a frame whose end-or-identify is answered, the most that a frame has
 abbrev pub answered_edges : ℕ
@@ -23,10 +28,8 @@ pub record IsClocked (pull up down : Edge) : Type 0 where
   pub up_line : up.levels.line ≡ pull.levels.line
   pub down_atn : down.levels.atn ≡ pull.levels.atn
   pub down_clock : down.levels.clock ≡ false
-  pub up_from : pull.time + 20 ≤ up.time
-  pub up_to : up.time ≤ pull.time + 200
-  pub down_from : up.time + 20 ≤ down.time
-  pub down_to : down.time ≤ up.time + 200
+  pub up_in : IsDelayed S pull.time up.time
+  pub down_in : IsDelayed V up.time down.time
 
 -- a byte is acknowledged
 pub record IsAcknowledged (pull ack : Edge) : Type 0 where
@@ -34,8 +37,7 @@ pub record IsAcknowledged (pull ack : Edge) : Type 0 where
   pub ack_atn : ack.levels.atn ≡ pull.levels.atn
   pub ack_clock : ack.levels.clock ≡ false
   pub ack_line : ack.levels.line ≡ false
-  pub from : pull.time + 1 ≤ ack.time
-  pub to : ack.time ≤ pull.time + 80
+  pub ack_in : IsDelayed F pull.time ack.time
 
 -- the first 17 edges after a pull of CLOCK that brings a first bit send and acknowledge this byte, the last of them ending the frame
 pub record BringsByte (pull : Edge) (edges : List Edge) (byte : ℕ) : Type 0 where
@@ -52,27 +54,31 @@ pub record IsEdgeIn (edge : Edge) (levels : Levels) (since least greatest : ℕ)
   pub atn : edge.levels.atn ≡ levels.atn
   pub clock : edge.levels.clock ≡ levels.clock
   pub line : edge.levels.line ≡ levels.line
-  pub from : since + least ≤ edge.time
-  pub to : edge.time ≤ since + greatest
+  pub in_time : IsWithin edge.time (since + least) (since + greatest)
+
+-- the same, where it comes a delay of a kind after it
+abbrev pub IsEdgeBy : Edge → Levels → ℕ → Kind → Type 0
+IsEdgeBy edge levels since k = IsEdgeIn edge levels since (bounds_of k).0 (bounds_of k).2
 
 -- a frame begins after a pull of CLOCK: CLOCK is released for it in time, and then DATA
 pub record IsBegunBy (last : Edge) (s : Start) (look free : Edge) : Type 0 where
   pub later : last.time < look.time
   pub clock : last.levels.clock ≡ false
   pub looks : IsEdgeIn look (record { atn = atn_of s.sending; clock = true; line = false }) s.since s.least s.greatest
-  pub frees : IsEdgeIn free (record { atn = atn_of s.sending; clock = true; line = true }) look.time 1 10000
+  pub frees : IsEdgeBy free (record { atn = atn_of s.sending; clock = true; line = true }) look.time H
 
 -- CLOCK is pulled, and brings the first bit of a frame without end-or-identify
 abbrev pub IsPulledBy : ByteRole → Edge → Edge → Type 0
 IsPulledBy s free pull =
-    IsEdgeIn pull (record { atn = atn_of s; clock = false; line = pull.levels.line }) free.time 1 199
+    IsEdgeBy pull (record { atn = atn_of s; clock = false; line = pull.levels.line }) free.time Ne
 
 -- end-or-identify is answered, and CLOCK is pulled and brings the first bit
 pub record IsAnsweredBy (free pulse release pull : Edge) : Type 0 where
-  pub pulses : IsEdgeIn pulse (record { atn = true; clock = true; line = false }) free.time 200 250
-  pub releases : IsEdgeIn release (record { atn = true; clock = true; line = true }) free.time 280 450
-  pub lasts : pulse.time + 80 ≤ release.time
-  pub pulls : IsEdgeIn pull (record { atn = true; clock = false; line = pull.levels.line }) release.time 1 60
+  pub pulses : IsEdgeBy pulse (record { atn = true; clock = true; line = false }) free.time Ye
+  pub releases : IsEdgeIn release (record { atn = true; clock = true; line = true }) free.time
+      ((bounds_of Ye).0 + (bounds_of Ei).0) ((bounds_of Ye).2 + (bounds_of Ei).2)
+  pub lasts : pulse.time + (bounds_of Ei).0 ≤ release.time
+  pub pulls : IsEdgeBy pull (record { atn = true; clock = false; line = pull.levels.line }) release.time Ry
 
 -- from a place a release of CLOCK in time leads into a frame
 abbrev pub Begins : BusState → Start → Type 0

@@ -1,8 +1,6 @@
 -- Trusted: the table of lawful traces: which edge may follow at each place, when, and the place
--- that it reaches; and the first fault of a list of edges. `Pieces` says what lawful means; the
--- table only decides which fault is first. Both have the intervals as numbers, since each is read
--- against the profile. The code has each as the bounds of its kind of delay, except that DATA may
--- answer in the microsecond of the look, and the end of a pulse (450).
+-- that it reaches; and the first fault of a list of edges. `Pieces` says what lawful means, with the
+-- intervals as numbers; the table only decides which fault is first, and takes them from `Delays`.
 use Rattle.std.specs.Prelude.{ℕ, ◌+◌, Bool, true, false, not, ◌&&◌, ◌==◌, nat_lt, if◌then◌else◌, List, [], ◌∷◌, ◌++◌, length, Option, Some, None, Result, Ok, Err}
 use Rattle.pr_base.specs.Bytes as command
 use Rattle.pr_wire.specs.declared.Levels.{Levels}
@@ -17,6 +15,9 @@ use Rattle.pr_wire.specs.declared.bus_state.EdgeError.{EdgeError}
 use Rattle.pr_wire.specs.declared.bus_state.EdgeError.TheVariants.{Order, TooEarly, TooLate, Shape}
 use Rattle.pr_wire.specs.declared.bus_state.BusState.{BusState}
 use Rattle.pr_wire.specs.declared.bus_state.BusState.TheVariants.{Idle, Call, Ready, Free, Pulse, After, Bit, High, Last, Ack, Freed}
+use Rattle.pr_wire.specs.declared.delay.Kind.{Kind}
+use Rattle.pr_wire.specs.declared.delay.Kind.TheVariants.{Bb, Aw, Ne, Ry, S, V, R, Cr, At, H, Ye, Ei, F, Dr}
+use Rattle.pr_wire.specs.Delays.{bounds_of}
 use Rattle.pr_wire.specs.Levels.{byte_of}
 
 -- a row of the table: the first and the last moment allowed, the place reached, and the frame that the edge ends
@@ -28,6 +29,10 @@ pub record Row : Type 0 where
 
 abbrev pub within : ℕ → ℕ → BusState → Option Row
 within low high p = Some (record { earliest = low; latest = Some high; place = p; frame = None })
+
+-- a row for an edge that comes a delay of this kind after a moment
+abbrev pub delayed : Kind → ℕ → BusState → Option Row
+delayed k since p = within (since + (bounds_of k).0) (since + (bounds_of k).2) p
 
 abbrev pub from : ℕ → BusState → Option Row
 from low p = Some (record { earliest = low; latest = None; place = p; frame = None })
@@ -54,53 +59,52 @@ frame_of s eoi bits = record { attention = not (atn_of s); byte = byte_of bits; 
 
 -- the row of the table for an edge, with its moment and its levels of ATN, CLOCK and DATA
 abbrev pub row : BusState → ℕ → Bool → Bool → Bool → Option Row
-row (Idle i) t false false true = from (i + 100) (Call t false)
+row (Idle i) t false false true = from (i + (bounds_of Bb).0) (Call t false)
 row (Idle i) t _ _ _ = None
-row (Call a false) t false false false = within (a + 1) (a + 1000) (Call a true)
-row (Call a false) t false true false = within (a + 1000) (a + 1000) (Ready t First)
-row (Call a false) t true true true = within (a + 1000) (a + 2000) (Idle t)
+row (Call a false) t false false false = delayed At a (Call a true)
+row (Call a false) t false true false = within (a + (bounds_of Aw).0) (a + (bounds_of Aw).0) (Ready t First)
+row (Call a false) t true true true = delayed Aw a (Idle t)
 row (Call a false) t _ _ _ = None
-row (Call a true) t false true false = within (a + 1000) (a + 2000) (Ready t First)
+row (Call a true) t false true false = delayed Aw a (Ready t First)
 row (Call a true) t _ _ _ = None
-row (Ready l s) t x true true = where_true (same x (atn_of s)) (within (l + 1) (l + 10000) (Free t s))
+row (Ready l s) t x true true = where_true (same x (atn_of s)) (delayed H l (Free t s))
 row (Ready l s) t _ _ _ = None
-row (Free d s) t x false b = where_true (same x (atn_of s)) (within (d + 1) (d + 199) (Bit t s false [] b))
-row (Free d Data) t true true false = within (d + 200) (d + 250) (Pulse t d)
+row (Free d s) t x false b = where_true (same x (atn_of s)) (delayed Ne d (Bit t s false [] b))
+row (Free d Data) t true true false = delayed Ye d (Pulse t d)
 row (Free d s) t _ _ _ = None
-row (Pulse p d) t true true true =
-    Some (record { earliest = p + 80; latest = Some (d + 450); place = After t; frame = None })
+row (Pulse p d) t true true true = within (p + (bounds_of Ei).0) (d + ((bounds_of Ye).2 + (bounds_of Ei).2)) (After t)
 row (Pulse p d) t _ _ _ = None
-row (After q) t true false b = within (q + 1) (q + 60) (Bit t Data true [] b)
+row (After q) t true false b = delayed Ry q (Bit t Data true [] b)
 row (After q) t _ _ _ = None
 row (Bit c s eoi seen b) t x true b' =
-    where_true (same x (atn_of s) && same b b') (within (c + 20) (c + 200) (High t s eoi seen b))
+    where_true (same x (atn_of s) && same b b') (delayed S c (High t s eoi seen b))
 row (Bit c s eoi seen b) t _ _ _ = None
 row (High u s eoi seen b) t x false b' =
     where_true (same x (atn_of s)) (if nat_lt (length seen) 7
-    then within (u + 20) (u + 200) (Bit t s eoi (seen ++ b ∷ []) b')
-    else where_true (b' && length seen == 7) (within (u + 20) (u + 200) (Last t s eoi (seen ++ b ∷ []))))
+    then delayed V u (Bit t s eoi (seen ++ b ∷ []) b')
+    else where_true (b' && length seen == 7) (delayed V u (Last t s eoi (seen ++ b ∷ []))))
 row (High u s eoi seen b) t _ _ _ = None
 row (Last z s eoi seen) t x false false =
     where_true (same x (atn_of s))
     (Some (record {
-      earliest = z + 1;
-      latest = Some (z + 80);
+      earliest = z + (bounds_of F).0;
+      latest = Some (z + (bounds_of F).2);
       place = Ack t s (byte_of seen);
       frame = Some (frame_of s eoi seen);
     }))
 row (Last z s eoi seen) t _ _ _ = None
-row (Ack k First byte) t false true false = within (k + 1000) (k + 2000) (Ready t Second)
-row (Ack k First byte) t true false false = within (k + 100) (k + 200) (Freed t (byte == command.unlisten) false)
-row (Ack k Second byte) t true false false = within (k + 100) (k + 200) (Freed t (byte == command.unlisten) false)
-row (Ack k Data byte) t true true false = within (k + 100) (k + 1000) (Ready t Data)
-row (Ack k Data byte) t false false false = within (k + 100) (k + 1000) (Call t true)
+row (Ack k First byte) t false true false = delayed Aw k (Ready t Second)
+row (Ack k First byte) t true false false = delayed R k (Freed t (byte == command.unlisten) false)
+row (Ack k Second byte) t true false false = delayed R k (Freed t (byte == command.unlisten) false)
+row (Ack k Data byte) t true true false = delayed Bb k (Ready t Data)
+row (Ack k Data byte) t false false false = delayed Bb k (Call t true)
 row (Ack k s byte) t _ _ _ = None
-row (Freed r unlisten false) t true false true = within (r + 1) (r + 60) (Freed r unlisten true)
-row (Freed r true true) t true true true = within (r + 100) (r + 200) (Idle t)
-row (Freed r false false) t true true false = within (r + 100) (r + 1000) (Ready t Data)
-row (Freed r false false) t false false false = within (r + 100) (r + 1000) (Call t true)
-row (Freed r false true) t true true true = within (r + 100) (r + 1000) (Idle t)
-row (Freed r false true) t false false true = within (r + 100) (r + 1000) (Call t false)
+row (Freed r unlisten false) t true false true = delayed Dr r (Freed r unlisten true)
+row (Freed r true true) t true true true = delayed Cr r (Idle t)
+row (Freed r false false) t true true false = delayed Bb r (Ready t Data)
+row (Freed r false false) t false false false = delayed Bb r (Call t true)
+row (Freed r false true) t true true true = delayed Bb r (Idle t)
+row (Freed r false true) t false false true = delayed Bb r (Call t false)
 row (Freed r unlisten line) t _ _ _ = None
 
 -- the places at which a trace may end: Idle, after an attention whose last command was not

@@ -1,9 +1,8 @@
 //! The places of the table of lawful traces, and the step that an edge makes from one to the next.
 
 ghost use Rattle.std.specs.Prelude.{◌≡◌, ◌+◌, ◌<◌, ◌&&◌, ◌++◌, ◌∷◌, [], nat_lt, length, Bool, List, Ok, Err, IfOk, IfErr, OnErr};
-ghost use Rattle.pr_wire.specs.Delays.{bounds_of};
 ghost use Rattle.pr_wire.specs.PlaceSteps.{FindsAs};
-ghost use Rattle.pr_wire.specs.Table.{timed, within, by_row, atn_of, may_end, verdict, fault_at, differ};
+ghost use Rattle.pr_wire.specs.Table.{timed, within, delayed, by_row, atn_of, may_end, verdict, fault_at, differ};
 
 use crate::bits::Bits;
 use crate::delay::{Kind, answer_bounds, bounds};
@@ -126,8 +125,7 @@ fn in_time(time: u64, since: u64, least: u64, greatest: u64) -> Result<(), EdgeE
 
 /// Whether a moment comes a delay of this kind after another.
 fn in_time_by(time: u64, since: u64, kind: Kind) -> Result<(), EdgeError>
-    ensures { (place : BusState) →
-        FindsAs result place (timed time (within (since + (bounds_of kind).0) (since + (bounds_of kind).2) place)) }
+    ensures { (place : BusState) → FindsAs result place (timed time (delayed kind since place)) }
 {
     let (least, _, greatest) = bounds(kind);
     in_time(time, since, u64::from(least), u64::from(greatest))
@@ -150,7 +148,7 @@ fn reach(
 
 /// What an edge comes to that is to come a delay of this kind after a moment.
 fn reach_by(time: u64, since: u64, kind: Kind, place: BusState) -> Result<Step, EdgeError>
-    ensures { result ≡ timed time (within (since + (bounds_of kind).0) (since + (bounds_of kind).2) place) }
+    ensures { result ≡ timed time (delayed kind since place) }
 {
     in_time_by(time, since, kind)?;
     Ok(Step { place, frame: None })

@@ -1,4 +1,4 @@
-//! The delays that raw numbers make (profile). The bounds of each kind are in tests/c/exports.c.
+//! The delays that raw numbers make (profile). tests/c/exports.c compares the bounds of each kind.
 
 use pr_wire::{Choices, Kind};
 use std::process::Abort;
