@@ -1,4 +1,4 @@
-//! What was sent, and what came of it since the mark.
+//! What was sent, and what came of it since the last `forget`.
 
 ghost use Rattle.std.specs.Prelude.{◌≡◌, ◌++◌, ◌∷◌, [], ◌+◌, ◌<◌, ◌^◌, true, length, IfOk, OnOk, OnErr, vec_len, vec_capacity};
 ghost use Rattle.pr_wire.specs.Levels.{start};
@@ -13,7 +13,7 @@ use pr_serial::{Item, NoMemory, Present};
 use pr_wire::Edge;
 use std::alloc::Global;
 
-/// All items, the edges since the mark, and the printers' ports.
+/// All items, the edges since the last [`Log::forget`], and the printers' ports.
 #[derive(Drop)]
 pub struct Log {
     pub items: Vec<Item>,
