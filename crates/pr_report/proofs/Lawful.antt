@@ -11,6 +11,7 @@ use Rattle.pr_wire.specs.Delays.{bounds_of}
 use Rattle.pr_wire.specs.Pieces.{AreClocked, AreLawful, Between, BitTimes, EoiAnswer, FrameTimes, IsFrame, IsOpened, IsPiece, IsSecond, IsWithin, Piece, SecondFrame, after_piece}
 use Rattle.pr_wire.specs.Pieces.Between.{Resting}
 use Rattle.pr_wire.specs.Pieces.Piece.{Attention, DataByte, Dropped, Unanswered}
+use Rattle.pr_decode.specs.declared.reading.Halves.{Halves}
 use Rattle.pr_decode.specs.declared.reading.Reading.{Reading}
 use Rattle.pr_decode.specs.Laws.{TracesSayTheirPieces}
 use Rattle.pr_decode.specs.PieceReadings.{frame_read, high_times, low_times, piece_read, pieces_read, pulse_read, second_read}
@@ -64,29 +65,19 @@ high-within : (c : ℕ) (bs : List BitTimes) → AreClocked c bs → AreDelays V
 high-within c [] h = tt
 high-within c (b ∷ bs) h = (after-within b.up b.down _ _ h.1, high-within b.down bs h.2)
 
-none-of-eight : length {A = BitTimes} [] ≡ 8 → ⊥
-none-of-eight e = omega arith
+-- the shortest and the longest are delays of a kind
+abbrev AreHalves : Kind → Halves → Type 0
+AreHalves k h = IsDelay k h.shortest × IsDelay k h.longest
 
-shortest-low : (c : ℕ) (bs : List BitTimes) → AreClocked c bs → length bs ≡ 8 → IsDelay S (halves (low_times c bs)).shortest
-shortest-low c [] h e = absurd (none-of-eight e)
-shortest-low c (b ∷ bs) h e =
-    least-within _ _ (b.up - c) (low_times b.down bs) (after-within c b.up _ _ h.0) (low-within b.down bs h.2)
+halves-within : (k : Kind) (n : ℕ) (ns : List ℕ) → AreDelays k (n ∷ ns) → AreHalves k (halves (n ∷ ns))
+halves-within k n ns a = (least-within _ _ n ns a.0 a.1, greatest-within _ _ n ns a.0 a.1)
 
-longest-low : (c : ℕ) (bs : List BitTimes) → AreClocked c bs → length bs ≡ 8 → IsDelay S (halves (low_times c bs)).longest
-longest-low c [] h e = absurd (none-of-eight e)
-longest-low c (b ∷ bs) h e =
-    greatest-within _ _ (b.up - c) (low_times b.down bs) (after-within c b.up _ _ h.0) (low-within b.down bs h.2)
+bits-within : (c : ℕ) (bs : List BitTimes) → AreClocked c bs → length bs ≡ 8
+    → AreHalves S (halves (low_times c bs)) × AreHalves V (halves (high_times bs))
+bits-within c [] h e = absurd (omega arith)
+bits-within c (b ∷ bs) h e = (halves-within S _ _ (low-within c (b ∷ bs) h), halves-within V _ _ (high-within c (b ∷ bs) h))
 
-shortest-high : (c : ℕ) (bs : List BitTimes) → AreClocked c bs → length bs ≡ 8 → IsDelay V (halves (high_times bs)).shortest
-shortest-high c [] h e = absurd (none-of-eight e)
-shortest-high c (b ∷ bs) h e =
-    least-within _ _ (b.down - b.up) (high_times bs) (after-within b.up b.down _ _ h.1) (high-within b.down bs h.2)
-
-longest-high : (c : ℕ) (bs : List BitTimes) → AreClocked c bs → length bs ≡ 8 → IsDelay V (halves (high_times bs)).longest
-longest-high c [] h e = absurd (none-of-eight e)
-longest-high c (b ∷ bs) h e =
-    greatest-within _ _ (b.down - b.up) (high_times bs) (after-within b.up b.down _ _ h.1) (high-within b.down bs h.2)
-
+-- what is between ready and CLOCK's first pull
 first-within : (x : Bool) (free pull : ℕ) (o : Option EoiAnswer) → IsOpened x free o pull
     → AreDelays Ne (option_to_list (unless_answered (pulse_read o) (pull - free)))
 first-within x free pull None h = (after-within free pull _ _ h, tt)
@@ -120,10 +111,10 @@ frame-within FirstPull x look f h = first-within x f.free f.pull f.pulse h.opene
 frame-within Answer x look f h = answer-within x f.free f.pull f.pulse h.opened
 frame-within AnswerLength x look f h = answer_length-within x f.free f.pull f.pulse h.opened
 frame-within PullAfterAnswer x look f h = behind-within x f.free f.pull f.pulse h.opened
-frame-within ShortestLow x look f h = (shortest-low f.pull f.bits h.clocked h.eight, tt)
-frame-within LongestLow x look f h = (longest-low f.pull f.bits h.clocked h.eight, tt)
-frame-within ShortestHigh x look f h = (shortest-high f.pull f.bits h.clocked h.eight, tt)
-frame-within LongestHigh x look f h = (longest-high f.pull f.bits h.clocked h.eight, tt)
+frame-within ShortestLow x look f h = ((bits-within f.pull f.bits h.clocked h.eight).0.0, tt)
+frame-within LongestLow x look f h = ((bits-within f.pull f.bits h.clocked h.eight).0.1, tt)
+frame-within ShortestHigh x look f h = ((bits-within f.pull f.bits h.clocked h.eight).1.0, tt)
+frame-within LongestHigh x look f h = ((bits-within f.pull f.bits h.clocked h.eight).1.1, tt)
 frame-within Acknowledgement x look f h = (after-within _ f.ack _ _ h.ack, tt)
 
 -- those of one frame, those of a piece, and those of pieces
