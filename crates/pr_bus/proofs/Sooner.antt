@@ -8,9 +8,8 @@ use Rattle.pr_bus.specs.Timed.{TimedPrinter, TimedBus, Done, listening, frame_ti
 use Rattle.pr_bus.specs.WiresState.{wires_after}
 use Rattle.pr_bus.specs.Laws.{IsItem, AreItems}
 use Rattle.pr_bus.specs.Sums.{time_share, time_bound}
-use Rattle.pr_bus.proofs.Numbers.{delay_in, command_time}
+use Rattle.pr_bus.proofs.Numbers.{delay_in, frame_time, frame-lasts}
 use Rattle.pr_bus.proofs.Intervals.{frame-lawful}
-use Rattle.pr_bus.proofs.Bounds.{command-lasts, data-lasts}
 use Rattle.pr_bus.proofs.TimedLawful.{command-hearers, data-hearers, second-not}
 
 -- a byte ends within its share
@@ -19,7 +18,7 @@ sent-soon w b eoi [] = let h = delay_in Bb w.computer 0 in omega (arith, h.to)
 sent-soon w b eoi (p ∷ ps) =
     let h = delay_in Bb w.computer 0 in
     let look : ℕ = w.now + delay_at Bb w.computer 0 in
-    let f = data-lasts look (frame_times look eoi b (drop 1 w.computer) (data_hearers eoi (p ∷ ps))) (frame-lawful true look eoi b (drop 1 w.computer) _ _ (data-hearers eoi (p ∷ ps)) (λ k. refl)) in
+    let f = frame-lasts true look (frame_times look eoi b (drop 1 w.computer) (data_hearers eoi (p ∷ ps))) (frame-lawful true look eoi b (drop 1 w.computer) _ _ (data-hearers eoi (p ∷ ps)) (λ k. refl)) in
     omega (arith, h.to, f)
 
 -- one of two numbers is at most what both are
@@ -34,21 +33,21 @@ attention-soon before now w [] first second h e = let b = delay_in Bb w.computer
 attention-soon before now w (p ∷ ps) first None h e =
     let b = delay_in Bb w.computer 0 in let a = delay_in Aw w.computer 1 in let r = delay_in R (drop 19 w.computer) 0 in let c = delay_in Cr (drop 19 w.computer) 1 in
     let look : ℕ = w.now + delay_at Bb w.computer 0 + delay_at Aw w.computer 1 in
-    let f : (frame_times look false first (drop 2 w.computer) (command_hearers 1 w.printers)).ack ≤ look + command_time =
-    subst (λ (l : List TimedPrinter). (frame_times look false first (drop 2 w.computer) (command_hearers 1 l)).ack ≤ look + command_time) (sym e)
-    (command-lasts look _ (frame-lawful false look false first (drop 2 w.computer) _ _ (command-hearers 1 (p ∷ ps)) (λ k. k))) in
+    let f : (frame_times look false first (drop 2 w.computer) (command_hearers 1 w.printers)).ack ≤ look + frame_time false =
+    subst (λ (l : List TimedPrinter). (frame_times look false first (drop 2 w.computer) (command_hearers 1 l)).ack ≤ look + frame_time false) (sym e)
+    (frame-lasts false look _ (frame-lawful false look false first (drop 2 w.computer) _ _ (command-hearers 1 (p ∷ ps)) (λ k. k))) in
     cond_le (eqb first 63) _ _ (w.now + time_share (Attention first None)) (omega (arith, a.to, b.to, r.to, c.to, f)) (omega (arith, a.to, b.to, r.to, f))
 attention-soon before now w (p ∷ ps) first (Some s) h e =
     let b = delay_in Bb w.computer 0 in let a = delay_in Aw w.computer 1 in let a2 = delay_in Aw (drop 19 w.computer) 0 in let r = delay_in R (drop 37 w.computer) 0 in
     let look : ℕ = w.now + delay_at Bb w.computer 0 + delay_at Aw w.computer 1 in
     let first_ack : ℕ = (frame_times look false first (drop 2 w.computer) (command_hearers 1 w.printers)).ack in
-    let f : (frame_times look false first (drop 2 w.computer) (command_hearers 1 w.printers)).ack ≤ look + command_time =
-    subst (λ (l : List TimedPrinter). (frame_times look false first (drop 2 w.computer) (command_hearers 1 l)).ack ≤ look + command_time) (sym e)
-    (command-lasts look _ (frame-lawful false look false first (drop 2 w.computer) _ _ (command-hearers 1 (p ∷ ps)) (λ k. k))) in
+    let f : (frame_times look false first (drop 2 w.computer) (command_hearers 1 w.printers)).ack ≤ look + frame_time false =
+    subst (λ (l : List TimedPrinter). (frame_times look false first (drop 2 w.computer) (command_hearers 1 l)).ack ≤ look + frame_time false) (sym e)
+    (frame-lasts false look _ (frame-lawful false look false first (drop 2 w.computer) _ _ (command-hearers 1 (p ∷ ps)) (λ k. k))) in
     let look2 : ℕ = first_ack + delay_at Aw (drop 19 w.computer) 0 in
-    let g : (frame_times look2 false s (drop 1 (drop 19 w.computer)) (command_hearers 3 w.printers)).ack ≤ look2 + command_time =
-    subst (λ (l : List TimedPrinter). (frame_times look2 false s (drop 1 (drop 19 w.computer)) (command_hearers 3 l)).ack ≤ look2 + command_time) (sym e)
-    (command-lasts look2 _ (frame-lawful false look2 false s (drop 1 (drop 19 w.computer)) _ _ (command-hearers 3 (p ∷ ps)) (λ k. k))) in
+    let g : (frame_times look2 false s (drop 1 (drop 19 w.computer)) (command_hearers 3 w.printers)).ack ≤ look2 + frame_time false =
+    subst (λ (l : List TimedPrinter). (frame_times look2 false s (drop 1 (drop 19 w.computer)) (command_hearers 3 l)).ack ≤ look2 + frame_time false) (sym e)
+    (frame-lasts false look2 _ (frame-lawful false look2 false s (drop 1 (drop 19 w.computer)) _ _ (command-hearers 3 (p ∷ ps)) (λ k. k))) in
     let second_ack : ℕ = (frame_times look2 false s (drop 1 (drop 19 w.computer)) (command_hearers 3 w.printers)).ack in
     let end : second_ack + delay_at R (drop 37 w.computer) 0 ≤ w.now + time_share (Attention first (Some s)) = omega (arith, a.to, b.to, a2.to, r.to, f, g) in
     subst (λ u. cond u (second_ack + delay_at R (drop 37 w.computer) 0 + delay_at Cr (drop 37 w.computer) 1) (second_ack + delay_at R (drop 37 w.computer) 0) ≤ w.now + time_share (Attention first (Some s))) (sym (second-not first s h)) end
