@@ -1,5 +1,5 @@
 -- The timed trace in parts, and how many edges a frame has.
-use Rattle.std.proofs.Common.{◌≡◌, ℕ, ◌+◌, ◌*◌, ◌≤◌, Bool, true, false, List, [], ◌∷◌, ◌++◌, length, Option, Some, None, refl, sym, ap, ◌∙◌, arith}
+use Rattle.std.proofs.Common.{◌≡◌, ℕ, ◌+◌, ◌*◌, ◌≤◌, Bool, List, [], ◌∷◌, ◌++◌, length, Option, Some, None, refl, sym, ap, ◌∙◌, arith}
 use Rattle.std.proofs.lemmas.List.{append_assoc, length-append}
 use Rattle.pr_serial.specs.declared.Item.{Item}
 use Rattle.pr_wire.specs.Pieces.{BitTimes, EoiAnswer, FrameTimes, bit_edges, frame_edges, pulse_edges}

@@ -30,7 +30,7 @@ impl Log {
         ensures four { IfOk result (λ log. Hears 4 present.four [] (start ∷ []) log.four) }
         ensures five { IfOk result (λ log. Hears 5 present.five [] (start ∷ []) log.five) }
     {
-        // For the prover alone: laws, with nothing to run.
+        // For the prover alone.
         timed_traces_spell();
         fronts_are_allowed();
         let mut trace = Vec::new(alloc);
@@ -71,7 +71,6 @@ impl Log {
 
     /// Adds an item, and lets the printers hear its edges. There is room for what comes of it.
     pub fn add(&mut self, item: Item, edges: &[Edge])
-        // the caller's part
         requires room { vec_len self.old.items < vec_capacity self.old.items }
         requires four_may { self.old.four.present ≡ true → MayHear edges.now self.old.four }
         requires five_may { self.old.five.present ≡ true → MayHear edges.now self.old.five }

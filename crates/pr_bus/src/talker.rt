@@ -60,7 +60,6 @@ impl Talker {
     /// [`NoMemory`] where memory was refused. The time is then as before; edges, lines and numbers
     /// may not be.
     pub fn send(&mut self, byte: u8, eoi: bool) -> Result<(), NoMemory>
-        // the caller's part
         requires { self.old.time < 2 ^ 60 }
         // what it does
         ensures edges { OnOk result ((before : List Item) → IsTuned before self.old →
@@ -73,7 +72,7 @@ impl Talker {
         // what a refusal leaves
         ensures err { OnErr result (self.new.time ≡ self.old.time) }
     {
-        // For the prover alone: a law, with nothing to run.
+        // For the prover alone.
         items_make_listeners();
         self.edges.clear();
         push_due(&mut self.edges, self.lines)?;
@@ -92,7 +91,6 @@ impl Talker {
     ///
     /// [`NoMemory`] where memory was refused, as in [`Talker::send`].
     pub fn attention(&mut self, first: u8, second: Option<u8>) -> Result<(), NoMemory>
-        // the caller's part
         requires room { self.old.time < 2 ^ 60 }
         requires may_send { MaySend first second }
         requires devices { (self.old.four.device ≡ 4) × (self.old.five.device ≡ 5) }
@@ -109,7 +107,7 @@ impl Talker {
         // what a refusal leaves
         ensures err { OnErr result (self.new.time ≡ self.old.time) }
     {
-        // For the prover alone: a law, with nothing to run.
+        // For the prover alone.
         items_make_listeners();
         self.edges.clear();
         push_due(&mut self.edges, self.lines)?;
@@ -143,7 +141,6 @@ impl Talker {
     /// Makes the edges of a second command, if there is one, and returns when the last command is
     /// acknowledged, in microseconds.
     fn second(&mut self, ack: u64, second: Option<u8>) -> Result<u64, NoMemory>
-        // the caller's part
         requires { ack < 2 ^ 61 }
         // what it does
         ensures edges { OnOk result (self.new.edges.items ≡ self.old.edges.items ++ second_edges (second_of self.old ack second)) }
@@ -185,7 +182,6 @@ impl Talker {
 
     /// Makes the edges of a byte that a printer hears, from the look on.
     fn frame(&mut self, look: u64, byte: u8, eoi: bool) -> Result<(), NoMemory>
-        // the caller's part
         requires { look < 2 ^ 62 }
         // what it does
         ensures edges { OnOk result (self.new.edges.items
@@ -220,7 +216,6 @@ impl Talker {
 
     /// Makes the edges of DATA's pull in answer to ATN, and of CLOCK's release.
     fn answer(&mut self, time: u64, look: u64) -> Result<(), NoMemory>
-        // the caller's part
         requires { time < 2 ^ 62 }
         // what it does
         ensures edges { OnOk result (self.new.edges.items
@@ -242,7 +237,6 @@ impl Talker {
     /// Makes the edges of a command's frame after the look, and returns when it is acknowledged, in
     /// microseconds.
     fn command(&mut self, look: u64, byte: u8) -> Result<u64, NoMemory>
-        // the caller's part
         requires { look < 2 ^ 62 }
         // what it does
         ensures edges { OnOk result (self.new.edges.items ≡ self.old.edges.items ++ frame_edges false (command_frame self.old look byte)) }
@@ -273,7 +267,6 @@ impl Talker {
     /// Makes the edges of an attention's end, after the last acknowledgement: ATN's release, and after
     /// UNLISTEN those of DATA and CLOCK.
     fn release(&mut self, ack: u64, unlisten: bool) -> Result<(), NoMemory>
-        // the caller's part
         requires room { ack < 2 ^ 62 }
         requires ended { unlisten ≡ true → (self.old.four.listens ≡ false) × (self.old.five.listens ≡ false) }
         // what it does
