@@ -65,15 +65,21 @@ pub enum BusState {
     Pulse(u64, u64),
     /// DATA is released after that answer.
     After(u64),
-    /// CLOCK is pulled; whether end-or-identify was answered, the bits so far, the next bit.
+    /// CLOCK is pulled, and DATA has the next bit.
     Bit {
+        /// When CLOCK was pulled, in microseconds.
         since: u64,
+        /// Which byte is sent.
         sending: ByteRole,
+        /// Whether end-or-identify was answered.
         eoi: bool,
+        /// The bits that hearers have taken, the lowest first.
         seen: Bits,
+        /// The next bit.
         bit: bool,
     },
-    /// CLOCK is released, and hearers have taken the bit.
+    /// CLOCK is released, and hearers take the bit; the fields are as in `Bit`, but `since` is when
+    /// CLOCK was released.
     High {
         since: u64,
         sending: ByteRole,
@@ -85,18 +91,23 @@ pub enum BusState {
     Last(u64, ByteRole, bool, Bits),
     /// DATA is pulled: the byte is acknowledged.
     Ack(u64, ByteRole, u8),
-    /// ATN is released; whether the last command was UNLISTEN, whether DATA is released.
+    /// ATN is released after an attention.
     Freed {
+        /// When ATN was released, in microseconds.
         since: u64,
+        /// Whether the last command was UNLISTEN.
         unlistened: bool,
+        /// Whether DATA is released.
         data_released: bool,
     },
 }
 
-/// What an edge comes to: the place that it reaches, and the frame that it ends.
+/// What an allowed edge leads to.
 #[derive(Drop)]
 pub struct Step {
+    /// The place that it reaches.
     pub place: BusState,
+    /// The frame that it ends; None if it ends none.
     pub frame: Option<Frame>,
 }
 

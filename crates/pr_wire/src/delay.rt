@@ -7,8 +7,9 @@ ghost use Rattle.pr_wire.specs.Laws.{DelaysLieWithinBounds};
 
 use std::marker::Model;
 
-/// From which moment to which a delay goes, and whose it is (profile, after the serial bus timing
-/// of the Programmer's Reference Guide).
+/// A kind of delay: whose it is, and from when to when it lasts (profile). All but three have the names
+/// of the Programmer's Reference Guide's table of serial bus timing (Tbb, Tne, Try ..). `Aw`, from ATN
+/// to the look, and `Cr` and `Dr`, the releases of CLOCK and DATA after an attention, are ours.
 #[derive(Clone, Copy, Debug, PartialEq, Eq)]
 pub enum Kind {
     /// Computer: the end of the last element to the look before a data byte, or to ATN pulled.
