@@ -1,5 +1,5 @@
--- Linking words: a delay of a kind, and a moment that comes one after another, for proofs here and in crates above. No reader needs to
--- believe them.
+-- Linking words: a delay of a kind, and a moment that comes one after another, for proofs here and in crates
+-- above. No reader needs to believe them.
 use Rattle.std.specs.Prelude.{ℕ, ◌+◌}
 use Rattle.pr_wire.specs.declared.delay.Kind.{Kind}
 use Rattle.pr_wire.specs.Delays.{bounds_of}
