@@ -319,12 +319,12 @@ const INTERVALS: [Row; 3] = [
                     shortest: 19,
                     longest: 201,
                 },
-                last_pull: 2919,
+                last_pull: 2909,
                 ..DATA
             },
             FrameEnd::Acknowledged(3000),
         ),
-        "        1100         3000  $00  byte 0\n    first pull 200 us, the profile has 1 to 199\n    shortest low half 19 us, the profile has 20 to 200\n    longest low half 201 us, the profile has 20 to 200\n    shortest high half 19 us, the profile has 20 to 200\n    longest high half 201 us, the profile has 20 to 200\n    acknowledgement 81 us, the profile has 1 to 80\n",
+        "        1100         3000  $00  byte 0\n    first pull 200 us, the profile has 1 to 199\n    shortest low half 19 us, the profile has 20 to 200\n    longest low half 201 us, the profile has 20 to 200\n    shortest high half 19 us, the profile has 20 to 200\n    longest high half 201 us, the profile has 20 to 200\n    acknowledgement 91 us, the profile has 1 to 90\n",
     ),
     (
         Preceding::Data,
@@ -588,7 +588,7 @@ fn bounds_of_each_table(rt: HostRuntime) {
         (ALONE, "        1100         2911  $00  byte 0\n"),
         (
             LISTED,
-            "        1100         2911  $00  byte 0\n    shortest low half 19 us, the profile has 20 to 200\n    longest low half 201 us, the profile has 20 to 200\n    acknowledgement 1001 us, the profile has 1 to 80\n",
+            "        1100         2911  $00  byte 0\n    shortest low half 19 us, the profile has 20 to 200\n    longest low half 201 us, the profile has 20 to 200\n    acknowledgement 1001 us, the profile has 1 to 90\n",
         ),
         (
             GUIDED,

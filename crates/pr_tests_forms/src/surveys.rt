@@ -228,14 +228,14 @@ fn verdict(
 const FIVE: [Reading; 5] = [
     Reading::Frame(COMMAND, FrameEnd::Acknowledged(40020)),
     Reading::Frame(FIRST, FrameEnd::Unacknowledged(40500)),
-    Reading::Frame(SECOND, FrameEnd::Acknowledged(40081)),
+    Reading::Frame(SECOND, FrameEnd::Acknowledged(40091)),
     Reading::Frame(LAST, FrameEnd::Acknowledged(40001)),
     BEGUN,
 ];
 
 /// Their whole summary. Of the five lengths of `ready`, 0, 50, 60, 10001 and 24310, three are at most 60.
 const OF_FIVE: &str =
-    "ready: 5, least 0, middle 60, greatest 24310, outside 1 to 10000: 3\nfirst pull: 4, least 40, middle 40, greatest 40, outside 1 to 199: 0\nanswer: 1, least 199, middle 199, greatest 199, outside 200 to 250: 1\nanswer length: 1, least 80, middle 80, greatest 80, outside 80 to 250: 0\npull after answer: 1, least 30, middle 30, greatest 30, outside 1 to 60: 0\nshortest low half: 4, least 19, middle 20, greatest 70, outside 20 to 200: 1\nlongest low half: 4, least 70, middle 71, greatest 201, outside 20 to 200: 1\nshortest high half: 4, least 10, middle 20, greatest 70, outside 20 to 200: 1\nlongest high half: 4, least 20, middle 21, greatest 200, outside 20 to 200: 0\nacknowledgement: 3, least 1, middle 20, greatest 81, outside 1 to 80: 1\nframes: 4, commands: 1, data bytes: 3\nnot acknowledged: 1\nglitches: 1\n";
+    "ready: 5, least 0, middle 60, greatest 24310, outside 1 to 10000: 3\nfirst pull: 4, least 40, middle 40, greatest 40, outside 1 to 199: 0\nanswer: 1, least 199, middle 199, greatest 199, outside 200 to 250: 1\nanswer length: 1, least 80, middle 80, greatest 80, outside 80 to 250: 0\npull after answer: 1, least 30, middle 30, greatest 30, outside 1 to 60: 0\nshortest low half: 4, least 19, middle 20, greatest 70, outside 20 to 200: 1\nlongest low half: 4, least 70, middle 71, greatest 201, outside 20 to 200: 1\nshortest high half: 4, least 10, middle 20, greatest 70, outside 20 to 200: 1\nlongest high half: 4, least 20, middle 21, greatest 200, outside 20 to 200: 0\nacknowledgement: 3, least 1, middle 20, greatest 91, outside 1 to 90: 1\nframes: 4, commands: 1, data bytes: 3\nnot acknowledged: 1\nglitches: 1\n";
 
 /// Readings, whether their intervals are asked for, and the summary, or with intervals its beginning. A whole byte waits for its acknowledgement in vain, one until the
 /// recording's end, and a glitch is cut by that, 60 microseconds from its look to ready. The middle is reported as it

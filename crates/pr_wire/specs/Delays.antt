@@ -17,7 +17,7 @@ bounds_of At = (1, 100, 1000)
 bounds_of H = (1, 50, 10000)
 bounds_of Ye = (200, 250, 250)
 bounds_of Ei = (80, 80, 200)
-bounds_of F = (1, 20, 80)
+bounds_of F = (1, 20, 90)
 bounds_of Dr = (1, 20, 60)
 
 -- the delay of a kind for a raw number

@@ -85,7 +85,7 @@ pub record IsFrame (x : Bool) (look : ℕ) (f : FrameTimes) : Type 0 where
   pub opened : IsOpened x f.free f.pulse f.pull
   pub clocked : AreClocked f.pull f.bits
   pub eight : length f.bits ≡ 8
-  pub ack : IsWithin f.ack (last_pull f.pull f.bits + 1) (last_pull f.pull f.bits + 80)
+  pub ack : IsWithin f.ack (last_pull f.pull f.bits + 1) (last_pull f.pull f.bits + 90)
 
 -- the levels of the bits
 abbrev pub levels_of : List BitTimes → List Bool

@@ -58,7 +58,7 @@ pub fn bounds(kind: Kind) -> (u16, u16, u16)
         Kind::H => (1, 50, 10000),
         Kind::Ye => (200, 250, 250),
         Kind::Ei => (80, 80, 200),
-        Kind::F => (1, 20, 80),
+        Kind::F => (1, 20, 90),
         Kind::Dr => (1, 20, 60),
     }
 }
