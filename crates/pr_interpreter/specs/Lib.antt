@@ -5,6 +5,7 @@ pub mod Lines
 pub mod Machine
 pub mod NumberLaws
 pub mod Numbers
+pub mod Numerals
 pub mod Printing
 pub mod PrintingLaws
 pub mod Spans
