@@ -86,11 +86,11 @@ static void trap(void) { abort(); }
 /* The heap of the proved code over C's: whether there is memory, and where. */
 static inline void given(L to, void *p) { s8(to, p != NULL), s8(to + 8, p ? ADDRESS(p) : 16); }
 
-static inline void rattle_alloc(L to, L n, L align) { given(to, malloc((size_t)(n ? n : align))); }
+static inline void take(L to, L n, L align) { given(to, malloc((size_t)(n ? n : align))); }
 
-static inline void rattle_realloc(L to, L p, L kept, L n, L align) { (void)kept, given(to, realloc(AT(p), (size_t)(n ? n : align))); }
+static inline void grow(L to, L p, L kept, L n, L align) { (void)kept, given(to, realloc(AT(p), (size_t)(n ? n : align))); }
 
-static inline void rattle_dealloc(L p) { free(AT(p)); }
+static inline void drop(L p) { free(AT(p)); }
 
 /* The product of numbers of 128 bits, the lower half first, and their shifts to the left and the right. */
 static inline void multiplied(L to, L a, L a1, L b, L b1) {

@@ -37,8 +37,9 @@ STORES |= {"f64.store": "sf"}
 MANY = {"memory.copy": "copy", "memory.fill": "fill"}
 # A function that takes as many bytes of the stack stays one of its own where the compiler can be told so.
 LARGE = 4096
-# The most columns of a line of the result.
+# The most columns of a line of the result, and the most bytes of a string, of which C99 promises 4,095.
 COLUMNS = 120
+LITERAL = 4000
 
 
 class Untranslated(Exception):
@@ -585,9 +586,10 @@ class Data:
     def text(self):
         fields, values, at = [], [], 0
         for place in [*sorted(self.addresses), len(self.module.data)]:
-            if at < place:
-                fields.append(f"unsigned char d{at}[{place - at}];")
-                values += self.bytes_of(at, place)
+            for begin in range(at, place, LITERAL):
+                end = min(begin + LITERAL, place)
+                fields.append(f"unsigned char d{begin}[{end - begin}];")
+                values += shorter_of(self.module.data[begin:end])
             if place in self.addresses:
                 fields.append(f"const void *d{place};")
                 values.append(f"P({self.addresses[place]}),")
@@ -596,10 +598,23 @@ class Data:
         lines += ["#define P(n) ((const char *)&data+8+n)", "static const struct data data={0,", *folded(values), "};"]
         return "\n".join([*lines, "#define D ((L)(uintptr_t)&data+8)"])
 
-    def bytes_of(self, begin, end):
-        numbers = [f"{it}," for it in self.module.data[begin:end]]
-        numbers[-1] = numbers[-1][:-1]
-        return ["{", *numbers, "},"]
+
+def shorter_of(data):
+    """Bytes as an array's value, as numbers or as a string: what is shorter. Zeros at the end are left out."""
+    kept = bytes(data).rstrip(b"\0") or b"\0"
+    numbers = ["{", *(f"{it}," for it in kept[:-1]), f"{kept[-1]}", "},"]
+    signs = []
+    for byte, following in zip(kept, [*kept[1:], 0]):
+        # (a question mark may begin a trigraph, and a digit would belong to the number before it)
+        plain = 32 <= byte < 127 and chr(byte) not in '"\\?'
+        signs.append(chr(byte) if plain else f"\\{byte:03o}" if 48 <= following < 58 else f"\\{byte:o}")
+    strings, line = [], ""
+    for sign in signs:
+        if len(line) + len(sign) > COLUMNS - 3:
+            strings, line = [*strings, f'"{line}"'], ""
+        line += sign
+    strings.append(f'"{line}",')
+    return min(numbers, strings, key=lambda them: sum(map(len, them)))
 
 
 class Source:
