@@ -15,8 +15,9 @@ A test in Python calls the functions instead."""
 
 import sys
 
-CODES = (8, 14, 15, 17, 18, 145, 146, 10, 13, 13, 13, 16, 26, 27)
-CONTROLS = (8, 14, 15, 17, 18, 145, 146, 10, 13, 16, 26, 27)
+from codes import COMMANDS, CONTROLS, LINE_ENDS, MODES
+
+CODES = (*MODES, *LINE_ENDS, 13, 13, *COMMANDS)
 
 
 class Chance:

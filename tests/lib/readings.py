@@ -21,6 +21,8 @@ import os
 import re
 import sys
 
+from codes import NAMES
+
 LONGEST_BIT = 1000
 SIGROK = ("silence", "call", "answer")
 
@@ -54,10 +56,6 @@ GUIDE = {
     "shortest high half": (20, None),
     "longest high half": (20, None),
     "acknowledgement": (0, 1000),
-}
-CODES = {
-    8: "graphic mode", 10: "line feed", 13: "return", 14: "double width", 15: "standard width", 16: "column", 17: "lower case",
-    18: "reverse on", 26: "repeat", 27: "escape", 145: "upper case", 146: "reverse off",
 }
 
 
@@ -214,7 +212,7 @@ def data_words(byte, is_printed):
         return '"\'"'
     if 32 <= byte <= 126:
         return f"'{chr(byte)}'"
-    return CODES[byte] if is_printed and byte in CODES else f"byte {byte}"
+    return NAMES[byte] if is_printed and byte in NAMES else f"byte {byte}"
 
 
 class Context:

@@ -15,7 +15,6 @@ impl WiredPort {
     /// it next, and else one.
     #[inline(always)]
     fn hear_front_with(&mut self, other: &mut WiredPort, edges: &[Edge]) -> usize
-        // the caller's part
         requires some { 0 < length edges.now }
         requires taken { number_taken self.old.receiver + length edges.now < 2 ^ 63 }
         requires other_taken { number_taken other.old.receiver + length edges.now < 2 ^ 63 }
@@ -27,7 +26,7 @@ impl WiredPort {
         ensures hears { HearsMore edges.now result self.old self.new }
         ensures other_hears { HearsMore edges.now result other.old other.new }
     {
-        // For the prover alone: laws, with nothing to run.
+        // For the prover alone.
         fronts_are_allowed();
         inputs_add_up();
         let passed = self.receiver.pass_frame_with(&mut other.receiver, edges);
@@ -43,7 +42,6 @@ impl WiredPort {
 
     /// Hears edges, and so does another printer: for their inputs there is room.
     fn hear_with(&mut self, other: &mut WiredPort, edges: &[Edge])
-        // the caller's part
         requires taken { number_taken self.old.receiver + length edges.now < 2 ^ 63 }
         requires other_taken { number_taken other.old.receiver + length edges.now < 2 ^ 63 }
         requires may { MayHear edges.now self.old }
@@ -52,7 +50,7 @@ impl WiredPort {
         ensures hears { HearsMore edges.now (length edges.now) self.old self.new }
         ensures other_hears { HearsMore edges.now (length edges.now) other.old other.new }
     {
-        // For the prover alone: a law, with nothing to run.
+        // For the prover alone.
         fronts_are_allowed();
         let mut at = 0;
         while at < edges.len() {
@@ -62,7 +60,6 @@ impl WiredPort {
 
     /// Hears edges as [`WiredPort::listen`] does, and so does another printer.
     pub fn listen_with(&mut self, other: &mut WiredPort, edges: &[Edge])
-        // the caller's part
         requires taken { number_taken self.old.receiver + length edges.now < 2 ^ 63 }
         requires other_taken { number_taken other.old.receiver + length edges.now < 2 ^ 63 }
         requires may { self.old.present ≡ true → MayHear edges.now self.old }

@@ -1,4 +1,4 @@
-//! What was sent, and what came of it since the mark.
+//! What was sent, and what came of it since the last `forget`.
 
 ghost use Rattle.std.specs.Prelude.{◌≡◌, ◌++◌, ◌∷◌, [], ◌+◌, ◌<◌, ◌^◌, true, length, IfOk, OnOk, OnErr, vec_len, vec_capacity};
 ghost use Rattle.pr_wire.specs.Levels.{start};
@@ -13,7 +13,7 @@ use pr_serial::{Item, NoMemory, Present};
 use pr_wire::Edge;
 use std::alloc::Global;
 
-/// All items, the edges since the mark, and the printers' ports.
+/// All items, the edges since the last [`Log::forget`], and the printers' ports.
 #[derive(Drop)]
 pub struct Log {
     pub items: Vec<Item>,
@@ -30,7 +30,7 @@ impl Log {
         ensures four { IfOk result (λ log. Hears 4 present.four [] (start ∷ []) log.four) }
         ensures five { IfOk result (λ log. Hears 5 present.five [] (start ∷ []) log.five) }
     {
-        // For the prover alone: laws, with nothing to run.
+        // For the prover alone.
         timed_traces_spell();
         fronts_are_allowed();
         let mut trace = Vec::new(alloc);
@@ -71,7 +71,6 @@ impl Log {
 
     /// Adds an item, and lets the printers hear its edges. There is room for what comes of it.
     pub fn add(&mut self, item: Item, edges: &[Edge])
-        // the caller's part
         requires room { vec_len self.old.items < vec_capacity self.old.items }
         requires four_may { self.old.four.present ≡ true → MayHear edges.now self.old.four }
         requires five_may { self.old.five.present ≡ true → MayHear edges.now self.old.five }

@@ -13,17 +13,22 @@ use crate::timing::ListenerTiming;
 use pr_base::{LISTEN, UNLISTEN};
 use pr_wire::{Choices, Kind};
 
-/// A printer of the bus, present or not.
+/// A printer of the bus, present or not. A call that returns a delay takes the next of its numbers
+/// for it; without a delay it takes none.
 #[derive(Drop)]
 pub struct TimedPrinter {
+    /// Its device number.
     pub device: u8,
+    /// Whether it is on the bus.
     pub present: bool,
+    /// Whether a LISTEN to it came after the last UNLISTEN, present or not.
     pub listens: bool,
+    /// The numbers that make its delays.
     pub choices: Choices,
 }
 
 impl TimedPrinter {
-    /// A printer that does not listen.
+    /// Makes a printer that does not listen.
     pub fn new(device: u8, present: bool, choices: Choices) -> TimedPrinter
         ensures { result ≡ record { device = device; present = present; listens = false; choices = choices } }
     {
@@ -35,7 +40,7 @@ impl TimedPrinter {
         }
     }
 
-    /// What it waits before it answers ATN.
+    /// Returns its delay AT, from ATN's pull to its pull of DATA, in microseconds; None if it is absent.
     pub fn attention(&mut self) -> Option<u16>
         ensures time { option_list result ≡ map (λ (p : all.TimedPrinter). delay_at At p.numbers 0) (printer_list self.old) }
         ensures after { printer_list self.new ≡ map (taking 1) (printer_list self.old) }
@@ -48,7 +53,7 @@ impl TimedPrinter {
         Some(self.choices.next(Kind::At))
     }
 
-    /// What it waits in a command's frame.
+    /// Returns its delays in a command's frame; None if it is absent.
     pub fn command(&mut self) -> Option<ListenerTiming>
         ensures hearers { option_list result ≡ command_hearers 0 (printer_list self.old) }
         ensures after { printer_list self.new ≡ map (taking 2) (printer_list self.old) }
@@ -68,7 +73,8 @@ impl TimedPrinter {
         })
     }
 
-    /// What it waits in a data byte's frame, if it listens.
+    /// Returns its delays in a data byte's frame, with end-or-identify or without; None if it is
+    /// absent or does not listen.
     pub fn byte(&mut self, eoi: bool) -> Option<ListenerTiming>
         ensures hearers { option_list result ≡ data_hearers eoi (heeding self.old) }
         ensures after { printer_list self.new ≡ after_byte eoi self.old }
@@ -93,7 +99,8 @@ impl TimedPrinter {
         })
     }
 
-    /// What it waits before it releases DATA after ATN, if it does not listen.
+    /// Returns its delay DR, from ATN's release to its release of DATA, in microseconds; None if it is
+    /// absent or listens, since a listener keeps DATA pulled.
     pub fn freed(&mut self) -> Option<u16>
         ensures time { (self.old.present && self.old.listens) ≡ false →
             option_list result ≡ map (λ (p : all.TimedPrinter). delay_at Dr p.numbers 0) (printer_list self.old) }
@@ -107,7 +114,8 @@ impl TimedPrinter {
         Some(self.choices.next(Kind::Dr))
     }
 
-    /// A LISTEN to it makes it listen, an UNLISTEN ends that.
+    /// Takes the first command byte of an attention: a LISTEN to it makes it listen, an UNLISTEN ends
+    /// that.
     pub fn tune(&mut self, first: u8)
         requires { self.old.device < 31 }
         ensures { self.new ≡ tuned_to first self.old }

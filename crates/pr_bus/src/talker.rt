@@ -24,32 +24,42 @@ use pr_wire::{Choices, Edge, Kind};
 /// The wires between two items, and the edges of the last one.
 #[derive(Drop)]
 pub struct Talker {
+    /// The end of the last item, in microseconds; 0 before the first.
     pub time: u64,
+    /// What is on CLOCK and DATA.
     pub lines: Lines,
+    /// The numbers that make the computer's delays.
     pub computer: Choices,
+    /// Printer 4.
     pub four: TimedPrinter,
+    /// Printer 5.
     pub five: TimedPrinter,
+    /// The edges of the last item, with DATA's release that was due before it.
     pub edges: Vec<Edge>,
 }
 
 impl Talker {
-    /// Whether an attention is answered.
+    /// Whether an attention is answered: by any printer that is present.
     fn is_answered(&self) -> bool
         ensures { result ≡ (self.now.four.present || self.now.five.present) }
     {
         self.four.present || self.five.present
     }
 
-    /// Whether a byte is answered.
+    /// Whether a byte is answered: by a printer that is present and listens.
     pub fn is_heard(&self) -> bool
         ensures { result ≡ ((self.now.four.present && self.now.four.listens) || (self.now.five.present && self.now.five.listens)) }
     {
         (self.four.present && self.four.listens) || (self.five.present && self.five.listens)
     }
 
-    /// Sends a byte, and makes its edges.
+    /// Sends a data byte, and makes its edges.
+    ///
+    /// # Errors
+    ///
+    /// [`NoMemory`] where memory was refused. The time is then as before; edges, lines and numbers
+    /// may not be.
     pub fn send(&mut self, byte: u8, eoi: bool) -> Result<(), NoMemory>
-        // the caller's part
         requires { self.old.time < 2 ^ 60 }
         // what it does
         ensures edges { OnOk result ((before : List Item) → IsTuned before self.old →
@@ -62,7 +72,7 @@ impl Talker {
         // what a refusal leaves
         ensures err { OnErr result (self.new.time ≡ self.old.time) }
     {
-        // For the prover alone: a law, with nothing to run.
+        // For the prover alone.
         items_make_listeners();
         self.edges.clear();
         push_due(&mut self.edges, self.lines)?;
@@ -76,8 +86,11 @@ impl Talker {
     }
 
     /// Sends an attention, and makes its edges.
+    ///
+    /// # Errors
+    ///
+    /// [`NoMemory`] where memory was refused, as in [`Talker::send`].
     pub fn attention(&mut self, first: u8, second: Option<u8>) -> Result<(), NoMemory>
-        // the caller's part
         requires room { self.old.time < 2 ^ 60 }
         requires may_send { MaySend first second }
         requires devices { (self.old.four.device ≡ 4) × (self.old.five.device ≡ 5) }
@@ -94,7 +107,7 @@ impl Talker {
         // what a refusal leaves
         ensures err { OnErr result (self.new.time ≡ self.old.time) }
     {
-        // For the prover alone: a law, with nothing to run.
+        // For the prover alone.
         items_make_listeners();
         self.edges.clear();
         push_due(&mut self.edges, self.lines)?;
@@ -116,7 +129,7 @@ impl Talker {
         Ok(())
     }
 
-    /// The printers hear who shall listen.
+    /// Both printers take the first command byte: a LISTEN, an UNLISTEN, or one that changes nothing.
     fn tune(&mut self, first: u8)
         requires { (self.old.four.device < 31) × (self.old.five.device < 31) }
         ensures { self.new ≡ record self.old { four = tuned_to first self.old.four; five = tuned_to first self.old.five } }
@@ -125,9 +138,9 @@ impl Talker {
         self.five.tune(first);
     }
 
-    /// Makes the edges of a second command, if there is one, and returns when the last one is acknowledged.
+    /// Makes the edges of a second command, if there is one, and returns when the last command is
+    /// acknowledged, in microseconds.
     fn second(&mut self, ack: u64, second: Option<u8>) -> Result<u64, NoMemory>
-        // the caller's part
         requires { ack < 2 ^ 61 }
         // what it does
         ensures edges { OnOk result (self.new.edges.items ≡ self.old.edges.items ++ second_edges (second_of self.old ack second)) }
@@ -152,7 +165,7 @@ impl Talker {
         Ok(last)
     }
 
-    /// Makes the edge of a byte that nobody hears.
+    /// Makes the edge of a byte that nobody hears: CLOCK's release at the look, unless it is released.
     fn drop_byte(&mut self, look: u64) -> Result<(), NoMemory>
         ensures edges { OnOk result (self.new.edges.items
             ≡ self.old.edges.items ++ edges_done (lines_of self.old.lines) (dropped_piece (lines_of self.old.lines) look)) }
@@ -167,9 +180,8 @@ impl Talker {
         Ok(())
     }
 
-    /// Makes the edges of a byte that a printer hears.
+    /// Makes the edges of a byte that a printer hears, from the look on.
     fn frame(&mut self, look: u64, byte: u8, eoi: bool) -> Result<(), NoMemory>
-        // the caller's part
         requires { look < 2 ^ 62 }
         // what it does
         ensures edges { OnOk result (self.new.edges.items
@@ -204,7 +216,6 @@ impl Talker {
 
     /// Makes the edges of DATA's pull in answer to ATN, and of CLOCK's release.
     fn answer(&mut self, time: u64, look: u64) -> Result<(), NoMemory>
-        // the caller's part
         requires { time < 2 ^ 62 }
         // what it does
         ensures edges { OnOk result (self.new.edges.items
@@ -223,9 +234,9 @@ impl Talker {
         push_answer(&mut self.edges, self.lines, time + u64::from(delay), look)
     }
 
-    /// Makes the edges of a command's frame, and returns when it is acknowledged.
+    /// Makes the edges of a command's frame after the look, and returns when it is acknowledged, in
+    /// microseconds.
     fn command(&mut self, look: u64, byte: u8) -> Result<u64, NoMemory>
-        // the caller's part
         requires { look < 2 ^ 62 }
         // what it does
         ensures edges { OnOk result (self.new.edges.items ≡ self.old.edges.items ++ frame_edges false (command_frame self.old look byte)) }
@@ -253,9 +264,9 @@ impl Talker {
         )
     }
 
-    /// Makes the edges of an attention's end.
+    /// Makes the edges of an attention's end, after the last acknowledgement: ATN's release, and after
+    /// UNLISTEN those of DATA and CLOCK.
     fn release(&mut self, ack: u64, unlisten: bool) -> Result<(), NoMemory>
-        // the caller's part
         requires room { ack < 2 ^ 62 }
         requires ended { unlisten ≡ true → (self.old.four.listens ≡ false) × (self.old.five.listens ≡ false) }
         // what it does

@@ -45,11 +45,8 @@ still_no_address [] c h = absurd h
 still_no_address (x ∷ more) c h = h
 
 still_allowed : (front : List Came) (t : Token) (more : List Came) (c : Came) → MayStand front t more → MayStand front t (more ++ c ∷ [])
-still_allowed front (Column a b) more c h = h
-still_allowed front (Repeat a b) more c h = h
-still_allowed front (Address a b) more c h = h
 still_allowed front Nothing more c h = still_no_address more c h
-still_allowed front (Plain lower b) more c h = h
+still_allowed front t more c h = h
 
 -- what the rest and a byte after it spell comes after the tokens before
 pub AreTokens-push : (bytes : List Came) (tokens : List Token) (rest : List Came) (c : Came) (tokens' : List Token) (rest' : List Came) →

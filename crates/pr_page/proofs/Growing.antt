@@ -3,7 +3,6 @@ use Rattle.std.proofs.Common.{◌≡◌, ℕ, List, [], ◌∷◌, ◌++◌, ◌
 use Rattle.std.proofs.lemmas.List.{append_cancel_left}
 use Rattle.std.proofs.lemmas.Bool.Decides.{leb_tells}
 use Rattle.pr_page.specs.Acts.{Act, End, Move, Print, acts_in}
-use Rattle.pr_page.specs.Linked.{modes_of}
 use Rattle.pr_page.specs.Making.{HasMade}
 use Rattle.pr_page.specs.Page.{IsPage}
 use Rattle.pr_page.specs.Steps.{sheet_after, sheet_after_all, start, state_after, state_after_token, state_after_tokens, step, tokens_by}
@@ -58,7 +57,7 @@ grows-tokens : (s : PrinterState) (tokens : List Token) → Grows s.sheet (state
 grows-tokens s [] = inl (refl, refl)
 grows-tokens s (t ∷ tokens) =
     grows-trans s.sheet (state_after_token s t).sheet (state_after_tokens (state_after_token s t) tokens).sheet
-    (grows-acts s.sheet (acts_in (modes_of s.settings) t)) (grows-tokens (state_after_token s t) tokens)
+    (grows-acts s.sheet (acts_in s.settings t)) (grows-tokens (state_after_token s t) tokens)
 
 grows-step : (s : PrinterState) (x : Input) → Grows s.sheet (step s x).sheet
 grows-step s (Select lower) = inl (refl, refl)

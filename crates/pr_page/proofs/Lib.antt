@@ -1,6 +1,7 @@
 pub mod Cutting
 pub mod Paging
 pub mod Parts
+pub mod LookingBack
 pub mod Refines
 pub mod Columns
 pub mod Striking

@@ -2,8 +2,8 @@
 use Rattle.std.proofs.Common.{◌≡◌, List, [], ◌∷◌, ◌++◌, refl, sym, ap, ◌∙◌}
 use Rattle.pr_page.specs.Token.{Token}
 use Rattle.pr_page.specs.Acts.{Act, acts_in}
-use Rattle.pr_page.specs.Linked.{modes_of}
-use Rattle.pr_page.specs.Steps.{acts_of_tokens, settings_after_token, settings_of_tokens, sheet_after, sheet_after_all, state_after_token, state_after_tokens}
+use Rattle.pr_page.specs.Modes.{modes_after}
+use Rattle.pr_page.specs.Steps.{acts_of_tokens, settings_of_tokens, sheet_after, sheet_after_all, state_after_token, state_after_tokens}
 use Rattle.pr_page.specs.declared.settings.Settings.{Settings}
 use Rattle.pr_page.specs.declared.sheet.Sheet.{Sheet}
 use Rattle.pr_page.specs.declared.state.PrinterState.{PrinterState}
@@ -25,4 +25,4 @@ after_tokens-parts s (t ∷ []) = refl
 after_tokens-parts s (t ∷ u ∷ tokens) =
     after_tokens-parts (state_after_token s t) (u ∷ tokens)
     ∙ ap (with_parts s (settings_of_tokens s.settings (t ∷ u ∷ tokens)))
-    (sym (sheet_after_all-append s.sheet (acts_in (modes_of s.settings) t) (acts_of_tokens (settings_after_token s.settings t) (u ∷ tokens))))
+    (sym (sheet_after_all-append s.sheet (acts_in s.settings t) (acts_of_tokens (modes_after s.settings t) (u ∷ tokens))))

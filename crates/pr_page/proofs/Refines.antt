@@ -1,13 +1,13 @@
 -- What a printer keeps gives the page of the inputs that it has taken.
 use Rattle.std.proofs.Common.{◌≡◌, ℕ, zero, suc, Bool, true, false, List, [], ◌∷◌, ◌++◌, length, refl, sym, ap, ◌∙◌, subst, append_assoc, arith, ◌+◌, ◌*◌, ◌≤◌, length-append}
-use Rattle.std.specs.Prelude.{Result, Ok, Err, OnOk, reverse, nat_le, replicate, if◌then◌else◌, ◌==◌, ◌||◌, ◌&&◌}
+use Rattle.std.specs.Prelude.{Result, Ok, Err, OnOk, reverse, nat_le, replicate, if◌then◌else◌, ◌&&◌}
 use Rattle.std.proofs.lemmas.List.{append-nil, reverse-append}
 use Rattle.pr_page.specs.Token.{Came, bytes_of, Token, Column, Repeat, Address, Nothing, Plain}
-use Rattle.pr_page.specs.Modes.{Modes, modes_at}
+use Rattle.pr_page.specs.Codes.{code_of}
+use Rattle.pr_page.specs.Modes.{modes_after, modes_at}
 use Rattle.pr_page.specs.Acts.{Act, acts_in, acts_of, is_cell, is_digit, column_of, dots_of}
 use Rattle.pr_page.specs.Page.{IsPage}
-use Rattle.pr_page.specs.Linked.{modes_of}
-use Rattle.pr_page.specs.Steps.{pending_after, tokens_by, settings_after, settings_after_token, state_after_token, state_after_tokens, step, state_after, start}
+use Rattle.pr_page.specs.Steps.{pending_after, tokens_by, state_after_token, state_after_tokens, step, state_after, start}
 use Rattle.pr_page.specs.Evaluator.{page_of}
 use Rattle.pr_page.specs.Taken.{HasTaken}
 use Rattle.pr_page.proofs.Cutting.{selected, bytes_of-select, bytes_of-byte, selected-select, selected-byte, AreTokens-push, Cut, Cut-none, Cut-push}
@@ -19,24 +19,12 @@ use Rattle.pr_page.specs.declared.state.PrinterState.{PrinterState}
 use Rattle.pr_page.specs.declared.pending.Pending.{Pending}
 use Rattle.pr_page.specs.declared.pending.Pending.TheVariants.{Idle}
 
--- the settings of the code that say these modes
-abbrev settings_of : Modes → Settings
-settings_of m = record { graphic = m.graphic; wide = m.wide; reverse = m.reverse; override_set = m.override_set }
-
--- the settings that the code keeps say the modes after one token more
-modes_at-push : (s : Settings) (t : Token) (before : List Token) → modes_of s ≡ modes_at before → modes_of (settings_after_token s t) ≡ modes_at (t ∷ before)
-modes_at-push s (Plain lower b) before h = ap (λ m. modes_of (settings_after (settings_of m) b)) h
-modes_at-push s (Column x y) before h = h
-modes_at-push s (Repeat x y) before h = h
-modes_at-push s (Address x y) before h = h
-modes_at-push s Nothing before h = h
-
 -- a choice of two lists of narrow acts
 narrow_if : (b : Bool) (xs ys : List Act) → AreNarrow xs → AreNarrow ys → AreNarrow (if b then xs else ys)
 narrow_if true xs ys h k = h
 narrow_if false xs ys h k = k
 
-narrow_columns : (n : ℕ) (m : Modes) (d : ℕ) → AreNarrow (replicate n (dots_of m d))
+narrow_columns : (n : ℕ) (m : Settings) (d : ℕ) → AreNarrow (replicate n (dots_of m d))
 narrow_columns zero m d = tt
 narrow_columns (suc n) m d = (omega arith, narrow_columns n m d)
 
@@ -44,9 +32,9 @@ narrow_cell : (wide : Bool) → (if wide then 12 else 6) ≤ 480
 narrow_cell true = omega arith
 narrow_cell false = omega arith
 
-acts_in-narrow : (m : Modes) (t : Token) → AreNarrow (acts_in m t)
+acts_in-narrow : (m : Settings) (t : Token) → AreNarrow (acts_in m t)
 acts_in-narrow m (Plain lower b) =
-    narrow_if (b == 10 || b == 13) _ _ (tt, tt)
+    narrow_if (code_of b).ends_line _ _ (tt, tt)
     (narrow_if m.graphic _ _
     (narrow_if (nat_le 128 b) _ _ (omega arith, tt) tt)
     (narrow_if (is_cell b) _ _ (narrow_cell m.wide, tt) tt))
@@ -57,7 +45,7 @@ acts_in-narrow m Nothing = tt
 
 -- settings and sheet are those of the tokens
 pub record IsOf (tokens : List Token) (s : PrinterState) : Type 0 where
-  pub settings : modes_of s.settings ≡ modes_at (reverse tokens)
+  pub settings : s.settings ≡ modes_at (reverse tokens)
   pub sheet : IsSheet (acts_of (reverse tokens)) s.sheet
 
 reverse-push : (tokens : List Token) (t : Token) → reverse (tokens ++ t ∷ []) ≡ t ∷ reverse tokens
@@ -65,11 +53,11 @@ reverse-push tokens t = reverse-append tokens (t ∷ [])
 
 IsOf-token : (tokens : List Token) (s : PrinterState) (t : Token) → IsOf tokens s → IsOf (tokens ++ t ∷ []) (state_after_token s t)
 IsOf-token tokens s t h = record {
-  settings = modes_at-push s.settings t (reverse tokens) h.settings ∙ sym (ap modes_at (reverse-push tokens t));
+  settings = ap (λ m. modes_after m t) h.settings ∙ sym (ap modes_at (reverse-push tokens t));
   sheet =
       subst (λ back. IsSheet (acts_of back) (state_after_token s t).sheet) (sym (reverse-push tokens t))
       (subst (λ m. IsSheet (acts_of (reverse tokens) ++ acts_in m t) (state_after_token s t).sheet) h.settings
-      (IsSheet-append (acts_of (reverse tokens)) s.sheet (acts_in (modes_of s.settings) t) (acts_in-narrow (modes_of s.settings) t) h.sheet));
+      (IsSheet-append (acts_of (reverse tokens)) s.sheet (acts_in s.settings t) (acts_in-narrow s.settings t) h.sheet));
 }
 
 IsOf-tokens : (tokens : List Token) (s : PrinterState) (more : List Token) → IsOf tokens s → IsOf (tokens ++ more) (state_after_tokens s more)

@@ -1,6 +1,6 @@
 -- A list of inputs has one page.
 use Rattle.std.proofs.Common.{◌≡◌, ◌≢◌, ℕ, Bool, List, [], ◌∷◌, ◌++◌, inl, inr, map, refl, sym, ap, ◌∙◌, subst, ◌+◌}
-use Rattle.std.specs.Prelude.{reverse}
+use Rattle.std.specs.Prelude.{false, reverse, ◌==◌}
 use Rattle.std.proofs.lemmas.List.{reverse-reverse}
 use Rattle.std.proofs.lemmas.Bool.Decides.{eqb_tells}
 use mathlib.Core.List.{reverse_aux}
@@ -21,51 +21,52 @@ abbrev run : Pending → List Came → List Token
 run p [] = []
 run p (c ∷ bytes) = tokens_by p c.lower c.byte ++ run (pending_after p c.byte) bytes
 
-module _ (more : List Came) (a b : ℕ) where
-  column_front : (front : List Came) → map (λ c. c.byte) front ≡ 16 ∷ a ∷ b ∷ [] → run Idle (front ++ more) ≡ Column a b ∷ run Idle more
-  column_front [] h = absurd cc
-  column_front (x ∷ []) h = absurd cc
-  column_front (x ∷ y ∷ []) h = absurd cc
-  column_front (x ∷ y ∷ z ∷ []) h =
-      let ex : x.byte ≡ 16 = cc in
-      let ey : y.byte ≡ a = cc in
-      let ez : z.byte ≡ b = cc in
-      rw (ex, ey, ez) refl
-  column_front (x ∷ y ∷ z ∷ w ∷ front) h = absurd cc
+-- after what is pending these bytes complete no token
+abbrev IsQuiet : Pending → List ℕ → Type 0
+IsQuiet p [] = Unit {0}
+IsQuiet p (b ∷ bs) = ((lower : Bool) → tokens_by p lower b ≡ []) × IsQuiet (pending_after p b) bs
 
-  repeat_front : (front : List Came) → map (λ c. c.byte) front ≡ 26 ∷ a ∷ b ∷ [] → run Idle (front ++ more) ≡ Repeat a b ∷ run Idle more
-  repeat_front [] h = absurd cc
-  repeat_front (x ∷ []) h = absurd cc
-  repeat_front (x ∷ y ∷ []) h = absurd cc
-  repeat_front (x ∷ y ∷ z ∷ []) h =
-      let ex : x.byte ≡ 26 = cc in
-      let ey : y.byte ≡ a = cc in
-      let ez : z.byte ≡ b = cc in
-      rw (ex, ey, ez) refl
-  repeat_front (x ∷ y ∷ z ∷ w ∷ front) h = absurd cc
+-- what is pending after bytes
+abbrev pending_after_all : Pending → List ℕ → Pending
+pending_after_all p [] = p
+pending_after_all p (b ∷ bs) = pending_after_all (pending_after p b) bs
 
-  address_front : (front : List Came) → map (λ c. c.byte) front ≡ 27 ∷ 16 ∷ a ∷ b ∷ [] → run Idle (front ++ more) ≡ Address a b ∷ run Idle more
-  address_front [] h = absurd cc
-  address_front (x ∷ []) h = absurd cc
-  address_front (x ∷ y ∷ []) h = absurd cc
-  address_front (x ∷ y ∷ z ∷ []) h = absurd cc
-  address_front (x ∷ y ∷ z ∷ w ∷ []) h =
-      let ex : x.byte ≡ 27 = cc in
-      let ey : y.byte ≡ 16 = cc in
-      let ez : z.byte ≡ a = cc in
-      let ew : w.byte ≡ b = cc in
-      rw (ex, ey, ez, ew) refl
-  address_front (x ∷ y ∷ z ∷ w ∷ v ∷ front) h = absurd cc
+-- bytes that complete no token, and then one that completes a command
+command_front : (p : Pending) (bs : List ℕ) (z : ℕ) (t : Token) (front more : List Came) → IsQuiet p bs →
+    ((lower : Bool) → tokens_by (pending_after_all p bs) lower z ≡ t ∷ []) →
+    pending_after (pending_after_all p bs) z ≡ Idle →
+    map (λ c. c.byte) front ≡ bs ++ z ∷ [] → run p (front ++ more) ≡ t ∷ run Idle more
+command_front p [] z t [] more quiet completes idle h = absurd cc
+command_front p [] z t (x ∷ []) more quiet completes idle h =
+    let ex : x.byte ≡ z = cc in
+    rw (ex, completes x.lower, idle) refl
+command_front p [] z t (x ∷ y ∷ front) more quiet completes idle h = absurd cc
+command_front p (b ∷ bs) z t [] more quiet completes idle h = absurd cc
+command_front p (b ∷ bs) z t (x ∷ front) more quiet completes idle h =
+    let ex : x.byte ≡ b = cc in
+    let rest : map (λ c. c.byte) front ≡ bs ++ z ∷ [] = cc in
+    rw (ex, quiet.0 x.lower) (command_front (pending_after p b) bs z t front more quiet.1 completes idle rest)
+
+-- a proper front of bytes of which all but the last complete no token
+quiet_front : (p : Pending) (bs : List ℕ) (z : ℕ) (rest : List Came) (next : ℕ) (more : List ℕ) → IsQuiet p bs →
+    map (λ c. c.byte) rest ++ next ∷ more ≡ bs ++ z ∷ [] → run p rest ≡ []
+quiet_front p bs z [] next more quiet h = refl
+quiet_front p [] z (x ∷ []) next more quiet h = absurd cc
+quiet_front p [] z (x ∷ y ∷ rest) next more quiet h = absurd cc
+quiet_front p (b ∷ bs) z (x ∷ rest) next more quiet h =
+    let ex : x.byte ≡ b = cc in
+    let tails : map (λ c. c.byte) rest ++ next ∷ more ≡ bs ++ z ∷ [] = cc in
+    rw (ex, quiet.0 x.lower) (quiet_front (pending_after p b) bs z rest next more quiet.1 tails)
+
+unlike : (b k : ℕ) → b ≢ k → (b == k) ≡ false
+unlike b k differs = elim (eqb_tells b k) [ inl e ↦ absurd (differs e.1) | inr n ↦ n.0 ]
 
 nothing_front : (front more : List Came) → map (λ c. c.byte) front ≡ 27 ∷ [] → IsNoAddress more → run Idle (front ++ more) ≡ Nothing ∷ run Idle more
 nothing_front [] more h k = absurd cc
 nothing_front (x ∷ []) [] h k = absurd k
 nothing_front (x ∷ []) (c ∷ more) h k =
     let ex : x.byte ≡ 27 = cc in
-    elim (eqb_tells c.byte 16) [
-      | inl e ↦ absurd (k e.1)
-      | inr ne ↦ rw (ex, ne.0) refl
-    ]
+    rw (ex, unlike c.byte 16 k) refl
 nothing_front (x ∷ y ∷ front) more h k = absurd cc
 
 plain_front : (front more : List Came) (lower : Bool) (b : ℕ) → map (λ c. c.byte) front ≡ b ∷ [] → map (λ c. c.lower) front ≡ lower ∷ [] →
@@ -74,70 +75,30 @@ plain_front [] more lower b h k n16 n26 n27 = absurd cc
 plain_front (x ∷ []) more lower b h k n16 n26 n27 =
     let ex : x.byte ≡ b = cc in
     let el : x.lower ≡ lower = cc in
-    elim (eqb_tells b 16) [
-      | inl e ↦ absurd (n16 e.1)
-      | inr e16 ↦
-          elim (eqb_tells b 26) [
-            | inl e ↦ absurd (n26 e.1)
-            | inr e26 ↦
-                elim (eqb_tells b 27) [
-                  | inl e ↦ absurd (n27 e.1)
-                  | inr e27 ↦
-                      rw (ex, el, e16.0, e26.0, e27.0) refl
-                ]
-          ]
-    ]
+    rw (ex, el, unlike b 16 n16, unlike b 26 n26, unlike b 27 n27) refl
 plain_front (x ∷ y ∷ front) more lower b h k n16 n26 n27 = absurd cc
 
 front_run : (front more : List Came) (t : Token) → map (λ c. c.byte) front ≡ spelling_of t → MayStand front t more → run Idle (front ++ more) ≡ t ∷ run Idle more
-front_run front more (Column a b) h k = column_front more a b front h
-front_run front more (Repeat a b) h k = repeat_front more a b front h
-front_run front more (Address a b) h k = address_front more a b front h
+front_run front more (Column a b) h k =
+    command_front Idle (16 ∷ a ∷ []) b (Column a b) front more ((λ l. refl), ((λ l. refl), tt)) (λ l. refl) refl h
+front_run front more (Repeat n d) h k =
+    command_front Idle (26 ∷ n ∷ []) d (Repeat n d) front more ((λ l. refl), ((λ l. refl), tt)) (λ l. refl) refl h
+front_run front more (Address u d) h k =
+    command_front Idle (27 ∷ 16 ∷ u ∷ []) d (Address u d) front more
+    ((λ l. refl), ((λ l. refl), ((λ l. refl), tt))) (λ l. refl) refl h
 front_run front more Nothing h k = nothing_front front more h k
 front_run front more (Plain lower b) h k = plain_front front more lower b h k.0 k.1 k.2 k.3
 
-module _ (a b next : ℕ) (more : List ℕ) where
-  column_rest : (rest : List Came) → map (λ c. c.byte) rest ++ next ∷ more ≡ 16 ∷ a ∷ b ∷ [] → run Idle rest ≡ []
-  column_rest [] h = refl
-  column_rest (x ∷ []) h = let ex : x.byte ≡ 16 = cc in rw ex refl
-  column_rest (x ∷ y ∷ []) h = let ex : x.byte ≡ 16 = cc in rw ex refl
-  column_rest (x ∷ y ∷ z ∷ []) h = absurd cc
-  column_rest (x ∷ y ∷ z ∷ w ∷ rest) h = absurd cc
-
-  repeat_rest : (rest : List Came) → map (λ c. c.byte) rest ++ next ∷ more ≡ 26 ∷ a ∷ b ∷ [] → run Idle rest ≡ []
-  repeat_rest [] h = refl
-  repeat_rest (x ∷ []) h = let ex : x.byte ≡ 26 = cc in rw ex refl
-  repeat_rest (x ∷ y ∷ []) h = let ex : x.byte ≡ 26 = cc in rw ex refl
-  repeat_rest (x ∷ y ∷ z ∷ []) h = absurd cc
-  repeat_rest (x ∷ y ∷ z ∷ w ∷ rest) h = absurd cc
-
-  address_rest : (rest : List Came) → map (λ c. c.byte) rest ++ next ∷ more ≡ 27 ∷ 16 ∷ a ∷ b ∷ [] → run Idle rest ≡ []
-  address_rest [] h = refl
-  address_rest (x ∷ []) h = let ex : x.byte ≡ 27 = cc in rw ex refl
-  address_rest (x ∷ y ∷ []) h =
-      let ex : x.byte ≡ 27 = cc in
-      let ey : y.byte ≡ 16 = cc in
-      rw (ex, ey) refl
-  address_rest (x ∷ y ∷ z ∷ []) h =
-      let ex : x.byte ≡ 27 = cc in
-      let ey : y.byte ≡ 16 = cc in
-      rw (ex, ey) refl
-  address_rest (x ∷ y ∷ z ∷ w ∷ []) h = absurd cc
-  address_rest (x ∷ y ∷ z ∷ w ∷ v ∷ rest) h = absurd cc
-
--- before one byte is nothing
-one_rest : (b next : ℕ) (more : List ℕ) (rest : List Came) → map (λ c. c.byte) rest ++ next ∷ more ≡ b ∷ [] → run Idle rest ≡ []
-one_rest b next more [] h = refl
-one_rest b next more (x ∷ []) h = absurd cc
-one_rest b next more (x ∷ y ∷ rest) h = absurd cc
-
 -- the bytes that are left complete no token
 rest_run : (rest : List Came) (t : Token) (next : ℕ) (more : List ℕ) → spelling_of t ≡ map (λ c. c.byte) rest ++ next ∷ more → run Idle rest ≡ []
-rest_run rest (Column a b) next more h = column_rest a b next more rest (sym h)
-rest_run rest (Repeat a b) next more h = repeat_rest a b next more rest (sym h)
-rest_run rest (Address a b) next more h = address_rest a b next more rest (sym h)
-rest_run rest Nothing next more h = one_rest 27 next more rest (sym h)
-rest_run rest (Plain lower b) next more h = one_rest b next more rest (sym h)
+rest_run rest (Column a b) next more h =
+    quiet_front Idle (16 ∷ a ∷ []) b rest next more ((λ l. refl), ((λ l. refl), tt)) (sym h)
+rest_run rest (Repeat n d) next more h =
+    quiet_front Idle (26 ∷ n ∷ []) d rest next more ((λ l. refl), ((λ l. refl), tt)) (sym h)
+rest_run rest (Address u d) next more h =
+    quiet_front Idle (27 ∷ 16 ∷ u ∷ []) d rest next more ((λ l. refl), ((λ l. refl), ((λ l. refl), tt))) (sym h)
+rest_run rest Nothing next more h = quiet_front Idle [] 27 rest next more tt (sym h)
+rest_run rest (Plain lower b) next more h = quiet_front Idle [] b rest next more tt (sym h)
 
 -- bytes have one cutting into tokens
 AreTokens-run : (bytes : List Came) (tokens : List Token) (rest : List Came) → AreTokens bytes tokens rest → run Idle bytes ≡ tokens

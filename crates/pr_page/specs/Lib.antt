@@ -1,11 +1,12 @@
 pub mod Before
 pub mod Token
+pub mod Codes
 pub mod Modes
+pub mod ModeLaws
 pub mod Acts
 pub mod Lines
 pub mod Page
 pub mod Marks
-pub mod Linked
 pub mod Steps
 pub mod Striking
 pub mod Evaluator

@@ -1,11 +1,11 @@
 -- Machine steps: what one input does to what a printer keeps. No reader needs to believe them.
-use Rattle.std.specs.Prelude.{ℕ, zero, suc, ◌+◌, ◌*◌, ◌≤◌, ◌^◌, Bool, true, false, List, [], ◌∷◌, ◌++◌, Some, None, ◌==◌, ◌||◌, ◌&&◌, not, nat_le, replicate, if◌then◌else◌}
+use Rattle.std.specs.Prelude.{ℕ, zero, suc, ◌+◌, ◌*◌, ◌≤◌, ◌^◌, Bool, true, false, List, [], ◌∷◌, ◌++◌, ◌==◌, nat_le, replicate, if◌then◌else◌}
 use Rattle.pr_page.specs.Token.{Token, Column, Repeat, Address, Nothing, Plain}
 use Rattle.pr_page.specs.Acts.{Act, End, Move, Print, acts_in}
 use Rattle.pr_page.specs.Lines.{line_dots, pitch_of}
+use Rattle.pr_page.specs.Modes.{modes_after, modes_at}
 use Rattle.pr_page.specs.declared.input.Input.{Input}
 use Rattle.pr_page.specs.declared.input.Input.TheVariants.{Select, Byte}
-use Rattle.pr_page.specs.Linked.{modes_of}
 use Rattle.pr_page.specs.declared.settings.Settings.{Settings}
 use Rattle.pr_page.specs.declared.paper.Mark.{Mark}
 use Rattle.pr_page.specs.declared.paper.Mark.TheVariants.{Dots}
@@ -47,35 +47,16 @@ tokens_by EscapeCode lower b = if b == 16 then [] else Nothing ∷ completed_by 
 tokens_by AddressCode lower b = []
 tokens_by (AddressHigh h) lower b = Address h b ∷ []
 
--- the settings after a plain byte
-abbrev pub settings_after : Settings → ℕ → Settings
-settings_after s b = record {
-  graphic = if b == 8 then true else (if (b == 14 || b == 15) then false else s.graphic);
-  wide = if b == 14 then true else (if b == 15 then false else s.wide);
-  reverse = if b == 18 then true else (if (b == 13 || (b == 146 && not s.graphic)) then false else s.reverse);
-  override_set =
-      if b == 17 then Some true
-      else (if b == 13 then None else (if (b == 145 && not s.graphic) then Some false else s.override_set));
-}
-
--- the settings after a token
-abbrev pub settings_after_token : Settings → Token → Settings
-settings_after_token s (Plain lower b) = settings_after s b
-settings_after_token s (Column x y) = s
-settings_after_token s (Repeat x y) = s
-settings_after_token s (Address x y) = s
-settings_after_token s Nothing = s
-
 -- the settings after tokens
 abbrev pub settings_of_tokens : Settings → List Token → Settings
 settings_of_tokens s [] = s
-settings_of_tokens s (t ∷ tokens) = settings_of_tokens (settings_after_token s t) tokens
+settings_of_tokens s (t ∷ tokens) = settings_of_tokens (modes_after s t) tokens
 
 -- what tokens do, of which there are at most two
 abbrev pub acts_of_tokens : Settings → List Token → List Act
 acts_of_tokens s [] = []
-acts_of_tokens s (t ∷ []) = acts_in (modes_of s) t
-acts_of_tokens s (t ∷ u ∷ tokens) = acts_in (modes_of s) t ++ acts_of_tokens (settings_after_token s t) (u ∷ tokens)
+acts_of_tokens s (t ∷ []) = acts_in s t
+acts_of_tokens s (t ∷ u ∷ tokens) = acts_in s t ++ acts_of_tokens (modes_after s t) (u ∷ tokens)
 
 -- what the code has a byte do, as acts
 abbrev pub acts_of_work : Bool → Work → List Act
@@ -125,8 +106,8 @@ sheet_after_all s (act ∷ acts) = sheet_after_all (sheet_after s act) acts
 -- what is kept after a token
 abbrev pub state_after_token : PrinterState → Token → PrinterState
 state_after_token s t = record s {
-  settings = settings_after_token s.settings t;
-  sheet = sheet_after_all s.sheet (acts_in (modes_of s.settings) t);
+  settings = modes_after s.settings t;
+  sheet = sheet_after_all s.sheet (acts_in s.settings t);
 }
 
 -- what is kept after tokens
@@ -149,7 +130,7 @@ state_after s (x ∷ inputs) = state_after (step s x) inputs
 -- what is kept at first
 abbrev pub start : PrinterState
 start = record {
-  settings = record { graphic = false; wide = false; reverse = false; override_set = None };
+  settings = modes_at [];
   lower = false;
   pending = Idle;
   sheet = record { y = 0; position = 0; paper = record { rows = []; held = [] } };

@@ -11,7 +11,7 @@ ghost use Rattle.pr_page.specs.declared.input.Input.{Input};
 use crate::carriage::{Carriage, Made};
 use crate::input::Input;
 use crate::pending::Pending;
-use crate::settings::Settings;
+use crate::settings::{FIRST_SETTINGS, Settings};
 use crate::work::Work;
 
 /// The greatest distance from the top at which a head takes an input, in 1/126 inch.
@@ -39,12 +39,7 @@ impl Head {
         ensures made { HasMade [] [] result }
     {
         Head {
-            settings: Settings {
-                graphic: false,
-                wide: false,
-                reverse: false,
-                override_set: None,
-            },
+            settings: FIRST_SETTINGS,
             lower: false,
             pending: Pending::Idle,
             carriage: Carriage { y: 0, position: 0 },

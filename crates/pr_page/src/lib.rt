@@ -11,7 +11,7 @@
 //! A printer keeps no history: its contracts relate a list of inputs to a printer (`HasTaken`), and
 //! `proofs/Refines.antt` carries that from a list to the list with one input more. `Cutting` is one
 //! more byte for the tokens, `Paging` one more act for the last line, `Columns` the repeat, `Unique`
-//! the law that a list has one page.
+//! the law that a list has one page, `LookingBack` the law that the last codes decide the modes.
 #![tactic(auto)]
 
 mod carriage;
@@ -27,11 +27,12 @@ mod state;
 mod work;
 
 pub use carriage::{Carriage, Made, MarkOnPaper};
+pub use codes::code_name;
 pub use head::{Head, LAST_LINE, heads_make_pages};
 pub use input::Input;
 pub use paper::{Mark, Paper, Placed, Row, Sequence};
 pub use pending::Pending;
 pub use pr_base::NoMemory;
 pub use printer::{Printer, each_list_has_one_page};
-pub use settings::Settings;
+pub use settings::{Settings, modes_look_back};
 pub use work::LINE_DOTS;

@@ -1,10 +1,12 @@
 //! What the codes so far have set.
 
 ghost use Rattle.std.specs.Prelude.{◌≡◌, Bool};
-ghost use Rattle.pr_page.specs.Steps.{completed_by, settings_after, settings_of_tokens, tokens_by};
+ghost use Rattle.pr_page.specs.Codes.{code_of};
+ghost use Rattle.pr_page.specs.ModeLaws.{ModesLookBack};
+ghost use Rattle.pr_page.specs.Steps.{settings_of_tokens, tokens_by};
 
 use crate::codes::{
-    CARRIAGE_RETURN, COLUMN, DOUBLE_WIDTH, GRAPHIC_MODE, LOWER_CASE, REVERSE_OFF, REVERSE_ON,
+    CARRIAGE_RETURN, DOUBLE_WIDTH, GRAPHIC_MODE, LOWER_CASE, REVERSE_OFF, REVERSE_ON,
     STANDARD_WIDTH, UPPER_CASE,
 };
 use crate::pending::{Pending, begins_command};
@@ -22,47 +24,38 @@ pub struct Settings {
     pub override_set: Option<bool>,
 }
 
+/// The modes of a printer that has taken nothing.
+pub const FIRST_SETTINGS: Settings = Settings {
+    graphic: false,
+    wide: false,
+    reverse: false,
+    override_set: None,
+};
+
 impl Settings {
-    /// The settings after a byte that no command takes.
+    /// The settings after a byte by itself.
     #[inline(always)]
-    pub fn after(self, b: u8) -> Settings
-        ensures { result ≡ settings_after self b }
+    #[tactic(auto, unfolding(crate::specs::Codes::code_of))]
+    pub fn after(mut self, b: u8) -> Settings
+        ensures { result ≡ (code_of b).sets self }
     {
-        Settings {
-            graphic: match b {
-                GRAPHIC_MODE => true,
-                DOUBLE_WIDTH | STANDARD_WIDTH => false,
-                _ => self.graphic,
-            },
-            wide: match b {
-                DOUBLE_WIDTH => true,
-                STANDARD_WIDTH => false,
-                _ => self.wide,
-            },
-            reverse: match b {
-                REVERSE_ON => true,
-                CARRIAGE_RETURN => false,
-                REVERSE_OFF if !self.graphic => false,
-                _ => self.reverse,
-            },
-            override_set: match b {
-                LOWER_CASE => Some(true),
-                CARRIAGE_RETURN => None,
-                UPPER_CASE if !self.graphic => Some(false),
-                _ => self.override_set,
-            },
+        match b {
+            GRAPHIC_MODE => self.graphic = true,
+            CARRIAGE_RETURN => {
+                self.reverse = false;
+                self.override_set = None;
+            }
+            DOUBLE_WIDTH | STANDARD_WIDTH => {
+                self.graphic = false;
+                self.wide = b == DOUBLE_WIDTH;
+            }
+            LOWER_CASE => self.override_set = Some(true),
+            REVERSE_ON => self.reverse = true,
+            UPPER_CASE if !self.graphic => self.override_set = Some(false),
+            REVERSE_OFF if !self.graphic => self.reverse = false,
+            _ => {}
         }
-    }
-    /// The settings after a byte that no command takes, which may begin one.
-    #[inline(always)]
-    fn after_unclaimed(self, b: u8) -> Settings
-        ensures { (lower : Bool) → result ≡ settings_of_tokens self (completed_by lower b) }
-    {
-        if begins_command(b) {
-            self
-        } else {
-            self.after(b)
-        }
+        self
     }
 
     /// The settings after a byte that comes after the bytes of a command that are pending.
@@ -71,10 +64,10 @@ impl Settings {
         ensures { (lower : Bool) → result ≡ settings_of_tokens self (tokens_by pending lower b) }
     {
         match pending {
-            Pending::Idle => self.after_unclaimed(b),
-            Pending::EscapeCode if b == COLUMN => self,
-            Pending::EscapeCode => self.after_unclaimed(b),
-            Pending::ColumnCode
+            Pending::Idle | Pending::EscapeCode if !begins_command(b) => self.after(b),
+            Pending::Idle
+            | Pending::EscapeCode
+            | Pending::ColumnCode
             | Pending::ColumnTens(_)
             | Pending::RepeatCode
             | Pending::RepeatCount(_)
@@ -83,3 +76,9 @@ impl Settings {
         }
     }
 }
+
+/// A law, with nothing to run: the modes at a byte are those that the last codes before it have set.
+#[tactic(auto, using(crate::proofs::LookingBack::looks_back))]
+pub fn modes_look_back()
+    ensures { ModesLookBack }
+{}

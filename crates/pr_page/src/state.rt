@@ -1,15 +1,16 @@
 //! All that a printer keeps of what it has taken.
 
 ghost use Rattle.std.specs.Prelude.{◌≡◌, ◌^◌, ◌<◌, ◌≤◌, [], ◌∷◌, Bool, OnOk, OnErr, IsOk, IsTrue};
+ghost use Rattle.pr_page.specs.Codes.{code_of};
 ghost use Rattle.pr_page.specs.Token.{Plain};
 ghost use Rattle.pr_page.specs.Lines.{line_dots};
 ghost use Rattle.pr_page.specs.declared.settings.Settings.{Settings};
-ghost use Rattle.pr_page.specs.Steps.{settings_after, begun_by, completed_by, tokens_by, state_after_tokens, step, start, GoesOn, IsInRange};
+ghost use Rattle.pr_page.specs.Steps.{begun_by, completed_by, tokens_by, state_after_tokens, step, start, GoesOn, IsInRange};
 
 use crate::input::Input;
 use crate::paper::{Paper, Sequence};
 use crate::pending::Pending;
-use crate::settings::Settings;
+use crate::settings::{FIRST_SETTINGS, Settings};
 use crate::sheet::Sheet;
 use crate::work::Work;
 use std::alloc::{AllocError, Global};
@@ -28,9 +29,10 @@ pub struct PrinterState {
 
 /// Whether a code leaves the settings and begins no command.
 #[inline(always)]
+#[tactic(auto, unfolding(crate::specs::Codes::code_of))]
 fn leaves_settings(b: u8) -> bool
     ensures begun { IsTrue result → begun_by b ≡ Pending.Idle }
-    ensures settings { IsTrue result → (s : Settings) → settings_after s b ≡ s }
+    ensures settings { IsTrue result → (s : Settings) → (code_of b).sets s ≡ s }
     ensures completed { IsTrue result → (lower : Bool) → completed_by lower b ≡ Plain lower b ∷ [] }
 {
     b >= 160 || b >= 32 && b < 128
@@ -42,12 +44,7 @@ impl PrinterState {
         ensures { result ≡ start }
     {
         PrinterState {
-            settings: Settings {
-                graphic: false,
-                wide: false,
-                reverse: false,
-                override_set: None,
-            },
+            settings: FIRST_SETTINGS,
             lower: false,
             pending: Pending::Idle,
             sheet: Sheet {

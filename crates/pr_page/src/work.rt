@@ -3,10 +3,9 @@
 ghost use Rattle.std.specs.Prelude.{◌≡◌, Bool};
 ghost use Rattle.pr_page.specs.Token.{Plain};
 ghost use Rattle.pr_page.specs.Acts.{acts_in, is_cell, moves_to_column, moves_to_dot};
-ghost use Rattle.pr_page.specs.Linked.{modes_of};
-ghost use Rattle.pr_page.specs.Steps.{acts_of_tokens, acts_of_work, completed_by, tokens_by, FitsLine};
+ghost use Rattle.pr_page.specs.Steps.{acts_of_tokens, acts_of_work, tokens_by, FitsLine};
 
-use crate::codes::{CARRIAGE_RETURN, COLUMN, LINE_FEED};
+use crate::codes::ends_line;
 use crate::paper::Mark;
 use crate::pending::{Pending, begins_command};
 use crate::settings::Settings;
@@ -45,10 +44,10 @@ impl Work {
     /// What a byte by itself does under these settings and with this set selected.
     #[inline(always)]
     pub fn of_plain(settings: Settings, lower: bool, b: u8) -> Work
-        ensures acts { acts_of_work settings.graphic result ≡ acts_in (modes_of settings) (Plain lower b) }
+        ensures acts { acts_of_work settings.graphic result ≡ acts_in settings (Plain lower b) }
         ensures fits { FitsLine result }
     {
-        if b == LINE_FEED || b == CARRIAGE_RETURN {
+        if ends_line(b) {
             Work::EndLine
         } else if settings.graphic {
             if b >= 128 {
@@ -101,19 +100,6 @@ impl Work {
         }
     }
 
-    /// What a byte does that no command takes.
-    #[inline(always)]
-    fn of_unclaimed(settings: Settings, lower: bool, b: u8) -> Work
-        ensures acts { acts_of_work settings.graphic result ≡ acts_of_tokens settings (completed_by lower b) }
-        ensures fits { FitsLine result }
-    {
-        if begins_command(b) {
-            Work::Nothing
-        } else {
-            Work::of_plain(settings, lower, b)
-        }
-    }
-
     /// What a byte does after the bytes of a command that are pending: what the tokens do that it completes.
     #[inline(always)]
     pub fn of_byte(pending: Pending, settings: Settings, lower: bool, b: u8) -> Work
@@ -121,16 +107,18 @@ impl Work {
         ensures fits { FitsLine result }
     {
         match pending {
-            Pending::Idle => Work::of_unclaimed(settings, lower, b),
-            Pending::EscapeCode if b == COLUMN => Work::Nothing,
-            Pending::EscapeCode => Work::of_unclaimed(settings, lower, b),
+            Pending::Idle | Pending::EscapeCode if !begins_command(b) => Work::of_plain(
+                settings, lower, b,
+            ),
             Pending::RepeatCount(n) if settings.graphic && b >= 128 => Work::PrintColumns(
                 b - 128,
                 n,
             ),
             Pending::ColumnTens(tens) => Work::of_column(tens, b),
             Pending::AddressHigh(high) => Work::of_address(high, b),
-            Pending::ColumnCode
+            Pending::Idle
+            | Pending::EscapeCode
+            | Pending::ColumnCode
             | Pending::RepeatCode
             | Pending::RepeatCount(_)
             | Pending::AddressCode => Work::Nothing,

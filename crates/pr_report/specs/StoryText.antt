@@ -2,6 +2,7 @@
 -- they are a lawful trace.
 use Rattle.std.specs.Prelude.{ℕ, ◌/◌, ◌%◌, ◌==◌, ◌&&◌, Bool, true, false, nat_lt, List, [], ◌∷◌, ◌++◌, Option, Some, None, codes, if◌then◌else◌}
 use Rattle.pr_base.specs.Bytes as command
+use Rattle.pr_page.specs.Codes.{code_of}
 use Rattle.pr_wire.specs.declared.Edge.{Edge}
 use Rattle.pr_wire.specs.declared.WaveFault.{WaveFault}
 use Rattle.pr_wire.specs.declared.bus_state.ByteRole.{ByteRole}
@@ -23,23 +24,6 @@ command_text byte =
     else (if byte / 16 == 15 then numbered (codes "OPEN ") (byte % 16)
     else numbered (codes "command ") byte))))))
 
--- the name of a control code of the printer; other bytes have none
-abbrev pub control_name : ℕ → List ℕ
-control_name byte =
-    if byte == 8 then codes "graphic mode"
-    else (if byte == 10 then codes "line feed"
-    else (if byte == 13 then codes "return"
-    else (if byte == 14 then codes "double width"
-    else (if byte == 15 then codes "standard width"
-    else (if byte == 16 then codes "column"
-    else (if byte == 17 then codes "lower case"
-    else (if byte == 18 then codes "reverse on"
-    else (if byte == 26 then codes "repeat"
-    else (if byte == 27 then codes "escape"
-    else (if byte == 145 then codes "upper case"
-    else (if byte == 146 then codes "reverse off"
-    else [])))))))))))
-
 -- a byte by its name, or by its number if it has no name
 abbrev pub name_or_number : List ℕ → ℕ → List ℕ
 name_or_number [] byte = numbered (codes "byte ") byte
@@ -47,7 +31,7 @@ name_or_number (c ∷ cs) byte = c ∷ cs
 
 -- the name of a control code, if bytes are a printer's
 abbrev pub name_if : (printer : Bool) → (byte : ℕ) → List ℕ
-name_if true byte = control_name byte
+name_if true byte = (code_of byte).name
 name_if false byte = []
 
 -- the text of a data byte to a printer or to another device: a character of ASCII in apostrophes, and an apostrophe in

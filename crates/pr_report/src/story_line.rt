@@ -3,12 +3,13 @@
 //! is between quotation marks, so that each text is that of one byte alone.
 
 ghost use Rattle.std.specs.Prelude.{◌≡◌, ◌++◌, OnOk};
-ghost use Rattle.pr_report.specs.StoryText.{command_text, control_name, data_text, frame_line, heading, is_data, line_end, name_if, saying, story_line};
+ghost use Rattle.pr_report.specs.StoryText.{command_text, data_text, frame_line, heading, is_data, line_end, name_if, saying, story_line};
 
 use crate::context::UNTALK;
 use crate::numbers::{push_hex, push_moment, push_numbered};
 use crate::timed_frame::TimedFrame;
 use pr_base::UNLISTEN;
+use pr_page::code_name;
 use pr_wire::{ByteRole, NoMemory};
 
 /// Adds what a command says (Programmer's Reference Guide, serial bus).
@@ -35,32 +36,11 @@ fn push_command(text: &mut Vec<u8>, byte: u8) -> Result<(), NoMemory>
     }
 }
 
-/// The name of one of the printer's control codes (VIC-1525 User's Manual); other bytes have none.
-fn control_name(byte: u8) -> &'static [u8]
-    ensures { result.now ≡ control_name byte }
-{
-    match byte {
-        8 => b"graphic mode",
-        10 => b"line feed",
-        13 => b"return",
-        14 => b"double width",
-        15 => b"standard width",
-        16 => b"column",
-        17 => b"lower case",
-        18 => b"reverse on",
-        26 => b"repeat",
-        27 => b"escape",
-        145 => b"upper case",
-        146 => b"reverse off",
-        _ => b"",
-    }
-}
-
 /// The name of a control code, if bytes are a printer's.
 fn name_if(printer: bool, byte: u8) -> &'static [u8]
     ensures { result.now ≡ name_if printer byte }
 {
-    if printer { control_name(byte) } else { b"" }
+    if printer { code_name(byte) } else { b"" }
 }
 
 /// Adds what a data byte says, to a printer or to another device.

@@ -1,7 +1,6 @@
 use Rattle.std.proofs.Common.{◌<◌, Some, ap, arith, length, refl}
 use Rattle.std.proofs.lemmas.Grind.{common_steps}
 use Rattle.pr_wire.specs.declared.Levels.{Levels}
-use Rattle.pr_report.specs.declared.oddities.LinesSeen.{LinesSeen}
 use Rattle.pr_report.proofs.LinesLooked.{many-seen}
 use Rattle.pr_report.proofs.oddities.LinesSeen.take_all.Goals as goal
 
