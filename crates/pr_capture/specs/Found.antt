@@ -3,8 +3,8 @@ use Rattle.std.specs.Prelude.{◌==◌, ◌||◌, ℕ, Bool, codes, drop, false,
 use Rattle.std.specs.Char.{is_ascii_whitespace}
 use Rattle.std.specs.List.{prefix_len, starts_with}
 use Rattle.std.specs.Option.{option_map_or}
-use Rattle.pr_capture.specs.declared.format.Source.{Source}
-use Rattle.pr_capture.specs.declared.format.Source.TheVariants.{Csv, Vcd}
+use Rattle.pr_capture.specs.declared.format.InputFormat.{InputFormat}
+use Rattle.pr_capture.specs.declared.format.InputFormat.TheVariants.{Csv, Vcd}
 use Rattle.pr_capture.specs.Csv.{is_archive, is_inner, is_separator, is_wide}
 
 -- the first line is the one that sigrok-cli puts in front of a dump and of a table
@@ -35,6 +35,6 @@ begins_as_table bytes =
     || option_map_or (λ b. b == 59 || b == 35) (front bytes) false || has_separator bytes
 
 -- the format that the first bytes of a recording show, or else this one
-abbrev pub found_source : Source → List ℕ → Source
+abbrev pub found_source : InputFormat → List ℕ → InputFormat
 found_source source bytes =
     if begins_as_dump bytes then Vcd else (if begins_as_table bytes then Csv else source)

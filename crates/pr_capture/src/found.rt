@@ -5,19 +5,19 @@ ghost use Rattle.pr_capture.specs.Csv.{is_separator};
 ghost use Rattle.pr_capture.specs.Found.{begins_as_dump, begins_as_table, behind_meta, found_source, front, has_meta, has_separator};
 
 use crate::csv::{is_archive, is_separator, is_wide, line_len};
-use crate::format::Source;
+use crate::format::InputFormat;
 
 /// Returns the format that the first bytes of a recording show, or else `source`: a dump begins with
 /// `$`, also after the line `META samplerate: ..` that sigrok-cli puts in front; a table with `;`, `#`
 /// or that line, or it has a comma, a semicolon or a tab in its first line. UTF-16 text and zip archives
 /// are taken as tables, whose reader refuses them by name. It takes no memory.
-pub fn found_source(source: Source, bytes: &[u8]) -> Source
+pub fn found_source(source: InputFormat, bytes: &[u8]) -> InputFormat
     ensures { result ≡ found_source source bytes.now }
 {
     if begins_as_dump(bytes) {
-        Source::Vcd
+        InputFormat::Vcd
     } else if begins_as_table(bytes) {
-        Source::Csv
+        InputFormat::Csv
     } else {
         source
     }

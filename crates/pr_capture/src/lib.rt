@@ -47,7 +47,7 @@ mod volts;
 pub use csv::CsvReader;
 pub use edge_detector::EdgeDetector;
 pub use fault::{CaptureFault, Wire};
-pub use format::{Source, TraceFormat, TraceInput};
+pub use format::{InputFormat, OutputFormat, TraceInput};
 pub use found::found_source;
 pub use laws::{csv_is_read_back, given_edges_come_first, given_samples_come_first};
 pub use pulse_filter::{PulseFilter, steady_edges_come_first};

@@ -2,9 +2,9 @@
 -- and how it ends. The answer uses the printers present, the delays, the mode, the input, the character set
 -- and the output of the job, and the shapes of characters that it is given.
 use Rattle.std.specs.Prelude.{◌≡◌, ◌⊎◌, ◌≤◌, ◌-◌, ℕ, Bool, true, false, List, length, Option, Some, None, take, Result, Ok, Err, if◌then◌else◌}
-use Rattle.pr_capture.specs.declared.format.Source.{Source}
-use Rattle.pr_capture.specs.declared.format.Source.TheVariants as source
-use Rattle.pr_capture.specs.declared.format.TraceFormat.{TraceFormat}
+use Rattle.pr_capture.specs.declared.format.InputFormat.{InputFormat}
+use Rattle.pr_capture.specs.declared.format.InputFormat.TheVariants as source
+use Rattle.pr_capture.specs.declared.format.OutputFormat.{OutputFormat}
 use Rattle.pr_capture.specs.declared.format.TraceInput.{TraceInput}
 use Rattle.pr_report.specs.declared.oddities.Oddities.{Oddities}
 use Rattle.pr_report.specs.declared.report.Report.{Report}
@@ -54,8 +54,8 @@ use Rattle.pr_recording.specs.Decoded.{AnswersDecode, IsDecodeFault}
 use Rattle.pr_recording.specs.Decoded as decode
 use Rattle.pr_recording.specs.Pages as reprint
 use Rattle.pr_recording.specs.RunBytes.{AnswersRunBytes}
-use Rattle.pr_cli.specs.declared.jobs.Answer.{Answer}
-use Rattle.pr_cli.specs.declared.jobs.Answer.TheVariants as answer
+use Rattle.pr_cli.specs.declared.jobs.JobEnd.{JobEnd}
+use Rattle.pr_cli.specs.declared.jobs.JobEnd.TheVariants as answer
 use Rattle.pr_cli.specs.Starts.{own_zero}
 use Rattle.pr_cli.specs.Statuses.{job_end, status_of}
 use Rattle.pr_cli.specs.declared.statuses.End.{End}
@@ -100,7 +100,7 @@ seen_job job = job
 
 -- what `check` answers: the frames of a trace text, or else a report on an input of any format
 abbrev pub AnswersFrames :
-    TraceInput → Source → Report → List ℕ → Option (List ℕ) → Option (List ℕ)
+    TraceInput → InputFormat → Report → List ℕ → Option (List ℕ) → Option (List ℕ)
     → Result (Unit {0}) CliFault → Type 0
 AnswersFrames input source.Text report.Frames text old new result = AnswersCheck text old new result
 AnswersFrames input _ r text old new result = AnswersReport input r text old new result
@@ -118,7 +118,7 @@ Unasked false holds = holds
 
 -- an answer of a run that says which error stopped it, and where; or only whether one did, where the place is not asked for
 abbrev pub IsRan : (located : Bool) → (Result Ending CliFault → Type 0) → (Result RunEnd CliFault → Type 0)
-    → Result Answer CliFault → Type 0
+    → Result JobEnd CliFault → Type 0
 IsRan located answers ends (Ok (answer.Ended ending)) = Unasked located (answers (Ok ending))
 IsRan located answers ends (Ok (answer.Ran end)) = ends (Ok end)
 IsRan located answers ends (Ok _) = ⊥
@@ -126,70 +126,70 @@ IsRan located answers ends (Err fault) = ends (Err fault)
 
 -- the same of pages, with what the printers hold
 abbrev pub IsPrinted : (located : Bool) → (Result Ending CliFault → Type 0) → (Result PagesEnd CliFault → Type 0)
-    → Result Answer CliFault → Type 0
+    → Result JobEnd CliFault → Type 0
 IsPrinted located answers ends (Ok (answer.Ended ending)) = Unasked located (answers (Ok ending))
 IsPrinted located answers ends (Ok (answer.Printed end)) = ends (Ok end)
 IsPrinted located answers ends (Ok _) = ⊥
 IsPrinted located answers ends (Err fault) = ends (Err fault)
 
 -- an answer of the page of a printer's bytes, with what the printer holds
-abbrev pub IsRaw : (Result PagesEnd CliFault → Type 0) → Result Answer CliFault → Type 0
+abbrev pub IsRaw : (Result PagesEnd CliFault → Type 0) → Result JobEnd CliFault → Type 0
 IsRaw answers (Ok (answer.Printed end)) = answers (Ok end)
 IsRaw answers (Ok _) = ⊥
 IsRaw answers (Err fault) = answers (Err fault)
 
 -- an answer with a printer's bytes
-abbrev pub IsHeard : (Result (RunEnd × Heard) CliFault → Type 0) → Result Answer CliFault → Type 0
+abbrev pub IsHeard : (Result (RunEnd × Heard) CliFault → Type 0) → Result JobEnd CliFault → Type 0
 IsHeard answers (Ok (answer.Heard end heard)) = answers (Ok (end, heard))
 IsHeard answers (Ok _) = ⊥
 IsHeard answers (Err fault) = answers (Err fault)
 
 -- an answer that no BASIC error can stop: it is done, or has a fault
-abbrev pub IsDone : (Result (Unit {0}) CliFault → Type 0) → Result Answer CliFault → Type 0
+abbrev pub IsDone : (Result (Unit {0}) CliFault → Type 0) → Result JobEnd CliFault → Type 0
 IsDone answers (Ok (answer.Ended Done)) = answers (Ok tt)
 IsDone answers (Ok _) = ⊥
 IsDone answers (Err fault) = answers (Err fault)
 
 -- the same with what is said of a recording of which a printer's bytes are written
-abbrev pub IsOverheard : (Result Overheard CliFault → Type 0) → Result Answer CliFault → Type 0
+abbrev pub IsOverheard : (Result Overheard CliFault → Type 0) → Result JobEnd CliFault → Type 0
 IsOverheard answers (Ok (answer.Overheard said)) = answers (Ok said)
 IsOverheard answers (Ok _) = ⊥
 IsOverheard answers (Err fault) = answers (Err fault)
 
 -- the same with what is said of one whose pages are written
-abbrev pub IsReprinted : (Result Reprinted CliFault → Type 0) → Result Answer CliFault → Type 0
+abbrev pub IsReprinted : (Result Reprinted CliFault → Type 0) → Result JobEnd CliFault → Type 0
 IsReprinted answers (Ok (answer.Reprinted said)) = answers (Ok said)
 IsReprinted answers (Ok _) = ⊥
 IsReprinted answers (Err fault) = answers (Err fault)
 
 -- the same with what is odd about a recording that is listed
-abbrev pub IsListed : (Result Oddities CliFault → Type 0) → Result Answer CliFault → Type 0
+abbrev pub IsListed : (Result Oddities CliFault → Type 0) → Result JobEnd CliFault → Type 0
 IsListed answers (Ok (answer.Listed odd)) = answers (Ok odd)
 IsListed answers (Ok _) = ⊥
 IsListed answers (Err fault) = answers (Err fault)
 
 -- the same with what is odd about one whose JSON does not say it
-abbrev pub IsRemarked : (Result Oddities CliFault → Type 0) → Result Answer CliFault → Type 0
+abbrev pub IsRemarked : (Result Oddities CliFault → Type 0) → Result JobEnd CliFault → Type 0
 IsRemarked answers (Ok (answer.Remarked odd)) = answers (Ok odd)
 IsRemarked answers (Ok _) = ⊥
 IsRemarked answers (Err fault) = answers (Err fault)
 
 -- what `pages` answers: the pages of a script
 abbrev pub AnswersPrinted :
-    (located : Bool) → Shapes → Start → Format → List ℕ → Option (List ℕ) → Option (List ℕ) → Result Answer CliFault → Type 0
+    (located : Bool) → Shapes → Start → Format → List ℕ → Option (List ℕ) → Option (List ℕ) → Result JobEnd CliFault → Type 0
 AnswersPrinted located shapes start f text old new result =
     IsPrinted located (AnswersPages shapes start f text old new) (AnswersPagesAs shapes start f text old new) result
 
 -- or the bytes that a printer hears in its run
 abbrev pub AnswersRun :
-    (located : Bool) → Shapes → Start → PagesOutput → List ℕ → Option (List ℕ) → Option (List ℕ) → Result Answer CliFault
+    (located : Bool) → Shapes → Start → PagesOutput → List ℕ → Option (List ℕ) → Option (List ℕ) → Result JobEnd CliFault
     → Type 0
 AnswersRun located shapes start (output.Pages f) text old new result = AnswersPrinted located shapes start f text old new result
 AnswersRun located shapes start (output.Bytes device) text old new result = IsHeard (AnswersRunBytes start device text old new) result
 
 -- what `bus` answers: the trace of a script's run
 abbrev pub AnswersTraced :
-    (located : Bool) → Start → TraceFormat → List ℕ → Option (List ℕ) → Option (List ℕ) → Result Answer CliFault → Type 0
+    (located : Bool) → Start → OutputFormat → List ℕ → Option (List ℕ) → Option (List ℕ) → Result JobEnd CliFault → Type 0
 AnswersTraced located start f text old new result =
     IsRan located (AnswersBus start f text old new) (AnswersBusAs start f text old new) result
 
@@ -199,7 +199,7 @@ listening_of h = record { printers = h.listening; lower = h.lower }
 
 -- what `decode` answers: the readings of a recording, the bytes that a printer hears in it, or the pages that printers print of it
 abbrev pub AnswersRecording :
-    Shapes → TraceInput → DecodeOutput → List ℕ → Option (List ℕ) → Option (List ℕ) → Result Answer CliFault → Type 0
+    Shapes → TraceInput → DecodeOutput → List ℕ → Option (List ℕ) → Option (List ℕ) → Result JobEnd CliFault → Type 0
 AnswersRecording shapes input (reading.Readings detail) text old new result =
     IsListed (AnswersDecode trace_limit (Lines detail) input text old new) result
 AnswersRecording shapes input reading.Json text old new result =
@@ -213,7 +213,7 @@ AnswersRecording shapes input (reading.Pages f hearing) text old new result =
 -- they are the bytes of a script text, also where the listing has another form; the format of a
 -- recording is the input's, also where it was found in the first bytes
 abbrev pub AnswersJob :
-    (located : Bool) → Shapes → Job → List ℕ → Option (List ℕ) → Option (List ℕ) → Result Answer CliFault → Type 0
+    (located : Bool) → Shapes → Job → List ℕ → Option (List ℕ) → Option (List ℕ) → Result JobEnd CliFault → Type 0
 AnswersJob located shapes (Pages form present delays mode output) text old new result =
     AnswersRun located shapes (start_of present delays mode) output text old new result
 AnswersJob located shapes (Bus form present delays mode f) text old new result =
@@ -253,7 +253,7 @@ strict_of _ = None
 -- always allowed are `NoMemory`, `ReadFailed` and `WriteFailed`, whose exit status is 3, where at most a beginning was written
 abbrev pub EndsJob : (located : Bool) → Shapes → Job → List ℕ → Option (List ℕ) → Option (List ℕ) → End → Type 0
 EndsJob located shapes job text old new end =
-    (answer : Result Answer CliFault) × AnswersJob located shapes job text old new answer × (end ≡ job_end (strict_of job) answer)
+    (answer : Result JobEnd CliFault) × AnswersJob located shapes job text old new answer × (end ≡ job_end (strict_of job) answer)
 
 -- the form of the listing that a job reads; an input that is no listing is read as it is
 abbrev pub form_of : Job → ListingForm
@@ -331,7 +331,7 @@ IsJobFault (Decode is_found input output) fault = IsRecordingFault output fault
 IsJobFault (Raw lower f) fault = IsRawFault fault
 
 -- a recording has been read to its end, unless it has a fault
-abbrev pub ReadsRecording : DecodeOutput → Option (List ℕ) → Result Answer CliFault → Type 0
+abbrev pub ReadsRecording : DecodeOutput → Option (List ℕ) → Result JobEnd CliFault → Type 0
 ReadsRecording (reading.Bytes device hearing) left result = IsOverheard (HasReadBytes left) result
 ReadsRecording (reading.Pages f hearing) left result = IsReprinted (reprint.ReadsPages left) result
 ReadsRecording reading.Json left result = IsRemarked (decode.ReadsAll left) result
@@ -343,7 +343,7 @@ ReadsTrace (checked.Report r) left result = check.ReadsAll r left result
 ReadsTrace checked.Json left result = check.ReadsAll report.Story left result
 
 -- the input has been read to its end, unless the job's subcommand ends earlier
-abbrev pub ReadsInput : Job → Option (List ℕ) → Result Answer CliFault → Type 0
+abbrev pub ReadsInput : Job → Option (List ℕ) → Result JobEnd CliFault → Type 0
 ReadsInput (Pages form present delays mode output) left result = ReadsToEnd left result
 ReadsInput (Bus form present delays mode f) left result = ReadsToEnd left result
 ReadsInput (Check is_found input output) left result = IsDone (ReadsTrace output left) result
@@ -356,11 +356,11 @@ KeepsTrace (checked.Report r) old new result = WritesNoReport r old new result
 KeepsTrace checked.Json old new result = Unit {0}
 
 -- the same for an answer of a run, which is no other than such an answer
-abbrev pub KeepsRun : (located : Bool) → Option (List ℕ) → Option (List ℕ) → Result Answer CliFault → Type 0
+abbrev pub KeepsRun : (located : Bool) → Option (List ℕ) → Option (List ℕ) → Result JobEnd CliFault → Type 0
 KeepsRun located old new result = IsRan located (WritesNoEdge old new) (WritesNoEdge old new) result
 
 -- a refusal leaves the writer's bytes as they were, unless the job's subcommand writes while it reads
-abbrev pub KeepsOutput : (located : Bool) → Job → Option (List ℕ) → Option (List ℕ) → Result Answer CliFault → Type 0
+abbrev pub KeepsOutput : (located : Bool) → Job → Option (List ℕ) → Option (List ℕ) → Result JobEnd CliFault → Type 0
 KeepsOutput located (Pages form present delays mode output) old new result = WritesNothing old new result
 KeepsOutput located (Bus form present delays mode f) old new result = KeepsRun located old new result
 KeepsOutput located (Check is_found input output) old new result = IsDone (KeepsTrace output old new) result

@@ -14,8 +14,8 @@ use Rattle.std.specs.List.{prefix_len}
 use Rattle.pr_wire.specs.declared.Edge.{Edge}
 use Rattle.pr_base.specs.Digits.{is_digit}
 use Rattle.pr_base.specs.Lines.{lines_of}
-use Rattle.pr_capture.specs.declared.format.Source.{Source}
-use Rattle.pr_capture.specs.declared.format.Source.TheVariants as source
+use Rattle.pr_capture.specs.declared.format.InputFormat.{InputFormat}
+use Rattle.pr_capture.specs.declared.format.InputFormat.TheVariants as source
 use Rattle.pr_capture.specs.declared.format.TraceInput.{TraceInput}
 use Rattle.pr_capture.specs.Csv.{csv_contents, is_separator}
 
@@ -80,7 +80,7 @@ unfoldable pub table_zero : TraceInput → (table : List ℕ) → ℕ
 table_zero input table = zero_after input [] (lines_of table)
 
 -- a recording is a table
-abbrev pub is_csv : Source → Bool
+abbrev pub is_csv : InputFormat → Bool
 is_csv source.Csv = true
 is_csv _ = false
 

@@ -19,8 +19,8 @@ use Rattle.pr_jobs.specs.declared.run.RunEnd.{RunEnd}
 use Rattle.pr_jobs.specs.declared.run.RunEnd.TheVariants as run
 use Rattle.pr_recording.specs.declared.left_out.LeftOut.{LeftOut}
 use Rattle.pr_serial.specs.declared.Present.{Present}
-use Rattle.pr_cli.specs.declared.jobs.Answer.{Answer}
-use Rattle.pr_cli.specs.declared.jobs.Answer.TheVariants.{Ended, Ran, Printed, Heard, Overheard, Reprinted, Listed, Remarked}
+use Rattle.pr_cli.specs.declared.jobs.JobEnd.{JobEnd}
+use Rattle.pr_cli.specs.declared.jobs.JobEnd.TheVariants.{Ended, Ran, Printed, Heard, Overheard, Reprinted, Listed, Remarked}
 use Rattle.pr_cli.specs.declared.statuses.End.{End}
 use Rattle.pr_cli.specs.declared.statuses.End.TheVariants as end
 
@@ -35,7 +35,7 @@ run_ended run.Done = end.Done
 run_ended (run.Stopped statement stop) = end.StoppedAt statement stop
 
 -- the same of a job with its answer
-abbrev pub answer_end : Answer → End
+abbrev pub answer_end : JobEnd → End
 answer_end (Ended ending) = ending_end ending
 answer_end (Ran ran) = run_ended ran
 answer_end (Printed pages) = run_ended pages.run
@@ -59,18 +59,18 @@ holds held = nat_lt 0 held.characters || nat_lt 0 held.columns
 abbrev pub hold : (shown : Present) → PagesEnd → Bool
 hold shown pages = (shown.four && holds pages.four.held) || (shown.five && holds pages.five.held)
 
-abbrev pub lacks : (shown : Present) → Answer → Bool
+abbrev pub lacks : (shown : Present) → JobEnd → Bool
 lacks shown (Overheard said) = leaves_out said.left || not said.has_byte
 lacks shown (Reprinted said) = leaves_out said.left || (not (hears shown said.present) || hold shown said.end)
 lacks shown _ = false
 
 -- the same of a job that is to lack nothing of these printers, if it is
-abbrev pub strict_end : (strict : Option Present) → Answer → End
+abbrev pub strict_end : (strict : Option Present) → JobEnd → End
 strict_end None answer = answer_end answer
 strict_end (Some shown) answer = if lacks shown answer then end.Lacking else answer_end answer
 
 -- of a job with its answer or its fault
-abbrev pub job_end : (strict : Option Present) → Result Answer CliFault → End
+abbrev pub job_end : (strict : Option Present) → Result JobEnd CliFault → End
 job_end strict (Ok answer) = strict_end strict answer
 job_end strict (Err fault) = end.Job fault
 

@@ -9,7 +9,8 @@ ghost use Rattle.pr_cli.specs.Statuses.{answer_end, fault_status, job_end, statu
 ghost use Rattle.pr_cli.specs.declared.statuses.End.TheVariants as end;
 
 use crate::characters::{shapes_for, shapes_given};
-use crate::jobs::{Answer, do_job, found_job, seen_job};
+use crate::command::Terminals;
+use crate::jobs::{JobEnd, do_job, found_job, seen_job};
 use crate::lacking::strict_of;
 use crate::notes::{
     ListingNote, View, blank_reason, note_listing, note_overheard, note_pages, note_reprinted,
@@ -70,20 +71,15 @@ struct Work<'a> {
     is_located: bool,
 }
 
-/// How a task is done, beside its job.
+/// Where a task is done, and what it says beside its answer.
 #[derive(Clone, Copy)]
-pub struct Manner {
+pub struct Session {
     /// An explanation follows a refusal or an error.
     pub is_explained: bool,
     /// Nothing is said but faults and explanations.
     pub is_quiet: bool,
-    /// Standard input is a terminal.
-    pub is_typed: bool,
-    /// Standard error is a terminal.
-    pub is_watched: bool,
-    /// Standard output is a terminal.
-    pub is_seen: bool,
-    /// It shows reverse in its reverse video.
+    pub terminals: Terminals,
+    /// Standard output is a terminal, and shows reverse in its reverse video.
     pub is_reversing: bool,
 }
 
@@ -98,7 +94,7 @@ pub struct Telling {
 
 /// What goes to standard error beside a fault.
 #[derive(Clone, Copy)]
-struct Aside<'a> {
+struct Reporting<'a> {
     /// An explanation follows a refusal or an error.
     is_explained: bool,
     /// A line follows a refusal that says how to get its explanation.
@@ -119,10 +115,10 @@ struct Aside<'a> {
 
 /// Opens the files that a task names, does its job and gives the exit status. The file of characters is read first: where it
 /// has none, no other file is opened, and nothing is read.
-pub fn answer_task(
+pub fn run_task(
     rt: &(impl Files + Clock + Input + Print + Eprint + AllocGlobal),
     task: Task<'_>,
-    manner: Manner,
+    session: Session,
 ) -> u8 {
     let Task {
         job,
@@ -144,7 +140,7 @@ pub fn answer_task(
         input,
         output: output.filter(|name| !is_standard_output(name)),
     };
-    let job = if manner.is_reversing && names.output.is_none() {
+    let job = if session.is_reversing && names.output.is_none() {
         seen_job(job)
     } else {
         job
@@ -153,38 +149,38 @@ pub fn answer_task(
         job,
         before,
         shapes: &shapes,
-        is_located: manner.is_explained,
+        is_located: session.is_explained,
     };
-    answer_named(rt, names, work, manner)
+    open_input(rt, names, work, session)
 }
 
 /// Opens the files of these names, does a job over them and gives the exit status.
-fn answer_named(
+fn open_input(
     rt: &(impl Files + Clock + Input + Print + Eprint + AllocGlobal),
     names: Names<'_>,
     work: Work<'_>,
-    manner: Manner,
+    session: Session,
 ) -> u8 {
-    if names.output.is_none() && manner.is_seen && is_for_a_file(&work.job) {
+    if names.output.is_none() && session.terminals.output && is_for_a_file(&work.job) {
         return refuse(rt, FOR_A_FILE).status();
     }
     let is_shown = Cell::new(false);
     let count = Cell::new(0);
-    let aside = Aside {
-        is_explained: manner.is_explained,
-        is_advised: manner.is_watched && !manner.is_explained && !manner.is_quiet,
-        is_noted: !manner.is_quiet && (manner.is_explained || manner.is_watched),
-        is_quiet: manner.is_quiet,
+    let aside = Reporting {
+        is_explained: session.is_explained,
+        is_advised: session.terminals.error && !session.is_explained && !session.is_quiet,
+        is_noted: !session.is_quiet && (session.is_explained || session.terminals.error),
+        is_quiet: session.is_quiet,
         note: ListingNote::Nothing,
         is_file: false,
         count: &count,
         is_shown: &is_shown,
     };
-    let is_apart = manner.is_watched
-        && !manner.is_quiet
-        && (names.output.is_some() || !manner.is_seen);
+    let is_apart = session.terminals.error
+        && !session.is_quiet
+        && (names.output.is_some() || !session.terminals.output);
     let Some(name) = names.input else {
-        if manner.is_typed && !manner.is_quiet {
+        if session.terminals.input && !session.is_quiet {
             tell_waiting(rt, &work.job);
         }
         if let Some(output) = names.output {
@@ -192,9 +188,9 @@ fn answer_named(
                 return refuse_same(rt, "standard input").status();
             }
         }
-        let is_watched = is_apart && !manner.is_typed;
+        let is_watched = is_apart && !session.terminals.input;
         let reader = Progress::new(rt, rt.reader(), is_watched, &count, &is_shown);
-        return answer_from(rt, reader, names, work, aside);
+        return open_output(rt, reader, names, work, aside);
     };
     match File::open(rt, name) {
         Ok(file) => {
@@ -205,7 +201,7 @@ fn answer_named(
             }
             let is_file = (aside.is_explained || aside.is_noted) && is_regular(&file);
             let reader = Progress::new(rt, file, is_apart, &count, &is_shown);
-            answer_from(rt, reader, names, work, Aside { is_file, ..aside })
+            open_output(rt, reader, names, work, Reporting { is_file, ..aside })
         }
         Err(error) => tell_file(rt, name, &error),
     }
@@ -239,7 +235,7 @@ pub fn answer_given(
     };
     let is_shown = Cell::new(false);
     let count = Cell::new(0);
-    let aside = Aside {
+    let aside = Reporting {
         is_explained: telling.is_explained,
         is_advised: false,
         is_noted: telling.is_explained && !telling.is_quiet,
@@ -249,7 +245,7 @@ pub fn answer_given(
         count: &count,
         is_shown: &is_shown,
     };
-    answer_job(rt, input, writer, names, work, aside)
+    choose_form(rt, input, writer, names, work, aside)
 }
 
 /// Whether a job writes a picture or a document of bytes that a terminal does not show.
@@ -311,22 +307,22 @@ pub fn tell_waiting(rt: &impl Eprint, job: &Job<'_>) {
 
 /// Does a job over a reader and gives the exit status. A file that is written is put in its place
 /// only where the job is done or a BASIC error stopped it.
-fn answer_from<R: Read + Drop>(
+fn open_output<R: Read + Drop>(
     rt: &(impl Files + Print + Eprint + AllocGlobal),
     reader: R,
     names: Names<'_>,
     work: Work<'_>,
-    aside: Aside<'_>,
+    aside: Reporting<'_>,
 ) -> u8 {
     let Some(name) = names.output else {
-        let (end, _output) = answer_job(rt, reader, io::writer(rt), names, work, aside);
+        let (end, _output) = choose_form(rt, reader, io::writer(rt), names, work, aside);
         return end.status();
     };
     let saving = match save(rt, name) {
         Ok(saving) => saving,
         Err(error) => return tell_file(rt, name, &error),
     };
-    let (end, saving) = answer_job(rt, reader, saving, names, work, aside);
+    let (end, saving) = choose_form(rt, reader, saving, names, work, aside);
     let status = end.status();
     if is_answered(status) {
         match saving.keep() {
@@ -357,13 +353,13 @@ fn tell_unsaved(rt: &(impl Outside + Eprint), name: &str, unsaved: Unsaved) -> u
 
 /// Does a job over a reader and a writer, and gives how it ends and the writer. A listing in
 /// another form is made a script's text first, and a recording's format or own moment 0 is found first.
-fn answer_job<R: Read + Drop, W: Write + Drop>(
+fn choose_form<R: Read + Drop, W: Write + Drop>(
     rt: &(impl Outside + Eprint + AllocGlobal),
     reader: R,
     writer: W,
     names: Names<'_>,
     work: Work<'_>,
-    aside: Aside<'_>,
+    aside: Reporting<'_>,
 ) -> (End, W)
     ensures { IfSome (R.remaining reader) (λ bytes. EndsWork work.entry.is_located work.entry.shapes.now work.entry.before work.entry.job bytes
         (W.contents writer) (W.contents result.1) result.0) }
@@ -375,7 +371,7 @@ fn answer_job<R: Read + Drop, W: Write + Drop>(
         return answer_recording(rt, reader, writer, names, work, aside);
     }
     match form_of(&work.job) {
-        ListingForm::Text => answer_over(rt, reader, writer, names, None, work, aside),
+        ListingForm::Text => run_job(rt, reader, writer, names, None, work, aside),
         ListingForm::Program => {
             answer_listing(rt, reader, writer, names, ListingForm::Program, work, aside)
         }
@@ -416,7 +412,7 @@ fn answer_recording<R: Read + Drop, W: Write + Drop>(
     writer: W,
     names: Names<'_>,
     work: Work<'_>,
-    aside: Aside<'_>,
+    aside: Reporting<'_>,
 ) -> (End, W)
     ensures { IfSome (R.remaining reader) (λ bytes. EndsRecording work.entry.is_located work.entry.shapes.now work.entry.before work.entry.job bytes
         (W.contents writer) (W.contents result.1) result.0) }
@@ -425,7 +421,7 @@ fn answer_recording<R: Read + Drop, W: Write + Drop>(
     match found_work(rt.alloc(), work, &mut input) {
         Ok((work, first)) => {
             let whole = first.as_slice().chain(input.into_inner());
-            answer_over(rt, whole, writer, names, None, work, aside)
+            run_job(rt, whole, writer, names, None, work, aside)
         }
         Err(CliFault::ReadFailed) => {
             let error = input.into_inner().error();
@@ -504,7 +500,7 @@ fn answer_listing<R: Read + Drop, W: Write + Drop>(
     names: Names<'_>,
     form: ListingForm,
     work: Work<'_>,
-    aside: Aside<'_>,
+    aside: Reporting<'_>,
 ) -> (End, W)
     ensures { IfSome (R.remaining reader) (λ bytes. EndsListing work.entry.is_located work.entry.shapes.now work.entry.job form bytes
         (W.contents writer) (W.contents result.1) result.0) }
@@ -516,12 +512,12 @@ fn answer_listing<R: Read + Drop, W: Write + Drop>(
         Ok(text) => {
             let kept = input.into_inner().into_inner().into_bytes();
             let listing = listing_of(form, kept.as_deref());
-            let aside = Aside {
+            let aside = Reporting {
                 is_file: false,
                 note: listing_note(listing),
                 ..aside
             };
-            answer_over(rt, text.as_slice(), writer, names, listing, work, aside)
+            run_job(rt, text.as_slice(), writer, names, listing, work, aside)
         }
         Err(fault) => {
             let input = input.into_inner();
@@ -552,7 +548,7 @@ fn explain_listing<R: Read + Drop>(
     kept: TeeReader<R>,
     form: ListingForm,
     fault: TextFault,
-    aside: Aside<'_>,
+    aside: Reporting<'_>,
 ) {
     if aside.is_explained {
         if let Some(bytes) = kept.into_bytes() {
@@ -581,14 +577,14 @@ fn form_of(job: &Job<'_>) -> ListingForm
 /// Does a job over a reader and a writer, and gives how it ends and the writer. Where more is to
 /// be said, the input is kept, since a trace text's first bad line may be its last; a file is read again instead, when the
 /// job has freed what it kept. A script may be made of a listing in another form. For notes alone a script or a printer's bytes are kept, and no other input.
-fn answer_over<R: Read + Drop, W: Write + Drop>(
+fn run_job<R: Read + Drop, W: Write + Drop>(
     rt: &(impl Outside + Eprint + AllocGlobal),
     reader: R,
     writer: W,
     names: Names<'_>,
     listing: Option<Listing<'_>>,
     work: Work<'_>,
-    aside: Aside<'_>,
+    aside: Reporting<'_>,
 ) -> (End, W)
     ensures { IfSome (R.remaining reader) (λ text. EndsJob work.entry.is_located work.entry.shapes.now work.entry.job text
         (W.contents writer) (W.contents result.1) result.0) }
@@ -633,21 +629,21 @@ fn answer_over<R: Read + Drop, W: Write + Drop>(
 fn tell_lacking(
     rt: &impl Eprint,
     view: View,
-    answer: Result<Answer, CliFault>,
-    aside: Aside<'_>,
+    answer: Result<JobEnd, CliFault>,
+    aside: Reporting<'_>,
     reason: Option<&'static str>,
 ) {
     match answer {
-        Ok(Answer::Printed(pages)) if aside.is_noted => note_pages(rt, pages, view, reason),
-        Ok(Answer::Reprinted(said)) if !aside.is_quiet => note_reprinted(rt, said, view),
-        Ok(Answer::Overheard(said)) if !aside.is_quiet => note_overheard(rt, said, view),
+        Ok(JobEnd::Printed(pages)) if aside.is_noted => note_pages(rt, pages, view, reason),
+        Ok(JobEnd::Reprinted(said)) if !aside.is_quiet => note_reprinted(rt, said, view),
+        Ok(JobEnd::Overheard(said)) if !aside.is_quiet => note_overheard(rt, said, view),
         _ => {}
     }
 }
 
 /// Says that more can be said of a job that failed, or of a run that a BASIC error stopped, if it can; or at once how many
 /// sheets there are.
-fn advise_on(rt: &(impl Eprint + AllocGlobal), answer: Result<Answer, CliFault>, end: End) {
+fn advise_on(rt: &(impl Eprint + AllocGlobal), answer: Result<JobEnd, CliFault>, end: End) {
     match answer {
         Ok(_) if matches!(end, End::Stopped | End::StoppedAt { .. }) => note_stop(rt),
         Err(CliFault::Picture(fault)) => tell_sheets(rt, fault),
@@ -664,8 +660,8 @@ fn tell_read<R: Read + Drop>(
     listing: Option<Listing<'_>>,
     subject: Subject<'_>,
     names: Names<'_>,
-    answer: Result<Answer, CliFault>,
-    aside: Aside<'_>,
+    answer: Result<JobEnd, CliFault>,
+    aside: Reporting<'_>,
 ) -> Option<&'static str> {
     let is_noted = aside.is_noted && has_answer(subject, answer);
     if !aside.is_explained && !is_noted {
@@ -692,8 +688,8 @@ fn tell_bytes(
     bytes: &[u8],
     listing: Option<Listing<'_>>,
     subject: Subject<'_>,
-    answer: Result<Answer, CliFault>,
-    aside: Aside<'_>,
+    answer: Result<JobEnd, CliFault>,
+    aside: Reporting<'_>,
 ) -> Option<&'static str> {
     if aside.is_explained {
         let end = run_end_of(answer);
@@ -709,7 +705,7 @@ fn tell_bytes(
 }
 
 /// Whether a job was done, or refused with a fault of which there may be notes.
-fn has_answer(subject: Subject<'_>, answer: Result<Answer, CliFault>) -> bool {
+fn has_answer(subject: Subject<'_>, answer: Result<JobEnd, CliFault>) -> bool {
     match answer {
         Ok(_) => is_notable(subject, None),
         Err(fault) => is_notable(subject, Some(fault)),
@@ -717,16 +713,16 @@ fn has_answer(subject: Subject<'_>, answer: Result<Answer, CliFault>) -> bool {
 }
 
 /// How the run of a job ended that says where, or the job's fault. All other jobs are done.
-fn run_end_of(answer: Result<Answer, CliFault>) -> Result<RunEnd, CliFault> {
+fn run_end_of(answer: Result<JobEnd, CliFault>) -> Result<RunEnd, CliFault> {
     match answer {
-        Ok(Answer::Ran(end) | Answer::Heard(end, _)) => Ok(end),
-        Ok(Answer::Printed(pages)) => Ok(pages.run),
+        Ok(JobEnd::Ran(end) | JobEnd::Heard(end, _)) => Ok(end),
+        Ok(JobEnd::Printed(pages)) => Ok(pages.run),
         Ok(
-            Answer::Ended(_)
-            | Answer::Overheard(_)
-            | Answer::Reprinted(_)
-            | Answer::Listed(_)
-            | Answer::Remarked(_),
+            JobEnd::Ended(_)
+            | JobEnd::Overheard(_)
+            | JobEnd::Reprinted(_)
+            | JobEnd::Listed(_)
+            | JobEnd::Remarked(_),
         ) => Ok(RunEnd::Done),
         Err(fault) => Err(fault),
     }
@@ -738,7 +734,7 @@ fn tell_end(
     rt: &(impl Outside + Eprint + AllocGlobal),
     subject: Subject<'_>,
     names: Names<'_>,
-    answer: Result<Answer, CliFault>,
+    answer: Result<JobEnd, CliFault>,
     errors: (Option<Error>, Option<Error>),
     strict: Option<Present>,
     is_quiet: bool,
@@ -762,7 +758,7 @@ fn tell_end(
 }
 
 /// How a job with this answer ends that is to lack nothing of these printers, where it would end so otherwise.
-fn strict_end(strict: Option<Present>, answer: Answer, end: End) -> End
+fn strict_end(strict: Option<Present>, answer: JobEnd, end: End) -> End
     ensures { end ≡ answer_end answer → result ≡ strict_end strict answer }
 {
     match strict {
@@ -777,29 +773,29 @@ fn strict_end(strict: Option<Present>, answer: Answer, end: End) -> End
 fn tell_answer(
     rt: &(impl Eprint + AllocGlobal),
     subject: Subject<'_>,
-    answer: Answer,
+    answer: JobEnd,
     is_quiet: bool,
 ) -> End
     ensures { result ≡ answer_end answer }
 {
     if !is_quiet {
         match answer {
-            Answer::Heard(_, heard) => tell_heard(rt, heard),
-            Answer::Overheard(said) => {
+            JobEnd::Heard(_, heard) => tell_heard(rt, heard),
+            JobEnd::Overheard(said) => {
                 tell_heard(rt, said.heard);
                 show_oddities(rt, subject, said.odd);
             }
-            Answer::Reprinted(said) => show_oddities(rt, subject, said.odd),
-            Answer::Listed(odd) => show_brief(rt, subject, odd),
-            Answer::Remarked(odd) => show_oddities(rt, subject, odd),
-            Answer::Ended(_) | Answer::Ran(_) | Answer::Printed(_) => {}
+            JobEnd::Reprinted(said) => show_oddities(rt, subject, said.odd),
+            JobEnd::Listed(odd) => show_brief(rt, subject, odd),
+            JobEnd::Remarked(odd) => show_oddities(rt, subject, odd),
+            JobEnd::Ended(_) | JobEnd::Ran(_) | JobEnd::Printed(_) => {}
         }
     }
     match answer {
-        Answer::Ended(ending) => End::of_ending(ending),
-        Answer::Ran(end) | Answer::Heard(end, _) => End::of_run(end),
-        Answer::Printed(pages) => End::of_run(pages.run),
-        Answer::Overheard(_) | Answer::Reprinted(_) | Answer::Listed(_) | Answer::Remarked(_) =>
+        JobEnd::Ended(ending) => End::of_ending(ending),
+        JobEnd::Ran(end) | JobEnd::Heard(end, _) => End::of_run(end),
+        JobEnd::Printed(pages) => End::of_run(pages.run),
+        JobEnd::Overheard(_) | JobEnd::Reprinted(_) | JobEnd::Listed(_) | JobEnd::Remarked(_) =>
             End::Done,
     }
 }

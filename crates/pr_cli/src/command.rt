@@ -2,7 +2,7 @@
 
 ghost use Rattle.std.specs.Prelude.{◌≡◌};
 
-use crate::answers::{Manner, answer_task, tell};
+use crate::answers::{Session, run_task, tell};
 use crate::meant::meant;
 use crate::refusals::{refuse, refuse_task, refuse_word};
 use crate::statuses::{End, is_answered};
@@ -94,16 +94,14 @@ fn answer_words(
     let is_quiet = is_quiet(texts.as_slice());
     match read_task(rt.alloc(), texts.as_slice()) {
         Ok(task) => {
-            let manner = Manner {
+            let session = Session {
                 is_explained,
                 is_quiet,
-                is_typed: terminals.input,
-                is_watched: terminals.error,
-                is_seen: terminals.output,
+                terminals,
                 is_reversing,
             };
             let note = ending_note(texts.as_slice(), &task);
-            let status = answer_task(rt, task, manner);
+            let status = run_task(rt, task, session);
             if !is_quiet && (is_explained || terminals.error) && is_answered(status) {
                 show_note(rt, note);
             }

@@ -8,11 +8,11 @@ ghost use Rattle.pr_jobs.specs.Report.{IsReportFault};
 ghost use Rattle.pr_input.specs.Watched.{wrapped};
 ghost use Rattle.pr_cli.specs.Jobs.{AnswersJob, AnswersRecording, AnswersRun, AnswersTrace, AnswersTraced, IsJobFault, IsPrintFault, IsRecordingFault, KeepsOutput, KeepsRun, KeepsTrace, ReadsInput, ReadsRecording, ReadsTrace, found_input, found_job, listening_of, restarted_job, seen_format, seen_job, seen_output, seen_reading};
 
-use pr_capture::{Source, TraceFormat, TraceInput, found_source};
+use pr_capture::{InputFormat, OutputFormat, TraceInput, found_source};
 use pr_dots::Shapes;
 use pr_jobs::{
-    CliFault, Ending, PagesEnd, RunEnd, Start, Watched, bus_as_over, bus_over, check_as_over,
-    check_over, pages_as_over, pages_over, raw_over,
+    CliFault, Ending, PagesEnd, RunEnd, Start, Watched, bus_over, check_over, pages_over, raw_over,
+    write_bus_trace, write_check_report, write_pages,
 };
 use pr_options::{CheckOutput, DecodeOutput, Hearing, Job, PagesOutput};
 use pr_recording::{
@@ -26,7 +26,7 @@ use std::io::{Read, Write};
 
 /// How a job ended.
 #[derive(Clone, Copy, Debug, PartialEq, Eq)]
-pub enum Answer {
+pub enum JobEnd {
     /// It wrote what was asked for. Of a run this does not say which error stopped it, and where.
     Ended(Ending),
     /// It wrote what was asked for of a run that ended so.
@@ -179,11 +179,11 @@ pub fn seen_job<'a>(job: Job<'a>) -> Job<'a>
 ///
 /// # Errors
 ///
-/// Those of the job's call: [`pr_jobs::pages_as_over`] for pages, or [`pr_jobs::pages_over`] for a list of marks where
-/// nobody asks for a stop's place, and [`pr_recording::run_bytes_over`] for bytes; [`pr_jobs::bus_as_over`], or
+/// Those of the job's call: [`pr_jobs::write_pages`] for pages, or [`pr_jobs::pages_over`] for a list of marks where
+/// nobody asks for a stop's place, and [`pr_recording::run_bytes_over`] for bytes; [`pr_jobs::write_bus_trace`], or
 /// [`pr_jobs::bus_over`] for a trace text where nobody asks for a stop's place; [`pr_jobs::check_over`] for the frames
 /// of a trace text, [`pr_recording::check_json_over`] for the JSON of any trace, and else
-/// [`pr_jobs::check_as_over`]; [`pr_recording::decode_over`] for a list and for JSON, [`pr_recording::bytes_over`], and
+/// [`pr_jobs::write_check_report`]; [`pr_recording::decode_over`] for a list and for JSON, [`pr_recording::bytes_over`], and
 /// [`pr_recording::reprint_over`] for pages; [`pr_jobs::raw_over`]. They leave what they leave there. A read failed exactly
 /// if the input has failed, and a write exactly if the output has.
 pub fn do_job<R: Read, W: Write>(
@@ -193,7 +193,7 @@ pub fn do_job<R: Read, W: Write>(
     job: Job<'_>,
     shapes: &Shapes,
     is_located: bool,
-) -> Result<Answer, CliFault>
+) -> Result<JobEnd, CliFault>
     // the caller's part
     requires fresh { AreFresh input.old output.old }
     // what it gives
@@ -228,7 +228,7 @@ pub fn do_job<R: Read, W: Write>(
             ..
         } => {
             check_trace(alloc, input, output, trace, wanted)?;
-            Ok(Answer::Ended(Ending::Done))
+            Ok(JobEnd::Ended(Ending::Done))
         }
         Job::Decode {
             input: trace,
@@ -237,7 +237,7 @@ pub fn do_job<R: Read, W: Write>(
         } => decode_recording(alloc, input, output, trace, wanted, shapes),
         Job::Raw { lower, format } => {
             let page = raw_over(alloc, input, output, lower, format, shapes)?;
-            Ok(Answer::Printed(page))
+            Ok(JobEnd::Printed(page))
         }
     }
 }
@@ -253,7 +253,7 @@ fn print_run<R: Read, W: Write>(
     wanted: PagesOutput,
     shapes: &Shapes,
     is_located: bool,
-) -> Result<Answer, CliFault>
+) -> Result<JobEnd, CliFault>
     // the caller's part
     requires fresh { AreFresh input.old output.old }
     // what it gives
@@ -268,15 +268,15 @@ fn print_run<R: Read, W: Write>(
     match (wanted, is_located) {
         (PagesOutput::Pages(Format::List), false) => {
             let ending = list_run(alloc, input, output, start, shapes)?;
-            Ok(Answer::Ended(ending))
+            Ok(JobEnd::Ended(ending))
         }
         (PagesOutput::Pages(format), _) => {
-            let end = pages_as_over(alloc, input, output, start, format, shapes)?;
-            Ok(Answer::Printed(end))
+            let end = write_pages(alloc, input, output, start, format, shapes)?;
+            Ok(JobEnd::Printed(end))
         }
         (PagesOutput::Bytes(device), _) => {
             let (end, heard) = run_bytes_over(alloc, input, output, start, device)?;
-            Ok(Answer::Heard(end, heard))
+            Ok(JobEnd::Heard(end, heard))
         }
     }
 }
@@ -317,9 +317,9 @@ fn trace_run<R: Read, W: Write>(
     input: &mut Watched<R>,
     output: &mut Watched<W>,
     start: Start,
-    format: TraceFormat,
+    format: OutputFormat,
     is_located: bool,
-) -> Result<Answer, CliFault>
+) -> Result<JobEnd, CliFault>
     // the caller's part
     requires fresh { AreFresh input.old output.old }
     // what it gives
@@ -332,13 +332,13 @@ fn trace_run<R: Read, W: Write>(
     ensures does { DoesJob IsRunFault input.new output.new result }
 {
     match (format, is_located) {
-        (TraceFormat::Text, false) => {
+        (OutputFormat::Text, false) => {
             let ending = text_run(alloc, input, output, start)?;
-            Ok(Answer::Ended(ending))
+            Ok(JobEnd::Ended(ending))
         }
         _ => {
-            let end = bus_as_over(alloc, input, output, start, format)?;
-            Ok(Answer::Ran(end))
+            let end = write_bus_trace(alloc, input, output, start, format)?;
+            Ok(JobEnd::Ran(end))
         }
     }
 }
@@ -354,7 +354,7 @@ fn text_run<R: Read, W: Write>(
     requires fresh { AreFresh input.old output.old }
     // what it gives
     ensures bus { IfSome (R.remaining (wrapped input.old)) (λ script.
-        AnswersBus start TraceFormat.Text script
+        AnswersBus start OutputFormat.Text script
         (W.contents (wrapped output.old)) (W.contents (wrapped output.new)) result) }
     ensures at_end { ReadsToEnd (R.remaining (wrapped input.new)) result }
     // when it refuses, and what that leaves
@@ -390,8 +390,10 @@ fn check_trace<R: Read, W: Write>(
 {
     match (trace.source, wanted) {
         (_, CheckOutput::Json) => check_json_over(alloc, input, output, trace),
-        (Source::Text, CheckOutput::Report(Report::Frames)) => check_over(alloc, input, output),
-        (_, CheckOutput::Report(report)) => check_as_over(alloc, input, output, trace, report),
+        (InputFormat::Text, CheckOutput::Report(Report::Frames)) => check_over(
+            alloc, input, output,
+        ),
+        (_, CheckOutput::Report(report)) => write_check_report(alloc, input, output, trace, report),
     }
 }
 
@@ -404,7 +406,7 @@ fn decode_recording<R: Read, W: Write>(
     trace: TraceInput<'_>,
     wanted: DecodeOutput,
     shapes: &Shapes,
-) -> Result<Answer, CliFault>
+) -> Result<JobEnd, CliFault>
     // the caller's part
     requires fresh { AreFresh input.old output.old }
     // what it gives
@@ -418,21 +420,21 @@ fn decode_recording<R: Read, W: Write>(
     match wanted {
         DecodeOutput::Readings(detail) => {
             let odd = decode_over(alloc, input, output, trace, Wording::Lines(detail))?;
-            Ok(Answer::Listed(odd))
+            Ok(JobEnd::Listed(odd))
         }
         DecodeOutput::Json => {
             let odd = decode_over(alloc, input, output, trace, Wording::Json)?;
-            Ok(Answer::Remarked(odd))
+            Ok(JobEnd::Remarked(odd))
         }
         DecodeOutput::Bytes(device, hearing) => {
             let listening = listening_of(hearing);
             let said = bytes_over(alloc, input, output, trace, listening, device)?;
-            Ok(Answer::Overheard(said))
+            Ok(JobEnd::Overheard(said))
         }
         DecodeOutput::Pages(format, hearing) => {
             let listening = listening_of(hearing);
             let said = reprint_over(alloc, input, output, trace, listening, format, shapes)?;
-            Ok(Answer::Reprinted(said))
+            Ok(JobEnd::Reprinted(said))
         }
     }
 }

@@ -4,7 +4,7 @@ ghost use Rattle.std.specs.Prelude.{◌≡◌};
 ghost use Rattle.pr_cli.specs.Jobs.{shown_in, strict_if, strict_in, strict_of};
 ghost use Rattle.pr_cli.specs.Statuses.{hears, hold, holds, lacks, leaves_out};
 
-use crate::jobs::Answer;
+use crate::jobs::JobEnd;
 use pr_jobs::{HeldMarks, PagesEnd, shown_of};
 use pr_options::{DecodeOutput, Job};
 use pr_recording::LeftOut;
@@ -58,22 +58,22 @@ fn shown_in(format: Format) -> Present
     }
 }
 
-impl Answer {
+impl JobEnd {
     /// Whether the pages or bytes of these printers, which were written, lack something that the recording has.
     pub(crate) fn lacks(self, shown: Present) -> bool
         ensures { result ≡ lacks shown self }
     {
         match self {
-            Answer::Overheard(said) => leaves_out(said.left) || !said.has_byte,
-            Answer::Reprinted(said) => {
+            JobEnd::Overheard(said) => leaves_out(said.left) || !said.has_byte,
+            JobEnd::Reprinted(said) => {
                 leaves_out(said.left) || !hears(shown, said.present) || hold(shown, said.end)
             }
-            Answer::Ended(_)
-            | Answer::Ran(_)
-            | Answer::Printed(_)
-            | Answer::Heard(_, _)
-            | Answer::Listed(_)
-            | Answer::Remarked(_) => false,
+            JobEnd::Ended(_)
+            | JobEnd::Ran(_)
+            | JobEnd::Printed(_)
+            | JobEnd::Heard(_, _)
+            | JobEnd::Listed(_)
+            | JobEnd::Remarked(_) => false,
         }
     }
 }

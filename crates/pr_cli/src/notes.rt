@@ -7,7 +7,7 @@ use crate::script_lines::{
     wrapped_line,
 };
 use crate::strings::{Noting, noted_in_strings};
-use pr_capture::{Source, Threshold, TraceInput};
+use pr_capture::{InputFormat, Threshold, TraceInput};
 use pr_explain::{Misread, misread_line, repeated_rows, unit_meant};
 use pr_jobs::{HeldMarks, PagesEnd, PaperEnd, RunEnd, shown_of};
 use pr_listing::{
@@ -493,17 +493,17 @@ fn note_marks(rt: &impl Eprint, printer: u8, held: HeldMarks) {
 
 /// Writes a note of a recording's pulses that are at most one microsecond long, if there are any, and what to do about
 /// them. A trace text is no recording of an analyser, whose cross-talk could be left out.
-pub fn note_brief(rt: &impl Eprint, count: u64, source: Source) {
+pub fn note_brief(rt: &impl Eprint, count: u64, source: InputFormat) {
     let (are, them) = match count {
         0 => return,
         1 => ("pulse of a line is", "it"),
         _ => ("pulses of a line are", "them"),
     };
     let _ = match source {
-        Source::Text => rt.eprintln(format_args!(
+        InputFormat::Text => rt.eprintln(format_args!(
             "print1525: note: {count} {are} at most 1 microsecond long; no KERNAL makes such pulses"
         )),
-        Source::Vcd | Source::Csv => rt.eprintln(format_args!(
+        InputFormat::Vcd | InputFormat::Csv => rt.eprintln(format_args!(
             "print1525: note: {count} {are} at most 1 microsecond long; --glitch 1us leaves {them} out"
         )),
     };

@@ -16,7 +16,7 @@ ghost use Rattle.pr_cli.specs.Statuses.{fault_status};
 
 use crate::jobs::restarted_job;
 use pr_base::digit_count;
-use pr_capture::{CaptureFault, CsvReader, Source, TraceInput};
+use pr_capture::{CaptureFault, CsvReader, InputFormat, TraceInput};
 use pr_jobs::{BLOCK, CliFault, Watched};
 use pr_options::Job;
 use pr_wire::Edge;
@@ -87,10 +87,10 @@ fn own_zero<R: Read>(
 }
 
 /// Whether a recording is a table.
-fn is_csv(source: Source) -> bool
+fn is_csv(source: InputFormat) -> bool
     ensures { result ≡ is_csv source }
 {
-    matches!(source, Source::Csv)
+    matches!(source, InputFormat::Csv)
 }
 
 /// The same of a table.

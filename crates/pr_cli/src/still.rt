@@ -1,6 +1,6 @@
 //! What is to be noted of a recording in which a line never changes, or lines change always.
 
-use pr_capture::{Probes, Signals, Source, Threshold, TraceInput, Volts};
+use pr_capture::{InputFormat, Probes, Signals, Threshold, TraceInput, Volts};
 use pr_decode::{Decoder, Reading, Transfer};
 use pr_explain::{read_input, rows_change};
 use pr_report::is_acknowledged;
@@ -102,7 +102,7 @@ pub fn still_note(
 }
 
 /// Whether all edges of a table have one distance, so that lines change in every sample.
-pub fn changes_always(source: Source, edges: &[Edge]) -> bool {
+pub fn changes_always(source: InputFormat, edges: &[Edge]) -> bool {
     let [first, second, rest @ ..] = edges else {
         return false;
     };
@@ -115,7 +115,7 @@ pub fn changes_always(source: Source, edges: &[Edge]) -> bool {
         }
         before = edge.time;
     }
-    source == Source::Csv && edges.len() > MANY
+    source == InputFormat::Csv && edges.len() > MANY
 }
 
 /// What seems to be wrong with a byte of a recording, by the moment of it.

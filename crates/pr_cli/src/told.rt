@@ -8,7 +8,7 @@ use crate::notes::{
 use crate::script_lines::is_continued;
 use crate::still::{EACH_SAMPLE, WrongByte, changes_always, line_note, still_note, wrong_byte};
 use pr_basic::{ScriptFault, StatusMode, cut_line};
-use pr_capture::{Source, TraceFormat, TraceInput};
+use pr_capture::{InputFormat, OutputFormat, TraceInput};
 use pr_explain::{
     Explanation, ScriptPlace, explain_letter, explain_line, explain_reading, explain_script,
     explain_stop, explain_trace, html_instead, read_input, remark_on,
@@ -132,7 +132,7 @@ pub fn ending_note(words: &[&str], task: &Task<'_>) -> Option<&'static str> {
 fn is_default(job: &Job<'_>) -> bool {
     match job {
         Job::Pages(_, _, _, _, output) => *output == PagesOutput::Pages(Format::List),
-        Job::Bus(_, _, _, _, format) => *format == TraceFormat::Text,
+        Job::Bus(_, _, _, _, format) => *format == OutputFormat::Text,
         Job::Check { output, .. } => *output == CheckOutput::Report(Report::Frames),
         Job::Decode { output, .. } => matches!(output, DecodeOutput::Readings(_)),
         Job::Raw { format, .. } => *format == Format::List,
@@ -268,7 +268,7 @@ pub fn is_notable(subject: Subject<'_>, fault: Option<CliFault>) -> bool {
     match (subject, fault) {
         (Subject::Script(_) | Subject::Bytes, None) => true,
         (Subject::Trace(input), None | Some(CliFault::Wave(_)))
-        | (Subject::Recording(input), None) => input.source != Source::Text,
+        | (Subject::Recording(input), None) => input.source != InputFormat::Text,
         _ => false,
     }
 }
@@ -743,7 +743,7 @@ fn trace_told(
     };
     let remarks = remark_on(alloc, bytes, trace)?;
     let mut text = String::new(alloc);
-    if remarks.later > 0 && trace.source != Source::Text {
+    if remarks.later > 0 && trace.source != InputFormat::Text {
         let begins = trace.start.saturating_add(remarks.later);
         write!(
             text,

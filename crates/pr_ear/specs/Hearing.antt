@@ -11,8 +11,8 @@ use Rattle.pr_wire.specs.Table.{fault_of}
 use Rattle.pr_receiver.specs.Heard.{heard_of}
 use Rattle.pr_ear.specs.declared.WireEdge.{WireEdge}
 use Rattle.pr_ear.specs.declared.Answer.{Answer}
-use Rattle.pr_ear.specs.declared.Told.{Told}
-use Rattle.pr_ear.specs.declared.Told.TheVariants.{Heard, Unlawful, TooSmall, NoDevice}
+use Rattle.pr_ear.specs.declared.TraceHeard.{TraceHeard}
+use Rattle.pr_ear.specs.declared.TraceHeard.TheVariants.{Heard, Unlawful, TooSmall, NoDevice}
 
 -- a line is released unless its number is 0
 abbrev pub is_released : ℕ → Bool
@@ -48,7 +48,7 @@ AreHeard device edges numbers =
     × (numbers ≡ map number_of (heard_of device frames))
 
 -- the outcome, by the buffer before and after
-abbrev pub Tells : ℕ → List WireEdge → List ℕ → List ℕ → Told → Type 0
+abbrev pub Tells : ℕ → List WireEdge → List ℕ → List ℕ → TraceHeard → Type 0
 Tells device edges old new (Heard n) =
     (numbers : List ℕ) × AreHeard device edges numbers × (n ≡ length numbers) × (n ≤ length old)
     × (new ≡ numbers ++ drop n old)
@@ -79,7 +79,7 @@ fault_index (Truncated at) = at
 fault_index NoMemory = 0
 
 -- an outcome as numbers
-abbrev pub answer_of : Told → Answer
+abbrev pub answer_of : TraceHeard → Answer
 answer_of (Heard n) = record { code = 0; fault = 0; place = 0; length = n }
 answer_of (Unlawful fault) = record { code = 2; fault = fault_code fault; place = fault_index fault; length = 0 }
 answer_of (TooSmall n) = record { code = 4; fault = 0; place = 0; length = n }

@@ -26,8 +26,8 @@ ghost use Rattle.pr_wire.specs.declared.WaveFault.TheVariants.{NoMemory};
 ghost use Rattle.pr_wire.specs.Table.{fault_of};
 ghost use Rattle.pr_ear.specs.Buffers.{IsFilled, KeepsOn};
 ghost use Rattle.pr_ear.specs.Hearing.{IsDevice, Tells, answer_of, begin_answer_of, edge_of, fault_code, fault_index, number_of};
-ghost use Rattle.pr_ear.specs.declared.Told.{Told};
-ghost use Rattle.pr_ear.specs.declared.Told.TheVariants.{Unlawful};
+ghost use Rattle.pr_ear.specs.declared.TraceHeard.{TraceHeard};
+ghost use Rattle.pr_ear.specs.declared.TraceHeard.TheVariants.{Unlawful};
 
 mod decoder_numbers;
 mod decoding;
@@ -85,7 +85,7 @@ pub struct WireEdge {
 
 /// What came of a trace.
 #[derive(Clone, Copy, Debug, PartialEq, Eq)]
-pub enum Told {
+pub enum TraceHeard {
     /// This many inputs were heard, and they are at the front of the buffer.
     Heard(usize),
     /// The trace is not lawful, with its first fault.
@@ -187,7 +187,7 @@ fn fill(device: u8, edges: &[WireEdge], out: &mut [u16]) -> Result<usize, WaveFa
 }
 
 /// Goes over a trace to count what a device hears of it, and once more where the buffer has room.
-fn receive_twice(device: u8, edges: &[WireEdge], out: &mut [u16]) -> Told
+fn receive_twice(device: u8, edges: &[WireEdge], out: &mut [u16]) -> TraceHeard
     requires least { 4 ≤ device }
     requires greatest { device ≤ 30 }
     ensures tells { Tells device edges.now out.old out.new result }
@@ -198,14 +198,14 @@ fn receive_twice(device: u8, edges: &[WireEdge], out: &mut [u16]) -> Told
     lawful_traces();
     let count = match fill(device, edges, &mut []) {
         Ok(count) => count,
-        Err(fault) => return Told::Unlawful(fault),
+        Err(fault) => return TraceHeard::Unlawful(fault),
     };
     if count > out.len() {
-        return Told::TooSmall(count);
+        return TraceHeard::TooSmall(count);
     }
     match fill(device, edges, out) {
-        Ok(_) => Told::Heard(count),
-        Err(fault) => Told::Unlawful(fault),
+        Ok(_) => TraceHeard::Heard(count),
+        Err(fault) => TraceHeard::Unlawful(fault),
     }
 }
 
@@ -216,7 +216,7 @@ fn receive_twice(device: u8, edges: &[WireEdge], out: &mut [u16]) -> Told
 /// It is refused where the device is not one of 4 to 30; with the first fault of the edges, where they
 /// are not lawful; and where there are more inputs than the buffer has room for, with their number.
 /// All of the buffer is then as it was.
-pub fn receive(device: u8, edges: &[WireEdge], out: &mut [u16]) -> Told
+pub fn receive(device: u8, edges: &[WireEdge], out: &mut [u16]) -> TraceHeard
     ensures tells { Tells device edges.now out.old out.new result }
     ensures memory { result ≢ Unlawful NoMemory }
     ensures length { length out.new ≡ length out.old }
@@ -224,7 +224,7 @@ pub fn receive(device: u8, edges: &[WireEdge], out: &mut [u16]) -> Told
     if is_device(device) {
         receive_twice(device, edges, out)
     } else {
-        Told::NoDevice
+        TraceHeard::NoDevice
     }
 }
 
@@ -267,17 +267,17 @@ fn begun(exists: bool) -> Answer
 }
 
 /// The answer, as numbers.
-fn numbered(told: Told) -> Answer
+fn numbered(told: TraceHeard) -> Answer
     ensures { result ≡ answer_of told }
 {
     match told {
-        Told::Heard(length) => plain(0, length),
-        Told::TooSmall(length) => plain(4, length),
-        Told::Unlawful(fault) => {
+        TraceHeard::Heard(length) => plain(0, length),
+        TraceHeard::TooSmall(length) => plain(4, length),
+        TraceHeard::Unlawful(fault) => {
             let (number, place) = numbers_of(fault);
             refused(number, place)
         }
-        Told::NoDevice => refused(21, 0),
+        TraceHeard::NoDevice => refused(21, 0),
     }
 }
 
@@ -305,7 +305,7 @@ pub extern "C" fn print1525_receive(
     out: &mut [u16],
     answer: &mut Answer,
 )
-    ensures tells { (told : Told) × Tells device edges.now out.old out.new told × (answer.new ≡ answer_of told) }
+    ensures tells { (told : TraceHeard) × Tells device edges.now out.old out.new told × (answer.new ≡ answer_of told) }
     ensures length { length out.new ≡ length out.old }
 {
     *answer = numbered(receive(device, edges, out));

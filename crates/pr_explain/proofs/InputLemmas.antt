@@ -3,7 +3,7 @@ use Rattle.std.proofs.Common.{◌≡◌, ℕ, ◌+◌, ◌<◌, List, [], ◌∷
 use Rattle.std.proofs.lemmas.List.{take_more}
 use Rattle.std.specs.Prelude.{IfSome}
 use Rattle.pr_wire.specs.declared.Edge.{Edge}
-use Rattle.pr_capture.specs.declared.format.Source.{Source}
+use Rattle.pr_capture.specs.declared.format.InputFormat.{InputFormat}
 use Rattle.pr_capture.specs.declared.format.TraceInput.{TraceInput}
 use Rattle.pr_jobs.specs.Begun.{CountsOn, HasBegun}
 use Rattle.pr_jobs.specs.Inputs.{HasEdges, edges_in}
@@ -21,7 +21,7 @@ said_whole input bytes old new last known none gives says =
     subst (λ text. Says input text last.edges.items last.fault × IfSome last.fault IsOwnFault) (append-nil bytes) (says input bytes [] [] taken (λ h. refl))
 
 -- one edge more is counted
-pub counted_more : (source : Source) (edges : List Edge) (i : ℕ) (d counted : Edge) (old new : Beginning) (there : List Edge) → i < length edges → HasBegun source (take i edges) old
+pub counted_more : (source : InputFormat) (edges : List Edge) (i : ℕ) (d counted : Edge) (old new : Beginning) (there : List Edge) → i < length edges → HasBegun source (take i edges) old
     → there ≡ edges_checked source (take i edges) → CountsOn (get_or edges i d) counted old new
     → HasBegun source (take (i + 1) edges) new × (there ++ counted ∷ [] ≡ edges_checked source (take (i + 1) edges))
 counted_more source edges i d counted old new there within begun is counts =

@@ -20,7 +20,7 @@ use crate::timed::has_times_last;
 use crate::words::begins_listing;
 use pr_base::digit_count;
 use pr_basic::cut_line;
-use pr_capture::{CaptureFault, Signals, Source, TraceInput, Wire};
+use pr_capture::{CaptureFault, InputFormat, Signals, TraceInput, Wire};
 use pr_jobs::CliFault;
 use pr_wire::{NoMemory, TraceFault};
 use std::alloc::Global;
@@ -233,16 +233,16 @@ fn push_rule(
     let line = line_with(bytes, number);
     let signals = input.signals;
     match (fault, input.source) {
-        (CliFault::Capture(CaptureFault::NoSignal(_, wire)), Source::Vcd) => {
+        (CliFault::Capture(CaptureFault::NoSignal(_, wire)), InputFormat::Vcd) => {
             push_no_signal(alloc, text, bytes, wire, signals)?;
             push_dump_names(alloc, text, bytes)
         }
-        (CliFault::Capture(CaptureFault::TwoSignals(_, wire)), Source::Vcd) => {
+        (CliFault::Capture(CaptureFault::TwoSignals(_, wire)), InputFormat::Vcd) => {
             let (_, name) = line_and_name(wire, signals);
             push_same_names(alloc, text, bytes, name, second_name(wire, name))
         }
-        (CliFault::Capture(fault), Source::Vcd) => push_dump_rule(text, bytes, line, fault),
-        (CliFault::Capture(fault), Source::Csv) => push_table_fault(
+        (CliFault::Capture(fault), InputFormat::Vcd) => push_dump_rule(text, bytes, line, fault),
+        (CliFault::Capture(fault), InputFormat::Csv) => push_table_fault(
             text, bytes, input, fault, number,
         ),
         _ => push_text_rule(text, line),
@@ -317,19 +317,19 @@ fn without_mark(line: &[u8]) -> &[u8] {
 
 /// Whether the line of this number, with this fault, may be the last of a recording that was cut: it has no end, and
 /// lacks something there.
-fn may_be_cut(bytes: &[u8], number: usize, fault: CaptureFault, source: Source) -> bool {
+fn may_be_cut(bytes: &[u8], number: usize, fault: CaptureFault, source: InputFormat) -> bool {
     let line = line_with(bytes, number);
     if line.is_empty() || line.ends_with(b"\n") {
         return false;
     }
     match fault {
         CaptureFault::GoesBack(_) | CaptureFault::BadTime(_) => {
-            source == Source::Vcd
+            source == InputFormat::Vcd
                 || lacks_cells(bytes, line, number)
                 || ends_with_time(bytes, number)
         }
         CaptureFault::NoLevel(_, _) | CaptureFault::BadLevel(_) => {
-            source == Source::Csv && lacks_cells(bytes, line, number)
+            source == InputFormat::Csv && lacks_cells(bytes, line, number)
         }
         CaptureFault::BadWord(_) | CaptureFault::NoEnd(_) => true,
         _ => false,

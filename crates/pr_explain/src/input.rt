@@ -3,7 +3,7 @@
 ghost use Rattle.std.specs.Prelude.{◌≡◌, IfOk, IfSome};
 ghost use Rattle.pr_jobs.specs.Report.{Says, IsOwnFault, edges_checked};
 
-use pr_capture::{Source, TraceInput};
+use pr_capture::{InputFormat, TraceInput};
 use pr_jobs::{Beginning, EdgeReader, LastEdges};
 use pr_wire::{Edge, NoMemory};
 use std::alloc::Global;
@@ -20,7 +20,7 @@ pub fn read_input(alloc: Global, bytes: &[u8], input: TraceInput<'_>) -> Result<
 }
 
 /// The edges of an input, counted from where its trace begins, as `check` counts them.
-pub fn counted(alloc: Global, source: Source, edges: &[Edge]) -> Result<Vec<Edge>, NoMemory>
+pub fn counted(alloc: Global, source: InputFormat, edges: &[Edge]) -> Result<Vec<Edge>, NoMemory>
     ensures { IfOk result (λ counted. counted.items ≡ edges_checked source edges.now) }
 {
     let mut beginning = Beginning::new(source);

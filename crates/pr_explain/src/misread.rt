@@ -4,7 +4,7 @@ use crate::names::{first_field, is_level, split_field};
 use crate::tables::{has_word_of_rates, is_in_front, separator_at};
 use crate::texts::unframed;
 use crate::timed::last_field;
-use pr_capture::{Source, TraceInput};
+use pr_capture::{InputFormat, TraceInput};
 
 /// A line of a table that is probably not meant as it is read, by its number from 1.
 #[derive(Clone, Copy)]
@@ -42,7 +42,7 @@ struct Rows<'a> {
 
 /// The first line of a table that is probably not meant as it is read.
 pub fn misread_line(recording: &[u8], input: TraceInput<'_>) -> Option<Misread> {
-    if input.source != Source::Csv {
+    if input.source != InputFormat::Csv {
         return None;
     }
     let mut rows: Option<Rows<'_>> = None;

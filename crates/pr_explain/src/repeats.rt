@@ -3,7 +3,7 @@
 use crate::input::read_input;
 use crate::tables::is_in_front;
 use crate::timed::{TimedTable, around_time, table_of, time_of, whole_lines};
-use pr_capture::{Source, TraceInput};
+use pr_capture::{InputFormat, TraceInput};
 use pr_wire::{Edge, Levels, NoMemory};
 use std::alloc::Global;
 
@@ -18,7 +18,7 @@ pub fn repeated_rows(
     recording: &[u8],
     input: TraceInput<'_>,
 ) -> Result<usize, NoMemory> {
-    if input.source != Source::Csv {
+    if input.source != InputFormat::Csv {
         return Ok(0);
     }
     let Some(table) = table_of(whole_lines(recording)) else {
@@ -45,7 +45,7 @@ pub fn rows_change(
     recording: &[u8],
     input: TraceInput<'_>,
 ) -> Result<bool, NoMemory> {
-    if input.source != Source::Csv {
+    if input.source != InputFormat::Csv {
         return Ok(false);
     }
     let Some(table) = table_of(whole_lines(recording)) else {

@@ -1,6 +1,6 @@
 //! Pieces of the texts.
 
-use pr_capture::{Source, TraceInput};
+use pr_capture::{InputFormat, TraceInput};
 use pr_wire::{Edge, Levels};
 use std::fmt;
 
@@ -48,8 +48,8 @@ fn front(line: &[u8]) -> &[u8] {
 /// From which microsecond of its recording an input's times count; 0 for a trace text.
 pub fn start_of(input: TraceInput<'_>) -> u64 {
     match input.source {
-        Source::Text => 0,
-        Source::Vcd | Source::Csv => input.start,
+        InputFormat::Text => 0,
+        InputFormat::Vcd | InputFormat::Csv => input.start,
     }
 }
 
@@ -58,7 +58,7 @@ pub fn start_of(input: TraceInput<'_>) -> u64 {
 pub fn trace_start(input: TraceInput<'_>, edges: &[Edge]) -> u64 {
     let start = start_of(input);
     match (input.source, edges) {
-        (Source::Vcd | Source::Csv, [first, ..]) => start.saturating_add(first.time),
+        (InputFormat::Vcd | InputFormat::Csv, [first, ..]) => start.saturating_add(first.time),
         _ => start,
     }
 }

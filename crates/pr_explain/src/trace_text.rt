@@ -4,7 +4,7 @@ use crate::edges::{EdgePlace, Followed};
 use crate::rows::Miss;
 use crate::states::{LAST_TIME, push_rows, push_state};
 use crate::texts::{Digits, Shown};
-use pr_capture::{Source, TraceInput};
+use pr_capture::{InputFormat, TraceInput};
 use pr_wire::{Edge, Levels, NoMemory, WaveFault};
 
 /// The first edge of a trace.
@@ -57,10 +57,10 @@ pub fn push_stop(
 }
 
 /// Adds that there is no edge.
-fn push_no_edge(text: &mut String, source: Source) -> Result<(), NoMemory> {
+fn push_no_edge(text: &mut String, source: InputFormat) -> Result<(), NoMemory> {
     match source {
-        Source::Text => write!(text, "  expected {FIRST}, found no edge\n"),
-        Source::Vcd | Source::Csv => {
+        InputFormat::Text => write!(text, "  expected {FIRST}, found no edge\n"),
+        InputFormat::Vcd | InputFormat::Csv => {
             write!(
                 text,
                 "  the recording has no sample of ATN, CLOCK and DATA\n"
@@ -70,10 +70,10 @@ fn push_no_edge(text: &mut String, source: Source) -> Result<(), NoMemory> {
 }
 
 /// Adds the index of an edge, and its line where it has one.
-pub fn push_index(text: &mut String, index: usize, source: Source) -> Result<(), NoMemory> {
+pub fn push_index(text: &mut String, index: usize, source: InputFormat) -> Result<(), NoMemory> {
     match source {
-        Source::Text => write!(text, "  line {}, edge {index}: ", index.saturating_add(1)),
-        Source::Vcd | Source::Csv => write!(text, "  edge {index}: "),
+        InputFormat::Text => write!(text, "  line {}, edge {index}: ", index.saturating_add(1)),
+        InputFormat::Vcd | InputFormat::Csv => write!(text, "  edge {index}: "),
     }
 }
 
@@ -82,7 +82,7 @@ fn push_bad_start(text: &mut String, trace: TraceSaid<'_>, edge: Edge) -> Result
     let start = trace.start;
     write!(text, "{}\n", Shown { edge, start })?;
     write!(text, "  expected {FIRST}\n")?;
-    if trace.input.source == Source::Text {
+    if trace.input.source == InputFormat::Text {
         return Ok(());
     }
     push_start(text, trace)?;

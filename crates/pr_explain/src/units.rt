@@ -5,7 +5,7 @@ use crate::oddities::has_byte;
 use crate::tables::{begins_number, is_in_front};
 use crate::timed::{TimedTable, table_of, time_of, whole_lines};
 use pr_basic::cut_line;
-use pr_capture::{Source, TraceInput};
+use pr_capture::{InputFormat, TraceInput};
 use pr_wire::NoMemory;
 use std::alloc::Global;
 
@@ -81,7 +81,7 @@ pub fn unit_meant(
     recording: &[u8],
     input: TraceInput<'_>,
 ) -> Result<Option<TimeUnit>, NoMemory> {
-    if input.source != Source::Csv {
+    if input.source != InputFormat::Csv {
         return Ok(None);
     }
     let lines = whole_lines(recording);

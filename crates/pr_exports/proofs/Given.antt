@@ -28,36 +28,36 @@ use Rattle.pr_exports.specs.Giving.{Gives, GivesDelays, GivesEdges, GivesFault, 
 use Rattle.pr_exports.specs.Lengths.{interval_numbers}
 use Rattle.pr_exports.specs.Numbers.{AreLineNumbers, IsFaultRow, edge_numbers, reading_rows}
 use Rattle.pr_exports.specs.Rows.{EndsReadings}
-use Rattle.pr_exports.specs.declared.answer.Told.{Told}
-use Rattle.pr_exports.specs.declared.answer.Told.TheVariants.{Refused}
+use Rattle.pr_exports.specs.declared.answer.TextGiven.{TextGiven}
+use Rattle.pr_exports.specs.declared.answer.TextGiven.TheVariants.{Refused}
 use Rattle.pr_exports.specs.declared.rows.Ended.{Ended}
 
 -- what a recording says is handed over
-pub gives-readings : (input : TraceInput) (wording : Wording) (bytes text old new : List ℕ) (made : Result Oddities CliFault) (told : Told)
+pub gives-readings : (input : TraceInput) (wording : Wording) (bytes text old new : List ℕ) (made : Result Oddities CliFault) (told : TextGiven)
     → AnswersDecode trace_limit wording input bytes (Some []) (Some text) made → Gives (without_value made) text old new told → GivesReadings input wording bytes old new told
 gives-readings input wording bytes text old new made told a g = (made, text, a, g)
 
 -- so are its pages
-pub gives-pages : (shapes : Shapes) (input : TraceInput) (format : Format) (bytes text old new : List ℕ) (made : Result Reprinted CliFault) (told : Told)
+pub gives-pages : (shapes : Shapes) (input : TraceInput) (format : Format) (bytes text old new : List ℕ) (made : Result Reprinted CliFault) (told : TextGiven)
     → AnswersPages shapes input nobody format bytes (Some []) (Some text) made → Gives (without_value made) text old new told → GivesPages shapes input format bytes old new told
 gives-pages shapes input format bytes text old new made told a g = (made, text, a, g)
 
 -- so are edges
-pub gives-edges : (input : TraceInput) (bytes : List ℕ) (edges : List Edge) (own : Option CliFault) (numbers old new : List ℕ) (told : Told)
+pub gives-edges : (input : TraceInput) (bytes : List ℕ) (edges : List Edge) (own : Option CliFault) (numbers old new : List ℕ) (told : TextGiven)
     → Says input bytes edges own → numbers ≡ edge_numbers edges → Gives (made_of own) numbers old new told → GivesEdges input bytes old new told
 gives-edges input bytes edges own numbers old new told says are g =
     let Q : List ℕ → Type 0 = λ l. Gives (made_of own) l old new told in
     inl (edges, own, says, subst Q are g)
 
 -- so are the delays that edges end
-pub gives-delays : (input : TraceInput) (bytes : List ℕ) (edges : List Edge) (own : Option CliFault) (numbers old new : List ℕ) (told : Told)
+pub gives-delays : (input : TraceInput) (bytes : List ℕ) (edges : List Edge) (own : Option CliFault) (numbers old new : List ℕ) (told : TextGiven)
     → Says input bytes edges own → numbers ≡ edge_delays edges → Gives (made_of own) numbers old new told → GivesDelays input bytes old new told
 gives-delays input bytes edges own numbers old new told says are g =
     let Q : List ℕ → Type 0 = λ l. Gives (made_of own) l old new told in
     inl (edges, own, says, subst Q are g)
 
 -- so are the rows of readings
-pub gives-rows : (input : TraceInput) (detail : Detail) (bytes : List ℕ) (edges : List Edge) (own : Option CliFault) (ended : Ended) (rows old new : List ℕ) (told : Told)
+pub gives-rows : (input : TraceInput) (detail : Detail) (bytes : List ℕ) (edges : List Edge) (own : Option CliFault) (ended : Ended) (rows old new : List ℕ) (told : TextGiven)
     → Says input bytes edges own → EndsReadings edges own ended → rows ≡ reading_rows detail at_start ended.readings.items → Gives (made_of ended.stop) rows old new told
     → GivesRows input detail bytes old new told
 gives-rows input detail bytes edges own ended rows old new told says ends are g =
@@ -67,7 +67,7 @@ gives-rows input detail bytes edges own ended rows old new told says ends are g 
     inl (edges, own, says, subst P ends.stop (subst R ends.readings (subst Q are g)))
 
 -- so is what the lengths of intervals come to
-pub gives-intervals : (input : TraceInput) (bytes : List ℕ) (edges : List Edge) (own : Option CliFault) (ended : Ended) (numbers old new : List ℕ) (told : Told)
+pub gives-intervals : (input : TraceInput) (bytes : List ℕ) (edges : List Edge) (own : Option CliFault) (ended : Ended) (numbers old new : List ℕ) (told : TextGiven)
     → Says input bytes edges own → EndsReadings edges own ended → numbers ≡ interval_numbers intervals ended.readings.items → Gives (made_of ended.stop) numbers old new told
     → GivesIntervals input bytes old new told
 gives-intervals input bytes edges own ended numbers old new told says ends are g =
@@ -77,14 +77,14 @@ gives-intervals input bytes edges own ended numbers old new told says ends are g
     inl (edges, own, says, subst P ends.stop (subst R ends.readings (subst Q are g)))
 
 -- so are the lines of statements, or a script's fault
-pub gives-lines : (script : List ℕ) (statements : List Statement) (numbers old new : List ℕ) (told : Told)
+pub gives-lines : (script : List ℕ) (statements : List Statement) (numbers old new : List ℕ) (told : TextGiven)
     → IsScript script statements → AreLineNumbers 1 (lines_of script) numbers → Gives (Ok tt) numbers old new told → GivesLines script old new told
 gives-lines script statements numbers old new told is are g = inl (statements, numbers, is, are, g)
 
-pub gives-refusal : (script : List ℕ) (fault : ScriptFault) (old new : List ℕ) (told : Told)
+pub gives-refusal : (script : List ℕ) (fault : ScriptFault) (old new : List ℕ) (told : TextGiven)
     → IsFirstFault script fault → told ≡ Refused (Script fault) → new ≡ old → GivesLines script old new told
 gives-refusal script fault old new told is refused same = inr (inl (fault, is, refused, same))
 
 -- and the place of a fault
-pub gives-fault : (script numbers old new : List ℕ) (told : Told) → IsFaultRow script numbers → Gives (Ok tt) numbers old new told → GivesFault script old new told
+pub gives-fault : (script numbers old new : List ℕ) (told : TextGiven) → IsFaultRow script numbers → Gives (Ok tt) numbers old new told → GivesFault script old new told
 gives-fault script numbers old new told is g = inl (numbers, is, g)

@@ -12,7 +12,7 @@ use Rattle.pr_exports.specs.Asked.{HandsInputs}
 use Rattle.pr_exports.specs.Printed.{GivesInputsText}
 use Rattle.pr_exports.specs.Printing.{input_of, inputs_limit, is_no_input}
 use Rattle.pr_exports.specs.declared.answer.Answer.{Answer}
-use Rattle.pr_exports.specs.declared.answer.Told.TheVariants.{Refused}
+use Rattle.pr_exports.specs.declared.answer.TextGiven.TheVariants.{Refused}
 
 -- they are too many
 pub too_many : (shapes : Shapes) (format : Format) (inputs out : List ℕ) (answer : Answer) → inputs_limit < length inputs → answer ≡ ended (Job TooLarge) → HandsInputs shapes format inputs out out answer

@@ -9,8 +9,8 @@ use Rattle.pr_explain.specs.declared.traces.ReadingPlace.TheVariants.{Edge, Line
 use Rattle.pr_explain.specs.declared.traces.TracePlace.{TracePlace}
 use Rattle.pr_exports.specs.Faults.{numbers_of}
 use Rattle.pr_exports.specs.declared.answer.Answer.{Answer}
-use Rattle.pr_exports.specs.declared.answer.Told.{Told}
-use Rattle.pr_exports.specs.declared.answer.Told.TheVariants.{Written, TooSmall, Refused}
+use Rattle.pr_exports.specs.declared.answer.TextGiven.{TextGiven}
+use Rattle.pr_exports.specs.declared.answer.TextGiven.TheVariants.{Written, TooSmall, Refused}
 
 -- an answer without a fault
 abbrev pub plain : (code length : ℕ) → Answer
@@ -31,7 +31,7 @@ ended end =
     }
 
 -- an outcome as numbers; with a fault of an input comes the length of the text before it
-abbrev pub answer_of : Told → Answer
+abbrev pub answer_of : TextGiven → Answer
 answer_of (Written None n) = plain 0 n
 answer_of (Written (Some fault) n) = record (ended (Job fault)) { length = n }
 answer_of (TooSmall n) = plain 4 n

@@ -13,7 +13,7 @@ use Rattle.pr_explain.specs.ScriptPlaces.{IsScriptPlace}
 use Rattle.pr_explain.specs.StopPlaces.{IsStopPlace}
 use Rattle.pr_explain.specs.TracePlaces.{IsReadingPlace, IsTracePlace, nowhere}
 use Rattle.pr_serial.specs.declared.Present.{Present}
-use Rattle.pr_capture.specs.declared.format.Source.{Source}
+use Rattle.pr_capture.specs.declared.format.InputFormat.{InputFormat}
 use Rattle.pr_capture.specs.declared.format.TraceInput.{TraceInput}
 use Rattle.pr_characters.specs.declared.fault.CharactersFault.{CharactersFault}
 use Rattle.pr_dots.specs.declared.character_sets.Shapes.{Shapes}
@@ -28,7 +28,7 @@ use Rattle.pr_exports.specs.Numbers.{bounds_numbers}
 use Rattle.pr_exports.specs.Printing.{AnswersInputs, inputs_limit, is_no_input}
 use Rattle.pr_exports.specs.Settings.{IsInput, is_yes}
 use Rattle.pr_exports.specs.declared.answer.Answer.{Answer}
-use Rattle.pr_exports.specs.declared.answer.Told.{Told}
+use Rattle.pr_exports.specs.declared.answer.TextGiven.{TextGiven}
 use Rattle.pr_exports.specs.declared.listings.Listed.{Listed}
 
 -- a number that means no setting is refused, and the buffer is as it was
@@ -37,23 +37,23 @@ Refuses fault old new answer = (answer ≡ refusal fault 0) × (new ≡ old)
 
 -- the lines of a recording
 abbrev pub TellsReadings :
-    Option Source → (atn clock line : List ℕ) → (inverted start rate : ℕ) → Option Wording → List ℕ → (old new : List ℕ)
+    Option InputFormat → (atn clock line : List ℕ) → (inverted start rate : ℕ) → Option Wording → List ℕ → (old new : List ℕ)
     → Answer → Type 0
 TellsReadings None atn clock line inverted start rate wording bytes old new answer = Refuses 29 old new answer
 TellsReadings (Some source) atn clock line inverted start rate None bytes old new answer = Refuses 20 old new answer
 TellsReadings (Some source) atn clock line inverted start rate (Some wording) bytes old new answer =
     (input : TraceInput) × IsInput source atn clock line (is_yes inverted) start rate input
-    × (told : Told) × GivesReadings input wording bytes old new told × (answer ≡ answer_of told)
+    × (told : TextGiven) × GivesReadings input wording bytes old new told × (answer ≡ answer_of told)
 
 -- what is said of a trace that is checked
 abbrev pub TellsCheck :
-    Option Source → (atn clock line : List ℕ) → (inverted start rate : ℕ) → Option CheckOutput → List ℕ → (old new : List ℕ)
+    Option InputFormat → (atn clock line : List ℕ) → (inverted start rate : ℕ) → Option CheckOutput → List ℕ → (old new : List ℕ)
     → Answer → Type 0
 TellsCheck None atn clock line inverted start rate wanted bytes old new answer = Refuses 29 old new answer
 TellsCheck (Some source) atn clock line inverted start rate None bytes old new answer = Refuses 20 old new answer
 TellsCheck (Some source) atn clock line inverted start rate (Some wanted) bytes old new answer =
     (input : TraceInput) × IsInput source atn clock line (is_yes inverted) start rate input
-    × (told : Told) × GivesCheck input wanted bytes old new told × (answer ≡ answer_of told)
+    × (told : TextGiven) × GivesCheck input wanted bytes old new told × (answer ≡ answer_of told)
 
 -- a file of characters is refused, with its first bad line, and the buffer is as it was
 abbrev pub RefusesCharacters : CharactersFault → (old new : List ℕ) → Answer → Type 0
@@ -61,7 +61,7 @@ RefusesCharacters fault old new answer = (answer ≡ ended (Characters (shapes.C
 
 -- the pages that printers print of a recording
 abbrev pub TellsReprint :
-    Option Source → (atn clock line : List ℕ) → (inverted start rate : ℕ) → Option Format → Result Shapes CharactersFault
+    Option InputFormat → (atn clock line : List ℕ) → (inverted start rate : ℕ) → Option Format → Result Shapes CharactersFault
     → List ℕ → (old new : List ℕ) → Answer → Type 0
 TellsReprint None atn clock line inverted start rate format shapes bytes old new answer = Refuses 29 old new answer
 TellsReprint (Some source) atn clock line inverted start rate None shapes bytes old new answer = Refuses 24 old new answer
@@ -69,54 +69,54 @@ TellsReprint (Some source) atn clock line inverted start rate (Some format) (Err
     RefusesCharacters fault old new answer
 TellsReprint (Some source) atn clock line inverted start rate (Some format) (Ok shapes) bytes old new answer =
     (input : TraceInput) × IsInput source atn clock line (is_yes inverted) start rate input
-    × (told : Told) × GivesPages shapes input format bytes old new told × (answer ≡ answer_of told)
+    × (told : TextGiven) × GivesPages shapes input format bytes old new told × (answer ≡ answer_of told)
 
 -- the edges of a recording
-abbrev pub TellsEdges : Option Source → (atn clock line : List ℕ) → (inverted start rate : ℕ) → List ℕ
+abbrev pub TellsEdges : Option InputFormat → (atn clock line : List ℕ) → (inverted start rate : ℕ) → List ℕ
     → (old new : List ℕ) → Answer → Type 0
 TellsEdges None atn clock line inverted start rate bytes old new answer = Refuses 29 old new answer
 TellsEdges (Some source) atn clock line inverted start rate bytes old new answer =
     (input : TraceInput) × IsInput source atn clock line (is_yes inverted) start rate input
-    × (told : Told) × GivesEdges input bytes old new told × (answer ≡ answer_of told)
+    × (told : TextGiven) × GivesEdges input bytes old new told × (answer ≡ answer_of told)
 
 -- the delay that each edge of a recording ends
-abbrev pub TellsDelays : Option Source → (atn clock line : List ℕ) → (inverted start rate : ℕ) → List ℕ
+abbrev pub TellsDelays : Option InputFormat → (atn clock line : List ℕ) → (inverted start rate : ℕ) → List ℕ
     → (old new : List ℕ) → Answer → Type 0
 TellsDelays None atn clock line inverted start rate bytes old new answer = Refuses 29 old new answer
 TellsDelays (Some source) atn clock line inverted start rate bytes old new answer =
     (input : TraceInput) × IsInput source atn clock line (is_yes inverted) start rate input
-    × (told : Told) × GivesDelays input bytes old new told × (answer ≡ answer_of told)
+    × (told : TextGiven) × GivesDelays input bytes old new told × (answer ≡ answer_of told)
 
 -- a row for each reading of a recording
 abbrev pub TellsRows :
-    Option Source → (atn clock line : List ℕ) → (inverted start rate : ℕ) → Option Detail → List ℕ → (old new : List ℕ)
+    Option InputFormat → (atn clock line : List ℕ) → (inverted start rate : ℕ) → Option Detail → List ℕ → (old new : List ℕ)
     → Answer → Type 0
 TellsRows None atn clock line inverted start rate detail bytes old new answer = Refuses 29 old new answer
 TellsRows (Some source) atn clock line inverted start rate None bytes old new answer = Refuses 20 old new answer
 TellsRows (Some source) atn clock line inverted start rate (Some detail) bytes old new answer =
     (input : TraceInput) × IsInput source atn clock line (is_yes inverted) start rate input
-    × (told : Told) × GivesRows input detail bytes old new told × (answer ≡ answer_of told)
+    × (told : TextGiven) × GivesRows input detail bytes old new told × (answer ≡ answer_of told)
 
 -- what the lengths of each interval of a recording come to
 abbrev pub TellsIntervals :
-    Option Source → (atn clock line : List ℕ) → (inverted start rate : ℕ) → List ℕ → (old new : List ℕ) → Answer → Type 0
+    Option InputFormat → (atn clock line : List ℕ) → (inverted start rate : ℕ) → List ℕ → (old new : List ℕ) → Answer → Type 0
 TellsIntervals None atn clock line inverted start rate bytes old new answer = Refuses 29 old new answer
 TellsIntervals (Some source) atn clock line inverted start rate bytes old new answer =
     (input : TraceInput) × IsInput source atn clock line (is_yes inverted) start rate input
-    × (told : Told) × GivesIntervals input bytes old new told × (answer ≡ answer_of told)
+    × (told : TextGiven) × GivesIntervals input bytes old new told × (answer ≡ answer_of told)
 
 -- the bounds of the delays
 abbrev pub TellsBounds : (old new : List ℕ) → Answer → Type 0
 TellsBounds old new answer =
-    (told : Told) × (Gives (Ok tt) bounds_numbers old new told ⊎ HasNoMemory old new told) × (answer ≡ answer_of told)
+    (told : TextGiven) × (Gives (Ok tt) bounds_numbers old new told ⊎ HasNoMemory old new told) × (answer ≡ answer_of told)
 
 -- the line of each statement of a script
 abbrev pub TellsLines : (script : List ℕ) → (old new : List ℕ) → Answer → Type 0
-TellsLines script old new answer = (told : Told) × GivesLines script old new told × (answer ≡ answer_of told)
+TellsLines script old new answer = (told : TextGiven) × GivesLines script old new told × (answer ≡ answer_of told)
 
 -- the place of a script's first fault
 abbrev pub TellsFault : (script : List ℕ) → (old new : List ℕ) → Answer → Type 0
-TellsFault script old new answer = (told : Told) × GivesFault script old new told × (answer ≡ answer_of told)
+TellsFault script old new answer = (told : TextGiven) × GivesFault script old new told × (answer ≡ answer_of told)
 
 -- the text of an explanation is in the buffer, and the answer has its place's number; or memory for
 -- it was refused. Where there is no place there is no text
@@ -143,7 +143,7 @@ ExplainsStop (Some stop) statement present script old new answer =
 
 -- why a trace is refused
 abbrev pub ExplainsTrace :
-    Option Source → (atn clock line : List ℕ) → (inverted start rate : ℕ) → List ℕ → (old new : List ℕ)
+    Option InputFormat → (atn clock line : List ℕ) → (inverted start rate : ℕ) → List ℕ → (old new : List ℕ)
     → Answer → Type 0
 ExplainsTrace None atn clock line inverted start rate bytes old new answer = Refuses 29 old new answer
 ExplainsTrace (Some source) atn clock line inverted start rate bytes old new answer =
@@ -152,7 +152,7 @@ ExplainsTrace (Some source) atn clock line inverted start rate bytes old new ans
 
 -- why a recording cannot be read to its end
 abbrev pub ExplainsReading :
-    Option Source → (atn clock line : List ℕ) → (inverted start rate : ℕ) → List ℕ → (old new : List ℕ)
+    Option InputFormat → (atn clock line : List ℕ) → (inverted start rate : ℕ) → List ℕ → (old new : List ℕ)
     → Answer → Type 0
 ExplainsReading None atn clock line inverted start rate bytes old new answer = Refuses 29 old new answer
 ExplainsReading (Some source) atn clock line inverted start rate bytes old new answer =
@@ -172,7 +172,7 @@ HandsInputs shapes format inputs old new answer =
     ((index : ℕ) × (length inputs ≤ inputs_limit) × (position is_no_input inputs ≡ Some index)
     × (answer ≡ refusal 28 index) × (new ≡ old))
     ⊎ ((made : Result (Unit {0}) CliFault) × (text : List ℕ) × AnswersInputs shapes format inputs text made
-    × (told : Told) × Gives made text old new told × (answer ≡ answer_of told))
+    × (told : TextGiven) × Gives made text old new told × (answer ≡ answer_of told))
 
 abbrev pub TellsPrint :
     Option Format → Result Shapes CharactersFault → (inputs : List ℕ) → (old new : List ℕ) → Answer → Type 0

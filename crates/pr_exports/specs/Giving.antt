@@ -30,8 +30,8 @@ use Rattle.pr_report.specs.Intervals.{intervals}
 use Rattle.pr_exports.specs.Lengths.{interval_numbers}
 use Rattle.pr_exports.specs.Numbers.{AreLineNumbers, IsFaultRow, edge_numbers, reading_rows}
 use Rattle.pr_exports.specs.declared.answer.Answer.{Answer}
-use Rattle.pr_exports.specs.declared.answer.Told.{Told}
-use Rattle.pr_exports.specs.declared.answer.Told.TheVariants.{Written, TooSmall, Refused}
+use Rattle.pr_exports.specs.declared.answer.TextGiven.{TextGiven}
+use Rattle.pr_exports.specs.declared.answer.TextGiven.TheVariants.{Written, TooSmall, Refused}
 
 -- what was made of an input: the text of the whole input, or the fault that prevents it
 abbrev pub Made : Type 0
@@ -60,7 +60,7 @@ FindsText made (Ok stop) = HasText made stop
 FindsText made (Err fault) = (made ≡ Err fault) × (is_of_input fault ≡ false)
 
 -- the text is at the front of the buffer, and the rest is as it was; or the buffer is too small; or there is no text
-abbrev pub Gives : {X : Type 0} → Made → List X → (old new : List X) → Told → Type 0
+abbrev pub Gives : {X : Type 0} → Made → List X → (old new : List X) → TextGiven → Type 0
 Gives made text old new (Written stop n) =
     HasText made stop × (n ≡ length text) × (n ≤ length old) × (new ≡ text ++ drop n old)
 Gives made text old new (TooSmall n) =
@@ -73,7 +73,7 @@ without_value (Ok value) = Ok tt
 without_value (Err fault) = Err fault
 
 -- the buffer gets the lines of a recording
-abbrev pub GivesReadings : TraceInput → Wording → List ℕ → (old new : List ℕ) → Told → Type 0
+abbrev pub GivesReadings : TraceInput → Wording → List ℕ → (old new : List ℕ) → TextGiven → Type 0
 GivesReadings input wording bytes old new told =
     (made : Result Oddities CliFault) × (text : List ℕ) × AnswersDecode trace_limit wording input bytes (Some []) (Some text) made
     × Gives (without_value made) text old new told
@@ -83,36 +83,36 @@ abbrev pub AnswersCheck : TraceInput → CheckOutput → List ℕ → List ℕ �
 AnswersCheck input (Reported report) bytes text made = AnswersReport input report bytes (Some []) (Some text) made
 AnswersCheck input Json bytes text made = AnswersJson input bytes (Some []) (Some text) made
 
-abbrev pub GivesCheck : TraceInput → CheckOutput → List ℕ → (old new : List ℕ) → Told → Type 0
+abbrev pub GivesCheck : TraceInput → CheckOutput → List ℕ → (old new : List ℕ) → TextGiven → Type 0
 GivesCheck input wanted bytes old new told =
     (made : Made) × (text : List ℕ) × AnswersCheck input wanted bytes text made × Gives made text old new told
 
 -- the buffer gets the pages that printers print of a recording
-abbrev pub GivesPages : Shapes → TraceInput → Format → List ℕ → (old new : List ℕ) → Told → Type 0
+abbrev pub GivesPages : Shapes → TraceInput → Format → List ℕ → (old new : List ℕ) → TextGiven → Type 0
 GivesPages shapes input format bytes old new told =
     (made : Result Reprinted CliFault) × (text : List ℕ) × AnswersPages shapes input nobody format bytes (Some []) (Some text) made
     × Gives (without_value made) text old new told
 
 -- memory was refused, and the buffer is as it was
-abbrev pub HasNoMemory : (old new : List ℕ) → Told → Type 0
+abbrev pub HasNoMemory : (old new : List ℕ) → TextGiven → Type 0
 HasNoMemory old new told = (told ≡ Refused NoMemory) × (new ≡ old)
 
 -- the buffer gets the edges of a recording, up to its fault if it has one
-abbrev pub GivesEdges : TraceInput → List ℕ → (old new : List ℕ) → Told → Type 0
+abbrev pub GivesEdges : TraceInput → List ℕ → (old new : List ℕ) → TextGiven → Type 0
 GivesEdges input bytes old new told =
     ((edges : List Edge) × (own : Option CliFault) × Says input bytes edges own
     × Gives (made_of own) (edge_numbers edges) old new told)
     ⊎ HasNoMemory old new told
 
 -- the buffer gets the delay that each edge of a recording ends, up to its fault if it has one
-abbrev pub GivesDelays : TraceInput → List ℕ → (old new : List ℕ) → Told → Type 0
+abbrev pub GivesDelays : TraceInput → List ℕ → (old new : List ℕ) → TextGiven → Type 0
 GivesDelays input bytes old new told =
     ((edges : List Edge) × (own : Option CliFault) × Says input bytes edges own
     × Gives (made_of own) (edge_delays edges) old new told)
     ⊎ HasNoMemory old new told
 
 -- the buffer gets a row for each reading of a recording, up to where it stops
-abbrev pub GivesRows : TraceInput → Detail → List ℕ → (old new : List ℕ) → Told → Type 0
+abbrev pub GivesRows : TraceInput → Detail → List ℕ → (old new : List ℕ) → TextGiven → Type 0
 GivesRows input detail bytes old new told =
     ((edges : List Edge) × (own : Option CliFault) × Says input bytes edges own
     × Gives (made_of (stop_at (back_in edges) own))
@@ -120,7 +120,7 @@ GivesRows input detail bytes old new told =
     ⊎ HasNoMemory old new told
 
 -- the buffer gets what the lengths of each interval come to, over the readings up to where the recording stops
-abbrev pub GivesIntervals : TraceInput → List ℕ → (old new : List ℕ) → Told → Type 0
+abbrev pub GivesIntervals : TraceInput → List ℕ → (old new : List ℕ) → TextGiven → Type 0
 GivesIntervals input bytes old new told =
     ((edges : List Edge) × (own : Option CliFault) × Says input bytes edges own
     × Gives (made_of (stop_at (back_in edges) own))
@@ -128,7 +128,7 @@ GivesIntervals input bytes old new told =
     ⊎ HasNoMemory old new told
 
 -- the buffer gets the line of each statement of a script
-abbrev pub GivesLines : (script : List ℕ) → (old new : List ℕ) → Told → Type 0
+abbrev pub GivesLines : (script : List ℕ) → (old new : List ℕ) → TextGiven → Type 0
 GivesLines script old new told =
     ((statements : List Statement) × (numbers : List ℕ) × IsScript script statements
     × AreLineNumbers 1 (lines_of script) numbers × Gives (Ok tt) numbers old new told)
@@ -136,7 +136,7 @@ GivesLines script old new told =
     ⊎ HasNoMemory old new told
 
 -- the buffer gets the place of a script's first fault; nothing, where it has none
-abbrev pub GivesFault : (script : List ℕ) → (old new : List ℕ) → Told → Type 0
+abbrev pub GivesFault : (script : List ℕ) → (old new : List ℕ) → TextGiven → Type 0
 GivesFault script old new told =
     ((numbers : List ℕ) × IsFaultRow script numbers × Gives (Ok tt) numbers old new told)
     ⊎ HasNoMemory old new told
@@ -144,5 +144,5 @@ GivesFault script old new told =
 -- the buffer gets an explanation, and the answer has its place
 abbrev pub Hands : (place : ℕ) → (text : List ℕ) → (old new : List ℕ) → Answer → Type 0
 Hands place text old new answer =
-    (told : Told) × Gives (Ok tt) text old new told
+    (told : TextGiven) × Gives (Ok tt) text old new told
     × (answer ≡ record (answer_of told) { place = place })

@@ -27,8 +27,8 @@ use Rattle.pr_recording.specs.declared.wording.Wording.{Wording}
 use Rattle.pr_recording.specs.declared.wording.Wording.TheVariants.{Json, Lines}
 use Rattle.pr_report.specs.declared.detail.Bounds.TheVariants.{Guide, Profile}
 use Rattle.pr_report.specs.declared.detail.Detail.{Detail}
-use Rattle.pr_capture.specs.declared.format.Source.{Source}
-use Rattle.pr_capture.specs.declared.format.Source.TheVariants as source
+use Rattle.pr_capture.specs.declared.format.InputFormat.{InputFormat}
+use Rattle.pr_capture.specs.declared.format.InputFormat.TheVariants as source
 use Rattle.pr_capture.specs.declared.format.TraceInput.{TraceInput}
 use Rattle.pr_serial.specs.declared.Present.{Present}
 use Rattle.pr_options.specs.declared.outputs.CheckOutput.{CheckOutput}
@@ -38,7 +38,7 @@ use Rattle.pr_report.specs.declared.report.Report.TheVariants.{Frames, Story}
 
 -- the format of a recording: a trace text, a Value Change Dump, a table of comma separated values, or the one that its
 -- first 4096 bytes show and else a text, or else a table
-abbrev pub source_of : ℕ → (bytes : List ℕ) → Option Source
+abbrev pub source_of : ℕ → (bytes : List ℕ) → Option InputFormat
 source_of number bytes =
     if number == 0 then Some source.Text
     else (if number == 1 then Some source.Vcd
@@ -167,7 +167,7 @@ rate_of number = if number == 0 then None else Some number
 
 -- a recording with these names of its signals, with levels as they are or all inverted, which starts at this microsecond
 -- and has `rate` samples in a second, or says itself how many if `rate` is 0
-pub record IsInput (source : Source) (atn clock line : List ℕ) (is_inverted : Bool) (start rate : ℕ)
+pub record IsInput (source : InputFormat) (atn clock line : List ℕ) (is_inverted : Bool) (start rate : ℕ)
     (input : TraceInput) : Type 0 where
   pub of_source : input.source ≡ source
   pub of_atn : input.signals.atn.now ≡ atn

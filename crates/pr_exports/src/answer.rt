@@ -10,7 +10,7 @@ use pr_jobs::CliFault;
 
 /// What came of a call that gives a text, or numbers.
 #[derive(Clone, Copy, Debug, PartialEq, Eq)]
-pub enum Told {
+pub enum TextGiven {
     /// The text is at the front of the buffer, and has this many bytes. Of an input that can not be
     /// read to its end it is what comes before the fault, and there is the fault.
     Written(Option<CliFault>, usize),
@@ -37,20 +37,20 @@ pub struct Answer {
 }
 
 /// Hands a text or numbers that were made to the caller, also where their input has a fault.
-pub fn give<T: Copy>(made: Result<(), CliFault>, items: &[T], out: &mut [T]) -> Told
+pub fn give<T: Copy>(made: Result<(), CliFault>, items: &[T], out: &mut [T]) -> TextGiven
     ensures gives { Gives made items.now out.old out.new result }
     ensures length { length out.new ≡ length out.old }
 {
     let stop = match stop_in(made) {
         Ok(stop) => stop,
-        Err(fault) => return Told::Refused(fault),
+        Err(fault) => return TextGiven::Refused(fault),
     };
     let size = items.len();
     if size > out.len() {
-        return Told::TooSmall(size);
+        return TextGiven::TooSmall(size);
     }
     out[..size].copy_from_slice(items);
-    Told::Written(stop, size)
+    TextGiven::Written(stop, size)
 }
 
 /// What was made, whatever else came of it.
@@ -131,16 +131,16 @@ pub fn ended(end: End) -> Answer
 }
 
 /// The answer, as numbers.
-pub fn numbered(told: Told) -> Answer
+pub fn numbered(told: TextGiven) -> Answer
     ensures { result ≡ answer_of told }
 {
     match told {
-        Told::Written(None, size) => plain(0, size),
-        Told::Written(Some(fault), size) => Answer {
+        TextGiven::Written(None, size) => plain(0, size),
+        TextGiven::Written(Some(fault), size) => Answer {
             length: size,
             ..ended(End::Job(fault))
         },
-        Told::TooSmall(size) => plain(4, size),
-        Told::Refused(fault) => ended(End::Job(fault)),
+        TextGiven::TooSmall(size) => plain(4, size),
+        TextGiven::Refused(fault) => ended(End::Job(fault)),
     }
 }

@@ -6,7 +6,7 @@ ghost use Rattle.pr_exports.specs.EdgeDelays.{delay_at, delay_numbers, edge_dela
 ghost use Rattle.pr_exports.specs.Giving.{GivesDelays};
 ghost use Rattle.pr_exports.specs.Settings.{source_of};
 
-use crate::answer::{Answer, Told, give, made_of, numbered, refused};
+use crate::answer::{Answer, TextGiven, give, made_of, numbered, refused};
 use crate::settings::{input_for, source_for};
 use pr_capture::TraceInput;
 use pr_explain::read_input;
@@ -190,15 +190,15 @@ fn delays_of(alloc: Global, edges: &[Edge]) -> Result<Vec<u64>, NoMemory>
 }
 
 /// Reads a recording, and puts the delay that each of its edges ends at the front of a buffer.
-fn delays(alloc: Global, bytes: &[u8], input: TraceInput<'_>, out: &mut [u64]) -> Told
+fn delays(alloc: Global, bytes: &[u8], input: TraceInput<'_>, out: &mut [u64]) -> TextGiven
     ensures told { GivesDelays input.entry bytes.now out.old out.new result }
     ensures length { length out.new ≡ length out.old }
 {
     let Ok(said) = read_input(alloc, bytes, input) else {
-        return Told::Refused(CliFault::NoMemory);
+        return TextGiven::Refused(CliFault::NoMemory);
     };
     let Ok(numbers) = delays_of(alloc, said.edges.as_slice()) else {
-        return Told::Refused(CliFault::NoMemory);
+        return TextGiven::Refused(CliFault::NoMemory);
     };
     give(made_of(said.fault), numbers.as_slice(), out)
 }

@@ -40,7 +40,7 @@ mod rows;
 mod scripts;
 mod settings;
 
-pub use answer::{Answer, Told};
+pub use answer::{Answer, TextGiven};
 pub use delays::print1525_edge_delays;
 pub use explanations::{
     print1525_explain_reading, print1525_explain_script, print1525_explain_stop,

@@ -7,7 +7,7 @@ ghost use Rattle.pr_exports.specs.Giving.{GivesEdges, GivesIntervals, GivesRows}
 ghost use Rattle.pr_exports.specs.Numbers.{bounds_numbers, edge_numbers, kind_numbers, level_number};
 ghost use Rattle.pr_exports.specs.Settings.{detail_of, source_of};
 
-use crate::answer::{Answer, Told, give, made_of, numbered, refused};
+use crate::answer::{Answer, TextGiven, give, made_of, numbered, refused};
 use crate::lengths::all_figures;
 use crate::rows::{flag, readings_of, rows_of};
 use crate::settings::{detail_for, input_for, source_for};
@@ -55,49 +55,55 @@ fn numbers_of(alloc: Global, edges: &[Edge]) -> Result<Vec<u64>, NoMemory>
 }
 
 /// Reads a recording, and puts the numbers of its edges at the front of a buffer.
-fn edges(alloc: Global, bytes: &[u8], input: TraceInput<'_>, out: &mut [u64]) -> Told
+fn edges(alloc: Global, bytes: &[u8], input: TraceInput<'_>, out: &mut [u64]) -> TextGiven
     ensures told { GivesEdges input.entry bytes.now out.old out.new result }
     ensures length { length out.new ≡ length out.old }
 {
     let Ok(said) = read_input(alloc, bytes, input) else {
-        return Told::Refused(CliFault::NoMemory);
+        return TextGiven::Refused(CliFault::NoMemory);
     };
     let Ok(numbers) = numbers_of(alloc, said.edges.as_slice()) else {
-        return Told::Refused(CliFault::NoMemory);
+        return TextGiven::Refused(CliFault::NoMemory);
     };
     give(made_of(said.fault), numbers.as_slice(), out)
 }
 
 /// Reads a recording, and puts a row for each of its readings at the front of a buffer.
-fn rows(alloc: Global, bytes: &[u8], input: TraceInput<'_>, detail: Detail, out: &mut [u64]) -> Told
+fn rows(
+    alloc: Global,
+    bytes: &[u8],
+    input: TraceInput<'_>,
+    detail: Detail,
+    out: &mut [u64],
+) -> TextGiven
     ensures told { GivesRows input.entry detail bytes.now out.old out.new result }
     ensures length { length out.new ≡ length out.old }
 {
     let Ok(said) = read_input(alloc, bytes, input) else {
-        return Told::Refused(CliFault::NoMemory);
+        return TextGiven::Refused(CliFault::NoMemory);
     };
     let Ok(read) = readings_of(alloc, said.edges.as_slice(), said.fault) else {
-        return Told::Refused(CliFault::NoMemory);
+        return TextGiven::Refused(CliFault::NoMemory);
     };
     let Ok(numbers) = rows_of(alloc, detail, read.readings.as_slice()) else {
-        return Told::Refused(CliFault::NoMemory);
+        return TextGiven::Refused(CliFault::NoMemory);
     };
     give(made_of(read.stop), numbers.as_slice(), out)
 }
 
 /// Reads a recording, and puts what the lengths of each interval come to at the front of a buffer.
-fn intervals(alloc: Global, bytes: &[u8], input: TraceInput<'_>, out: &mut [u64]) -> Told
+fn intervals(alloc: Global, bytes: &[u8], input: TraceInput<'_>, out: &mut [u64]) -> TextGiven
     ensures told { GivesIntervals input.entry bytes.now out.old out.new result }
     ensures length { length out.new ≡ length out.old }
 {
     let Ok(said) = read_input(alloc, bytes, input) else {
-        return Told::Refused(CliFault::NoMemory);
+        return TextGiven::Refused(CliFault::NoMemory);
     };
     let Ok(read) = readings_of(alloc, said.edges.as_slice(), said.fault) else {
-        return Told::Refused(CliFault::NoMemory);
+        return TextGiven::Refused(CliFault::NoMemory);
     };
     let Ok(numbers) = all_figures(alloc, read.readings.as_slice()) else {
-        return Told::Refused(CliFault::NoMemory);
+        return TextGiven::Refused(CliFault::NoMemory);
     };
     give(made_of(read.stop), numbers.as_slice(), out)
 }
@@ -248,7 +254,7 @@ pub extern "C" fn print1525_bounds(alloc: Global, out: &mut [u64], answer: &mut 
 {
     let told = match bounds_of_delays(alloc) {
         Ok(numbers) => give(Ok(()), numbers.as_slice(), out),
-        Err(_) => Told::Refused(CliFault::NoMemory),
+        Err(_) => TextGiven::Refused(CliFault::NoMemory),
     };
     *answer = numbered(told);
 }

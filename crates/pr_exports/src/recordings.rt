@@ -5,12 +5,12 @@ ghost use Rattle.pr_exports.specs.Asked.{TellsCheck, TellsReadings, TellsReprint
 ghost use Rattle.pr_exports.specs.Giving.{GivesCheck, GivesPages, GivesReadings};
 ghost use Rattle.pr_exports.specs.Settings.{WithShapes, check_of, shown_of, source_of, wording_of};
 
-use crate::answer::{Answer, Told, ended, give, numbered, refused, without_value};
+use crate::answer::{Answer, TextGiven, ended, give, numbered, refused, without_value};
 use crate::settings::{check_for, input_for, shapes_for, shown_for, source_for, wording_for};
 use pr_capture::TraceInput;
 use pr_cli::End;
 use pr_dots::Shapes;
-use pr_jobs::{ShapesFault, Watched, check_as_over};
+use pr_jobs::{ShapesFault, Watched, write_check_report};
 use pr_options::CheckOutput;
 use pr_recording::{Listening, Wording, check_json_over, decode_over, reprint_over};
 use pr_render::Format;
@@ -23,7 +23,7 @@ fn readings(
     input: TraceInput<'_>,
     wording: Wording,
     out: &mut [u8],
-) -> Told
+) -> TextGiven
     ensures told { GivesReadings input.entry wording bytes.now out.old out.new result }
     ensures length { length out.new ≡ length out.old }
 {
@@ -41,7 +41,7 @@ fn reprint(
     format: Format,
     shapes: &Shapes,
     out: &mut [u8],
-) -> Told
+) -> TextGiven
     ensures told { GivesPages shapes.now input.entry format bytes.now out.old out.new result }
     ensures length { length out.new ≡ length out.old }
 {
@@ -67,7 +67,7 @@ fn check(
     input: TraceInput<'_>,
     wanted: CheckOutput,
     out: &mut [u8],
-) -> Told
+) -> TextGiven
     ensures told { GivesCheck input.entry wanted bytes.now out.old out.new result }
     ensures length { length out.new ≡ length out.old }
 {
@@ -75,7 +75,7 @@ fn check(
     let mut output = Watched::new(Vec::new(alloc));
     let made = match wanted {
         CheckOutput::Report(report) => {
-            check_as_over(alloc, &mut reader, &mut output, input, report)
+            write_check_report(alloc, &mut reader, &mut output, input, report)
         }
         CheckOutput::Json => check_json_over(alloc, &mut reader, &mut output, input),
     };

@@ -11,7 +11,7 @@ ghost use Rattle.pr_exports.specs.Asked.{TellsFault, TellsLines};
 ghost use Rattle.pr_exports.specs.Giving.{GivesFault, GivesLines};
 ghost use Rattle.pr_exports.specs.Numbers.{AreLineNumbers, IsFaultRow, IsLabelNumber, IsWidth};
 
-use crate::answer::{Answer, Told, give, numbered};
+use crate::answer::{Answer, TextGiven, give, numbered};
 use pr_basic::{
     LineAt, ScriptFault, basic_number, faults_tell_their_line, lexeme_at, line_at, read_script,
     read_script_at,
@@ -50,18 +50,18 @@ fn lines_of_statements(alloc: Global, script: &[u8]) -> Result<Vec<u64>, NoMemor
 }
 
 /// Puts the line of each statement of a script at the front of a buffer.
-fn lines(alloc: Global, script: &[u8], out: &mut [u64]) -> Told
+fn lines(alloc: Global, script: &[u8], out: &mut [u64]) -> TextGiven
     ensures told { GivesLines script.now out.old out.new result }
     ensures length { length out.new ≡ length out.old }
 {
     match read_script(alloc, script) {
         Ok(_) => {}
-        Err(ScriptFault::NoMemory) => return Told::Refused(CliFault::NoMemory),
-        Err(fault) => return Told::Refused(CliFault::Script(fault)),
+        Err(ScriptFault::NoMemory) => return TextGiven::Refused(CliFault::NoMemory),
+        Err(fault) => return TextGiven::Refused(CliFault::Script(fault)),
     }
     match lines_of_statements(alloc, script) {
         Ok(numbers) => give(Ok(()), numbers.as_slice(), out),
-        Err(_) => Told::Refused(CliFault::NoMemory),
+        Err(_) => TextGiven::Refused(CliFault::NoMemory),
     }
 }
 
@@ -122,13 +122,13 @@ fn fault_row(alloc: Global, script: &[u8]) -> Result<Vec<u64>, NoMemory>
 }
 
 /// Puts the place of a script's first fault at the front of a buffer.
-fn fault(alloc: Global, script: &[u8], out: &mut [u64]) -> Told
+fn fault(alloc: Global, script: &[u8], out: &mut [u64]) -> TextGiven
     ensures told { GivesFault script.now out.old out.new result }
     ensures length { length out.new ≡ length out.old }
 {
     match fault_row(alloc, script) {
         Ok(numbers) => give(Ok(()), numbers.as_slice(), out),
-        Err(_) => Told::Refused(CliFault::NoMemory),
+        Err(_) => TextGiven::Refused(CliFault::NoMemory),
     }
 }
 

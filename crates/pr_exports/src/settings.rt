@@ -5,7 +5,7 @@ ghost use Rattle.pr_capture.specs.Found.{found_source};
 ghost use Rattle.pr_exports.specs.Settings.{AsksShapes, IsInput, check_of, detail_of, device_of, form_of, format_of, layout_of, mode_of, paper_of, presence, rate_of, scale_of, sheet_of, shown_of, source_of, stop_of, wording_of};
 
 use pr_basic::StatusMode;
-use pr_capture::{Probes, Signals, Source, TraceInput, found_source};
+use pr_capture::{InputFormat, Probes, Signals, TraceInput, found_source};
 use pr_channels::Stop;
 use pr_characters::{CharactersFault, read_shapes};
 use pr_dots::{Scale, Shapes};
@@ -27,7 +27,7 @@ fn first_of(bytes: &[u8]) -> &[u8]
 }
 
 /// The format that they show, or else this one.
-fn found_in(source: Source, bytes: &[u8]) -> Source
+fn found_in(source: InputFormat, bytes: &[u8]) -> InputFormat
     ensures { result ≡ found_source source (take 4096 bytes.now) }
 {
     found_source(source, first_of(bytes))
@@ -35,15 +35,15 @@ fn found_in(source: Source, bytes: &[u8]) -> Source
 
 /// The format of a recording: 0 a trace text, 1 a Value Change Dump, 2 a table of comma separated values; 3 the one
 /// that its first bytes show, or else a trace text, 4 the same, or else a table.
-pub fn source_for(number: u8, bytes: &[u8]) -> Option<Source>
+pub fn source_for(number: u8, bytes: &[u8]) -> Option<InputFormat>
     ensures { result ≡ source_of number bytes.now }
 {
     match number {
-        0 => Some(Source::Text),
-        1 => Some(Source::Vcd),
-        2 => Some(Source::Csv),
-        3 => Some(found_in(Source::Text, bytes)),
-        4 => Some(found_in(Source::Csv, bytes)),
+        0 => Some(InputFormat::Text),
+        1 => Some(InputFormat::Vcd),
+        2 => Some(InputFormat::Csv),
+        3 => Some(found_in(InputFormat::Text, bytes)),
+        4 => Some(found_in(InputFormat::Csv, bytes)),
         _ => None,
     }
 }
@@ -276,7 +276,7 @@ fn rate_for(number: u64) -> Option<u64>
 /// A recording with these names of its signals, of levels as they are or all inverted, which starts at this
 /// microsecond and has `rate` samples in a second, or says itself how many (0).
 pub fn input_for<'a>(
-    source: Source,
+    source: InputFormat,
     atn: &'a [u8],
     clock: &'a [u8],
     line: &'a [u8],

@@ -5,8 +5,8 @@ use Rattle.std.proofs.lemmas.List.{map-append}
 use Rattle.pr_wire.specs.declared.Edge.{Edge}
 use Rattle.pr_wire.specs.declared.Levels.{Levels}
 use Rattle.pr_capture.specs.Samples.{counted_from}
-use Rattle.pr_capture.specs.declared.format.Source.{Source}
-use Rattle.pr_capture.specs.declared.format.Source.TheVariants as source
+use Rattle.pr_capture.specs.declared.format.InputFormat.{InputFormat}
+use Rattle.pr_capture.specs.declared.format.InputFormat.TheVariants as source
 use Rattle.pr_jobs.specs.Begun.{CountsOn, HasBegun, HasCountedOn, HasKept, KeepsTimes, first_time}
 use Rattle.pr_jobs.specs.Report.{counted_from_first}
 use Rattle.pr_jobs.specs.declared.beginning.Beginning.{Beginning}
@@ -34,7 +34,7 @@ counts_on e t old new is was s edges h = by s h
     counted : (m : ℕ) → unwrap_or old.moment e.time ≡ m → edge_at t e.levels ≡ counted_from m e
     counted m k = ap (λ u. edge_at u e.levels) (is ∙ ap (λ n. e.time - n) k)
 
-    by : (s : Source) → HasBegun s edges old → HasCountedOn s edges e (edge_at t e.levels) new
+    by : (s : InputFormat) → HasBegun s edges old → HasCountedOn s edges e (edge_at t e.levels) new
     by source.Text h = record {
       begun = was ∙ ap (λ m. Some (unwrap_or m e.time)) h;
       counts = ap (λ c. edges ++ c ∷ []) (sym (counted 0 (ap (λ m. unwrap_or m e.time) h) ∙ as_it_is e));
@@ -67,7 +67,7 @@ counted_at_zero (e ∷ edges) more h =
 pub keeps_times : (b : Beginning) → b.moment ≡ Some 0 → KeepsTimes b
 keeps_times b is = λ s edges more h. by s edges more h
   where
-    by : (s : Source) (edges more : List Edge) → HasBegun s edges b → HasKept s edges more b
+    by : (s : InputFormat) (edges more : List Edge) → HasBegun s edges b → HasKept s edges more b
     by source.Text edges more h = record { begun = is; counts = refl }
     by source.Csv edges more h = record {
       begun = is ∙ sym (first_at_zero edges more (sym h ∙ is));

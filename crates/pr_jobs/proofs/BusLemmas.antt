@@ -1,7 +1,7 @@
 -- What `bus` answers, from what its run gives.
 use Rattle.std.proofs.Common.{◌≡◌, ◌≤◌, ℕ, Option, Some, None, Result, Ok, Err, IfSome, List, length, inr, ap, subst, ◌∙◌}
 use Rattle.std.specs.Io.KnownBytes.{Appends}
-use Rattle.pr_capture.specs.declared.format.TraceFormat.{TraceFormat}
+use Rattle.pr_capture.specs.declared.format.OutputFormat.{OutputFormat}
 use Rattle.pr_basic.specs.declared.statement.Statement.{Statement}
 use Rattle.pr_basic.specs.Grammar.{IsScript}
 use Rattle.pr_system.specs.RunningState.{begun, trace_so_far}
@@ -24,7 +24,7 @@ of_known None read P is h = tt
 of_known (Some bytes) read P is h = subst P is h
 
 -- the answer for a script that was read
-pub bus_answered : StepsMakeTheRun → StepsMakeTheTrace → (start : Start) (format : TraceFormat) (script : List ℕ) (statements : List Statement) (old new : Option (List ℕ)) (r : Result RunEnd CliFault)
+pub bus_answered : StepsMakeTheRun → StepsMakeTheTrace → (start : Start) (format : OutputFormat) (script : List ℕ) (statements : List Statement) (old new : Option (List ℕ)) (r : Result RunEnd CliFault)
     → length script ≤ script_limit → IsScript script statements → GivesTrace format (stepped_through (begun start.mode start.present (numbers_left start.delays)) statements) old new r → AnswersBusAs start format script old new r
 bus_answered run trace start format script statements old new r short is gives = by r gives
   where

@@ -9,8 +9,8 @@ use Rattle.pr_capture.specs.Gathers.{GathersMore, GathersRepeats}
 use Rattle.pr_capture.specs.Pulses.{without_pulses}
 use Rattle.pr_capture.specs.Samples.{edges_of, listed}
 use Rattle.pr_capture.specs.Sifting as sifting
-use Rattle.pr_capture.specs.declared.format.Source.{Source}
-use Rattle.pr_capture.specs.declared.format.Source.TheVariants as source
+use Rattle.pr_capture.specs.declared.format.InputFormat.{InputFormat}
+use Rattle.pr_capture.specs.declared.format.InputFormat.TheVariants as source
 use Rattle.pr_capture.specs.declared.format.TraceInput.{TraceInput}
 use Rattle.pr_jobs.specs.Report.{edges_found, edges_made, steadied}
 use Rattle.pr_jobs.specs.InputReads.{MakesAll, MakesMore, MakesNone}
@@ -25,7 +25,7 @@ listed_same (Some e) = refl
 pub found_none : (input : TraceInput) (g : EdgeDetector) → (input.source ≡ source.Text → ⊥) → gathering.HasGathered input.start [] [] g → HasGathered input [] [] (Some g)
 found_none input g n h = (by input.source refl, h)
   where
-    by : (s : Source) → input.source ≡ s → (ss : List Edge) → edges_found input.source input.start ss ≡ edges_of input.start ss
+    by : (s : InputFormat) → input.source ≡ s → (ss : List Edge) → edges_found input.source input.start ss ≡ edges_of input.start ss
     by source.Text e ss = absurd (n e)
     by source.Csv e ss = rw e refl
     by source.Vcd e ss = rw e refl

@@ -21,8 +21,8 @@ use Rattle.pr_capture.specs.Samples.{listed}
 use Rattle.pr_capture.specs.VcdReading.{vcd_contents}
 use Rattle.pr_capture.specs.VcdReads as vcd
 use Rattle.pr_capture.specs.VcdSteps as vcd_steps
-use Rattle.pr_capture.specs.declared.format.Source.{Source}
-use Rattle.pr_capture.specs.declared.format.Source.TheVariants as source
+use Rattle.pr_capture.specs.declared.format.InputFormat.{InputFormat}
+use Rattle.pr_capture.specs.declared.format.InputFormat.TheVariants as source
 use Rattle.pr_capture.specs.declared.format.TraceInput.{TraceInput}
 use Rattle.pr_jobs.specs.Faults.{fault_of_capture, fault_of_trace}
 use Rattle.pr_jobs.specs.Report.{IsTold, SaysSamples, IsOwnFault}
@@ -64,9 +64,9 @@ csv_repeats_if old new r block None is h = tt
 csv_repeats_if old new r block (Some v) is h = rw is (csv_repeats old new (take v.0 block) v.1 h)
 
 -- the format is known
-in_format : (input : TraceInput) (s : Source) (t : List ℕ) (samples : List Edge) (fault : Option CliFault) → input.source ≡ s → SaysSamples input s t samples fault
+in_format : (input : TraceInput) (s : InputFormat) (t : List ℕ) (samples : List Edge) (fault : Option CliFault) → input.source ≡ s → SaysSamples input s t samples fault
     → SaysSamples input input.source t samples fault
-in_format input s t samples fault is h = let P : Source → Type 0 = λ v. SaysSamples input v t samples fault in subst P (sym is) h
+in_format input s t samples fault is h = let P : InputFormat → Type 0 = λ v. SaysSamples input v t samples fault in subst P (sym is) h
 
 -- a recording's fault is lack of memory, or one of its own
 own_fault : (f : CaptureFault) → (fault_of_capture f ≡ NoMemory) ⊎ (IsOwnFault (fault_of_capture f) × (Capture f ≡ fault_of_capture f))
@@ -205,7 +205,7 @@ given_first texts dumps tables = λ input t more given samples fault r h says. b
 pub each_says : TextSaysSomething → EachTextSaysSamples
 each_says some = λ input t. by input t input.source
   where
-    by : (input : TraceInput) (t : List ℕ) (s : Source) → (samples : List Edge) × (fault : Option CliFault) × SaysSamples input s t samples fault
+    by : (input : TraceInput) (t : List ℕ) (s : InputFormat) → (samples : List Edge) × (fault : Option CliFault) × SaysSamples input s t samples fault
     by input t source.Text =
         let e = some t in
         (e.0, option_map (λ n. Trace (trace.BadLine n)) e.1, (e.1, e.2, refl))

@@ -7,8 +7,8 @@ use Rattle.pr_wire.specs.declared.Edge.{Edge}
 use Rattle.pr_wire.specs.TraceText.{edge_text, trace_text}
 use Rattle.pr_capture.specs.Vcd.{vcd_of}
 use Rattle.pr_capture.specs.VcdLaws.{VcdAddsUp}
-use Rattle.pr_capture.specs.declared.format.TraceFormat.{TraceFormat}
-use Rattle.pr_capture.specs.declared.format.TraceFormat.TheVariants as format
+use Rattle.pr_capture.specs.declared.format.OutputFormat.{OutputFormat}
+use Rattle.pr_capture.specs.declared.format.OutputFormat.TheVariants as format
 use Rattle.pr_serial.specs.Items.{items_of}
 use Rattle.pr_channels.specs.declared.faults.Stop.{Stop}
 use Rattle.pr_basic.specs.declared.statement.Statement.{Statement}
@@ -70,50 +70,50 @@ no_ending (Ok y) Q P e = absurd e
 no_ending (Err f) Q P e = tt
 
 -- edges and more edges in a format
-edges_more : VcdAddsUp → (f : TraceFormat) (before : Option Edge) (xs ys : List Edge) → edges_in f before (xs ++ ys) ≡ edges_in f before xs ++ edges_in f (last_in f before xs) ys
+edges_more : VcdAddsUp → (f : OutputFormat) (before : Option Edge) (xs ys : List Edge) → edges_in f before (xs ++ ys) ≡ edges_in f before xs ++ edges_in f (last_in f before xs) ys
 edges_more law format.Text before xs ys = flat_map-append edge_text xs ys
 edges_more law format.Vcd before xs ys = law.changes before xs ys
 
-last_more : VcdAddsUp → (f : TraceFormat) (before : Option Edge) (xs ys : List Edge) → last_in f before (xs ++ ys) ≡ last_in f (last_in f before xs) ys
+last_more : VcdAddsUp → (f : OutputFormat) (before : Option Edge) (xs ys : List Edge) → last_in f before (xs ++ ys) ≡ last_in f (last_in f before xs) ys
 last_more law format.Text before xs ys = refl
 last_more law format.Vcd before xs ys = law.last before xs ys
 
 -- the text of edges and more edges
-pub so_far_more : VcdAddsUp → (f : TraceFormat) (xs ys zs : List Edge) → zs ≡ xs ++ ys → text_so_far f zs ≡ text_so_far f xs ++ edges_in f (last_in f None xs) ys
+pub so_far_more : VcdAddsUp → (f : OutputFormat) (xs ys zs : List Edge) → zs ≡ xs ++ ys → text_so_far f zs ≡ text_so_far f xs ++ edges_in f (last_in f None xs) ys
 so_far_more law f xs ys zs is =
     ap (text_so_far f) is ∙ (ap (λ t. head_in f ++ t) (edges_more law f None xs ys) ∙ sym (append_assoc (head_in f) (edges_in f None xs) (edges_in f (last_in f None xs) ys)))
 
 -- the whole text of a trace
-pub whole_text : (f : TraceFormat) (edges : List Edge) → trace_in f edges ≡ text_so_far f edges ++ end_in f (last_in f None edges)
+pub whole_text : (f : OutputFormat) (edges : List Edge) → trace_in f edges ≡ text_so_far f edges ++ end_in f (last_in f None edges)
 unfolding vcd_of
 whole_text format.Text edges = sym (append-nil (trace_text edges))
 whole_text format.Vcd edges = refl
 
 -- a beginning of the text so far is one of the whole text of these edges and more
-pub front_of_whole : VcdAddsUp → (f : TraceFormat) (xs ys zs : List Edge) (a b : Option (List ℕ)) → zs ≡ xs ++ ys → AppendsFront a b (text_so_far f xs) → AppendsFront a b (trace_in f zs)
+pub front_of_whole : VcdAddsUp → (f : OutputFormat) (xs ys zs : List Edge) (a b : Option (List ℕ)) → zs ≡ xs ++ ys → AppendsFront a b (text_so_far f xs) → AppendsFront a b (trace_in f zs)
 front_of_whole law f xs ys zs a b is h =
     front_longer a b (text_so_far f zs) (end_in f (last_in f None zs)) (trace_in f zs) (whole_text f zs)
     (front_longer a b (text_so_far f xs) (edges_in f (last_in f None xs) ys) (text_so_far f zs) (so_far_more law f xs ys zs is) h)
 
 -- a writer that has written nothing
-pub written_none : (f : TraceFormat) (w : TraceWriter) → format_of w ≡ f → last_of w ≡ None → HasWritten f [] w
+pub written_none : (f : OutputFormat) (w : TraceWriter) → format_of w ≡ f → last_of w ≡ None → HasWritten f [] w
 written_none f w a b = record { format_is = a; last_is = by f b }
   where
-    by : (f : TraceFormat) → last_of w ≡ None → last_of w ≡ last_in f None []
+    by : (f : OutputFormat) → last_of w ≡ None → last_of w ≡ last_in f None []
     by format.Text b = b
     by format.Vcd b = b
 
 -- what it writes after edges
-pub next_edges : (f : TraceFormat) (w : TraceWriter) (xs ys : List Edge) → HasWritten f xs w → edges_in (format_of w) (last_of w) ys ≡ edges_in f (last_in f None xs) ys
+pub next_edges : (f : OutputFormat) (w : TraceWriter) (xs ys : List Edge) → HasWritten f xs w → edges_in (format_of w) (last_of w) ys ≡ edges_in f (last_in f None xs) ys
 next_edges f w xs ys h = rw (h.format_is, h.last_is) refl
 
 -- the text of the edges before and of those that it writes next
-pub added_edges : VcdAddsUp → (f : TraceFormat) (w : TraceWriter) (xs ys zs : List Edge) → zs ≡ xs ++ ys → HasWritten f xs w
+pub added_edges : VcdAddsUp → (f : OutputFormat) (w : TraceWriter) (xs ys zs : List Edge) → zs ≡ xs ++ ys → HasWritten f xs w
     → text_so_far f zs ≡ text_so_far f xs ++ edges_in (format_of w) (last_of w) ys
 added_edges law f w xs ys zs is h = so_far_more law f xs ys zs is ∙ ap (λ t. text_so_far f xs ++ t) (sym (next_edges f w xs ys h))
 
 -- a writer that has written more edges
-pub written_more : VcdAddsUp → (f : TraceFormat) (v w : TraceWriter) (xs ys zs : List Edge) → zs ≡ xs ++ ys → HasWritten f xs v → format_of w ≡ format_of v
+pub written_more : VcdAddsUp → (f : OutputFormat) (v w : TraceWriter) (xs ys zs : List Edge) → zs ≡ xs ++ ys → HasWritten f xs v → format_of w ≡ format_of v
     → last_of w ≡ last_in (format_of v) (last_of v) ys → HasWritten f zs w
 written_more law f v w xs ys zs is h a b = record {
   format_is = a ∙ h.format_is;
@@ -144,7 +144,7 @@ rest_grows law next None left sent = law next left sent
 rest_grows law next (Some stop) left sent = ([], sym (append-nil (trace_so_far next)))
 
 -- a beginning of the trace after the next step is one of the trace after all steps
-pub front_of_all : VcdAddsUp → StepsOnlyAddEdges → (f : TraceFormat) (run all : RunningState) (statement : Statement) (left : List Statement) (a b : Option (List ℕ)) → stepped_through run (statement ∷ left) ≡ all
+pub front_of_all : VcdAddsUp → StepsOnlyAddEdges → (f : OutputFormat) (run all : RunningState) (statement : Statement) (left : List Statement) (a b : Option (List ℕ)) → stepped_through run (statement ∷ left) ≡ all
     → AppendsFront a b (text_so_far f (trace_so_far (stepped_by run statement))) → AppendsFront a b (text_so_far f (trace_so_far all))
 front_of_all adds law f run all statement left a b is h =
     let next = stepped_by run statement in
@@ -161,19 +161,19 @@ pub first_edges : (run : RunningState) (edges : List Edge) → trace_before run 
 first_edges run edges none told = sym told ∙ ap (λ xs. xs ++ edges) none
 
 -- a beginning of what comes before the edges
-pub head_front : (f : TraceFormat) (edges : List Edge) (a b : Option (List ℕ)) (text : List ℕ) → text ≡ head_in f → AppendsFront a b text → AppendsFront a b (trace_in f edges)
+pub head_front : (f : OutputFormat) (edges : List Edge) (a b : Option (List ℕ)) (text : List ℕ) → text ≡ head_in f → AppendsFront a b text → AppendsFront a b (trace_in f edges)
 head_front f edges a b text is h =
     let rest = edges_in f None edges ++ end_in f (last_in f None edges) in
     front_longer a b text rest (trace_in f edges)
     (whole_text f edges ∙ (append_assoc (head_in f) (edges_in f None edges) (end_in f (last_in f None edges)) ∙ ap (λ t. t ++ rest) (sym is))) h
 
 -- what comes before the edges, and the first of them
-pub begun_text : (f : TraceFormat) (w : TraceWriter) (edges first : List Edge) (text : List ℕ) → first ≡ edges → text ≡ head_in f → format_of w ≡ f → last_of w ≡ None
+pub begun_text : (f : OutputFormat) (w : TraceWriter) (edges first : List Edge) (text : List ℕ) → first ≡ edges → text ≡ head_in f → format_of w ≡ f → last_of w ≡ None
     → text_so_far f first ≡ text ++ edges_in (format_of w) (last_of w) edges
 begun_text f w edges first text same is a b = rw (same, is, a, b) refl
 
 -- a writer and what is written when the first edges are: what comes before them, and their text
-pub first_written : VcdAddsUp → (f : TraceFormat) (v w : TraceWriter) (edges first : List Edge) (head : List ℕ) (old mid now : Option (List ℕ)) → first ≡ edges → head ≡ head_in f → format_of v ≡ f → last_of v ≡ None
+pub first_written : VcdAddsUp → (f : OutputFormat) (v w : TraceWriter) (edges first : List Edge) (head : List ℕ) (old mid now : Option (List ℕ)) → first ≡ edges → head ≡ head_in f → format_of v ≡ f → last_of v ≡ None
     → Appends old mid head → Appends mid now (edges_in (format_of v) (last_of v) edges) → format_of w ≡ format_of v → last_of w ≡ last_in (format_of v) (last_of v) edges
     → HasWritten f first w × Appends old now (text_so_far f first)
 first_written law f v w edges first head old mid now same is a b h k c d = (
@@ -182,6 +182,6 @@ first_written law f v w edges first head old mid now same is a b h k c d = (
 )
 
 -- what follows all edges
-pub ended_text : (f : TraceFormat) (w : TraceWriter) (edges : List Edge) (text : List ℕ) → HasWritten f edges w → text ≡ end_in (format_of w) (last_of w)
+pub ended_text : (f : OutputFormat) (w : TraceWriter) (edges : List Edge) (text : List ℕ) → HasWritten f edges w → text ≡ end_in (format_of w) (last_of w)
     → trace_in f edges ≡ text_so_far f edges ++ text
 ended_text f w edges text h is = whole_text f edges ∙ ap (λ t. text_so_far f edges ++ t) (sym (is ∙ rw (h.format_is, h.last_is) refl))

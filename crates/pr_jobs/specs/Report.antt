@@ -20,8 +20,8 @@ use Rattle.pr_report.specs.Moments.{timed_frames}
 use Rattle.pr_report.specs.StoryText.{story_lines, story_of}
 use Rattle.pr_report.specs.declared.report.Report.{Report}
 use Rattle.pr_report.specs.declared.report.Report.TheVariants as report
-use Rattle.pr_capture.specs.declared.format.Source.{Source}
-use Rattle.pr_capture.specs.declared.format.Source.TheVariants as source
+use Rattle.pr_capture.specs.declared.format.InputFormat.{InputFormat}
+use Rattle.pr_capture.specs.declared.format.InputFormat.TheVariants as source
 use Rattle.pr_capture.specs.declared.format.TraceInput.{TraceInput}
 use Rattle.pr_jobs.specs.Check.{trace_limit}
 use Rattle.pr_jobs.specs.FrameText.{frame_lines}
@@ -36,7 +36,7 @@ abbrev pub IsTold : CaptureContents → (samples : List Edge) → (fault : Optio
 IsTold told samples fault = (told.samples ≡ samples) × (option_map (λ f. Capture f) told.fault ≡ fault)
 
 -- the samples, or edges, of a text in a format, and its fault if it has one
-abbrev pub SaysSamples : TraceInput → Source → (text : List ℕ) → (samples : List Edge) → (fault : Option CliFault)
+abbrev pub SaysSamples : TraceInput → InputFormat → (text : List ℕ) → (samples : List Edge) → (fault : Option CliFault)
     → Type 0
 SaysSamples input source.Text text samples fault =
     (bad : Option ℕ) × SaysEdges text samples bad × (option_map (λ n. Trace (trace.BadLine n)) bad ≡ fault)
@@ -44,7 +44,7 @@ SaysSamples input source.Csv text samples fault = IsTold (csv_contents input.sig
 SaysSamples input source.Vcd text samples fault = IsTold (vcd_contents input.signals text) samples fault
 
 -- the edges that the samples of a format are, from a start on; a trace text already has edges
-abbrev pub edges_found : Source → (start : ℕ) → (samples : List Edge) → List Edge
+abbrev pub edges_found : InputFormat → (start : ℕ) → (samples : List Edge) → List Edge
 edges_found source.Text start samples = samples
 edges_found source.Csv start samples = edges_of start samples
 edges_found source.Vcd start samples = edges_of start samples
@@ -54,7 +54,7 @@ abbrev pub steadied : (pulse : ℕ) → List Edge → List Edge
 steadied pulse edges = if pulse == 0 then edges else without_pulses pulse edges
 
 -- the edges that samples make, without such pulses
-abbrev pub edges_made : Source → (start pulse : ℕ) → (samples : List Edge) → List Edge
+abbrev pub edges_made : InputFormat → (start pulse : ℕ) → (samples : List Edge) → List Edge
 edges_made source start pulse samples = steadied pulse (edges_found source start samples)
 
 -- the edges that `check` holds against the table of lawful traces: those of a trace text as they are; those of a recording
@@ -63,7 +63,7 @@ abbrev pub counted_from_first : List Edge → List Edge
 counted_from_first [] = []
 counted_from_first (e ∷ es) = map (counted_from e.time) (e ∷ es)
 
-abbrev pub edges_checked : Source → List Edge → List Edge
+abbrev pub edges_checked : InputFormat → List Edge → List Edge
 edges_checked source.Text edges = edges
 edges_checked source.Csv edges = counted_from_first edges
 edges_checked source.Vcd edges = counted_from_first edges

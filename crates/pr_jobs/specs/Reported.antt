@@ -13,7 +13,7 @@ use Rattle.pr_report.specs.StoryText.{is_data, story_line, story_lines}
 use Rattle.pr_report.specs.FrameTiming.{HasTold, number_taken}
 use Rattle.pr_report.specs.declared.report.Report.{Report}
 use Rattle.pr_report.specs.declared.report.Report.TheVariants as report
-use Rattle.pr_capture.specs.declared.format.Source.{Source}
+use Rattle.pr_capture.specs.declared.format.InputFormat.{InputFormat}
 use Rattle.pr_capture.specs.declared.format.TraceInput.{TraceInput}
 use Rattle.pr_jobs.specs.Begun.{HasBegun}
 use Rattle.pr_jobs.specs.FrameText.{frame_line}
@@ -111,14 +111,14 @@ pub record EndsReport (report : Report) (edges : List Edge) (own : Option CliFau
 -- Reports on inputs.
 
 -- a reporter has taken these edges of an input in this format
-pub record HasCounted (source : Source) (report : Report) (edges : List Edge) (r : TraceReporter) : Type 0 where
+pub record HasCounted (source : InputFormat) (report : Report) (edges : List Edge) (r : TraceReporter) : Type 0 where
   pub begun : HasBegun source edges r.beginning
   pub reported : HasReported report (edges_checked source edges) r.frames
 
 -- the reporter has taken these edges too
 abbrev pub CountsMore : (more : List Edge) → (old new : TraceReporter) → Type 0
 CountsMore more old new =
-    (source : Source) (report : Report) (edges : List Edge) → HasCounted source report edges old
+    (source : InputFormat) (report : Report) (edges : List Edge) → HasCounted source report edges old
     → HasCounted source report (edges ++ more) new
 
 -- how many edges it has taken
@@ -158,7 +158,7 @@ IsRefused t = IfSome t.refused IsTraceFault
 -- the report on an input that ends here, or has had its fault, where the lines of the edges before the last block were made
 abbrev pub EndsReported : InputReader → TraceReporter → ReportText → Type 0
 EndsReported r frames t =
-    (source : Source) (report : Report)
+    (source : InputFormat) (report : Report)
     → EndsReading r (λ edges. HasCounted source report edges frames) (λ edges own. EndsReport report (edges_checked source edges) own t)
 
 -- what the lines of a report come to that are written

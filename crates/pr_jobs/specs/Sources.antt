@@ -12,7 +12,7 @@ use Rattle.pr_capture.specs.Gathering as gathering
 use Rattle.pr_capture.specs.Pulses.{without_pulses}
 use Rattle.pr_capture.specs.Samples.{edges_of}
 use Rattle.pr_capture.specs.Sifting.{HasSifted}
-use Rattle.pr_capture.specs.declared.format.Source.TheVariants as source
+use Rattle.pr_capture.specs.declared.format.InputFormat.TheVariants as source
 use Rattle.pr_capture.specs.declared.format.TraceInput.{TraceInput}
 use Rattle.pr_capture.specs.declared.pulse_filter.PulseFilter.{PulseFilter}
 use Rattle.pr_jobs.specs.Report.{edges_found, edges_made, steadied, SaysSamples}

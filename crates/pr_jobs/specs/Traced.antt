@@ -6,8 +6,8 @@ use Rattle.pr_wire.specs.declared.Edge.{Edge}
 use Rattle.pr_wire.specs.TraceText.{trace_text}
 use Rattle.pr_capture.specs.Vcd.{head, last_edge, vcd_changes, vcd_end}
 use Rattle.pr_capture.specs.VcdWriting.{last_written}
-use Rattle.pr_capture.specs.declared.format.TraceFormat.{TraceFormat}
-use Rattle.pr_capture.specs.declared.format.TraceFormat.TheVariants as format
+use Rattle.pr_capture.specs.declared.format.OutputFormat.{OutputFormat}
+use Rattle.pr_capture.specs.declared.format.OutputFormat.TheVariants as format
 use Rattle.pr_system.specs.RunningState.{RunningState, trace_so_far}
 use Rattle.pr_jobs.specs.Bus.{trace_in}
 use Rattle.pr_jobs.specs.Runs.{run_end}
@@ -19,31 +19,31 @@ use Rattle.pr_jobs.specs.declared.fault.CliFault.{CliFault}
 use Rattle.pr_jobs.specs.declared.fault.CliFault.TheVariants.{Script, Trace, Wave, Capture, Picture, TooLarge, NoMemory, ReadFailed, WriteFailed}
 
 -- what comes before the edges
-abbrev pub head_in : TraceFormat → List ℕ
+abbrev pub head_in : OutputFormat → List ℕ
 head_in format.Text = []
 head_in format.Vcd = head
 
 -- edges after the edge before, if any
-abbrev pub edges_in : TraceFormat → (before : Option Edge) → List Edge → List ℕ
+abbrev pub edges_in : OutputFormat → (before : Option Edge) → List Edge → List ℕ
 edges_in format.Text before edges = trace_text edges
 edges_in format.Vcd before edges = vcd_changes before edges
 
 -- the edge before what follows, as far as the format looks at it
-abbrev pub last_in : TraceFormat → (before : Option Edge) → List Edge → Option Edge
+abbrev pub last_in : OutputFormat → (before : Option Edge) → List Edge → Option Edge
 last_in format.Text before edges = before
 last_in format.Vcd before edges = last_edge before edges
 
 -- what follows the last edge, if any
-abbrev pub end_in : TraceFormat → (last : Option Edge) → List ℕ
+abbrev pub end_in : OutputFormat → (last : Option Edge) → List ℕ
 end_in format.Text last = []
 end_in format.Vcd last = vcd_end last
 
 -- the text up to the last of these edges
-abbrev pub text_so_far : TraceFormat → List Edge → List ℕ
+abbrev pub text_so_far : OutputFormat → List Edge → List ℕ
 text_so_far format edges = head_in format ++ edges_in format None edges
 
 -- the format in which a writer writes
-abbrev pub format_of : TraceWriter → TraceFormat
+abbrev pub format_of : TraceWriter → OutputFormat
 format_of writer.Text = format.Text
 format_of (writer.Vcd w) = format.Vcd
 
@@ -53,7 +53,7 @@ last_of writer.Text = None
 last_of (writer.Vcd w) = last_written w
 
 -- a writer in this format that has written these edges
-pub record HasWritten (format : TraceFormat) (edges : List Edge) (w : TraceWriter) : Type 0 where
+pub record HasWritten (format : OutputFormat) (edges : List Edge) (w : TraceWriter) : Type 0 where
   pub format_is : format_of w ≡ format
   pub last_is : last_of w ≡ last_in format None edges
 
@@ -80,17 +80,17 @@ abbrev pub AddsEdges :
     {Y : Type 0} → TraceWriter → RunningState → RunningState → Option (List ℕ) → Option (List ℕ) → Result Y CliFault
     → Type 0
 AddsEdges w before after old new result =
-    (format : TraceFormat) (start : Option (List ℕ)) → HasWritten format (trace_so_far before) w
+    (format : OutputFormat) (start : Option (List ℕ)) → HasWritten format (trace_so_far before) w
     → Appends start old (text_so_far format (trace_so_far before))
     → GivesText (text_so_far format (trace_so_far after)) start new result
 
 -- a writer that has written the edges before has then written those after
 abbrev pub WritesOn : RunningState → RunningState → (old new : TraceWriter) → Type 0
 WritesOn before after old new =
-    (format : TraceFormat) → HasWritten format (trace_so_far before) old → HasWritten format (trace_so_far after) new
+    (format : OutputFormat) → HasWritten format (trace_so_far before) old → HasWritten format (trace_so_far after) new
 
 -- the whole trace of a run, and how it ended
-pub record GivesTrace (format : TraceFormat) (run : RunningState) (old new : Option (List ℕ))
+pub record GivesTrace (format : OutputFormat) (run : RunningState) (old new : Option (List ℕ))
     (result : Result RunEnd CliFault) : Type 0 where
   pub text : GivesText (trace_in format (trace_so_far run)) old new result
   pub ending : IfOk result (λ end. end ≡ run_end run.stop)

@@ -3,7 +3,7 @@
 ghost use Rattle.pr_jobs.specs.Begun.{CountsOn, HasBegun, KeepsTimes};
 ghost use Rattle.std.specs.Prelude.{◌≡◌, [], true};
 
-use pr_capture::Source;
+use pr_capture::InputFormat;
 use pr_wire::Edge;
 
 /// Counts the edges of an input as `check` does: those of a trace text as they are, those of a recording
@@ -16,12 +16,12 @@ pub struct Beginning {
 
 impl Beginning {
     /// No edge has come of an input in this format.
-    pub fn new(source: Source) -> Beginning
+    pub fn new(source: InputFormat) -> Beginning
         ensures { HasBegun source [] result }
     {
         let moment = match source {
-            Source::Text => Some(0),
-            Source::Vcd | Source::Csv => None,
+            InputFormat::Text => Some(0),
+            InputFormat::Vcd | InputFormat::Csv => None,
         };
         Beginning { moment }
     }

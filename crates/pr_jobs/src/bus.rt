@@ -19,7 +19,7 @@ use crate::run::{Ending, RunEnd, Start};
 use crate::trace_writer::{TraceWriter, trace_head};
 use pr_basic::{Statement, StatusMode, read_script};
 use pr_bus::Delays;
-use pr_capture::{TraceFormat, vcd_adds_up};
+use pr_capture::{OutputFormat, vcd_adds_up};
 use pr_channels::Stop;
 use pr_input::{Watched, WriteFault, read_whole, write_whole};
 use pr_serial::Present;
@@ -47,12 +47,12 @@ use std::io::{Read, Write};
 ///   of the text may have been written.
 ///
 /// After every other error nothing has been written.
-pub fn bus_as_over<R: Read, W: Write>(
+pub fn write_bus_trace<R: Read, W: Write>(
     alloc: Global,
     input: &mut Watched<R>,
     output: &mut Watched<W>,
     start: Start,
-    format: TraceFormat,
+    format: OutputFormat,
 ) -> Result<RunEnd, CliFault>
     // the caller's part
     requires fresh { AreFresh input.old output.old }
@@ -74,12 +74,12 @@ pub fn bus_as_over<R: Read, W: Write>(
 /// Reads a script to its end, runs it over wires with these printers present, these delays and the
 /// status going on in this way, and writes the trace of the run as trace text.
 ///
-/// As [`bus_as_over`] with [`TraceFormat::Text`]. The answer is [`Ending::Stopped`] exactly if a BASIC
+/// As [`write_bus_trace`] with [`OutputFormat::Text`]. The answer is [`Ending::Stopped`] exactly if a BASIC
 /// error stopped the run.
 ///
 /// # Errors
 ///
-/// Those of [`bus_as_over`]. After `WriteFailed` and `NoMemory` a beginning of the text may have been
+/// Those of [`write_bus_trace`]. After `WriteFailed` and `NoMemory` a beginning of the text may have been
 /// written, after every other error nothing.
 pub fn bus_over<R: Read, W: Write>(
     alloc: Global,
@@ -94,7 +94,7 @@ pub fn bus_over<R: Read, W: Write>(
     requires output { has_failed output.old ≡ false }
     // what it gives
     ensures bus { IfSome (R.remaining (wrapped input.old)) (λ script.
-        AnswersBus (start_of present delays mode) TraceFormat.Text script
+        AnswersBus (start_of present delays mode) OutputFormat.Text script
         (W.contents (wrapped output.old)) (W.contents (wrapped output.new)) result) }
     ensures at_end { ReadsToEnd (R.remaining (wrapped input.new)) result }
     ensures flushed { OnOk result (is_flushed output.new ≡ true) }
@@ -109,7 +109,7 @@ pub fn bus_over<R: Read, W: Write>(
         delays,
         mode,
     };
-    let end = bus_as_over(alloc, input, output, start, TraceFormat::Text)?;
+    let end = write_bus_trace(alloc, input, output, start, OutputFormat::Text)?;
     Ok(end.ending())
 }
 
@@ -120,7 +120,7 @@ fn write_run<W: Write>(
     output: &mut Watched<W>,
     statements: &[Statement],
     start: Start,
-    format: TraceFormat,
+    format: OutputFormat,
 ) -> Result<RunEnd, CliFault>
     requires fresh { has_failed output.old ≡ false }
     requires few { length statements.now ≤ statement_limit }
@@ -141,7 +141,7 @@ fn write_from_start<W: Write>(
     output: &mut Watched<W>,
     running: &mut Running,
     statements: &[Statement],
-    format: TraceFormat,
+    format: OutputFormat,
 ) -> Result<RunEnd, CliFault>
     // the caller's part
     requires fresh { has_failed output.old ≡ false }

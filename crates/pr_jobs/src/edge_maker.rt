@@ -6,7 +6,8 @@ ghost use Rattle.pr_jobs.specs.Sources.{FindsAll, FindsMore, HasGathered, HasMad
 ghost use Rattle.pr_jobs.specs.InputReads.{MakesAll, MakesMore, MakesNone};
 
 use pr_capture::{
-    EdgeDetector, PulseFilter, Source, TraceInput, given_edges_come_first, steady_edges_come_first,
+    EdgeDetector, InputFormat, PulseFilter, TraceInput, given_edges_come_first,
+    steady_edges_come_first,
 };
 use pr_wire::{Edge, Levels};
 use std::alloc::{AllocError, Global};
@@ -26,8 +27,8 @@ fn detector_of(input: TraceInput<'_>) -> Option<EdgeDetector>
     ensures { HasGathered input.entry [] [] result }
 {
     match input.source {
-        Source::Text => None,
-        Source::Vcd | Source::Csv => Some(EdgeDetector::new(input.start)),
+        InputFormat::Text => None,
+        InputFormat::Vcd | InputFormat::Csv => Some(EdgeDetector::new(input.start)),
     }
 }
 

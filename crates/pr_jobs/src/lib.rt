@@ -1,9 +1,9 @@
 //! The library of the program `print1525`: bytes in to bytes out.
 //!
 //! [`pages_over`] reads a script to its end, runs it and writes the pages that came of it; [`bus_over`]
-//! writes the trace of the run instead, and [`pages_as_over`] and [`bus_as_over`] write them in a
+//! writes the trace of the run instead, and [`write_pages`] and [`write_bus_trace`] write them in a
 //! format. [`raw_over`] reads the bytes of a printer and writes its page, [`check_over`] reads a trace
-//! and writes the frames that it spells, and [`check_as_over`] does so for recordings too, or writes the
+//! and writes the frames that it spells, and [`write_check_report`] does so for recordings too, or writes the
 //! story of the frames. Where the input is refused and `--explain` is given, a [`TeeReader`] has kept the
 //! bytes that were read, and pr_explain makes the explanation of them. The program itself only passes on
 //! words, files and the standard streams, and turns answers into exit statuses.
@@ -47,7 +47,7 @@ mod trace_reporter;
 mod trace_writer;
 
 pub use beginning::Beginning;
-pub use bus::{bus_as_over, bus_over};
+pub use bus::{bus_over, write_bus_trace};
 pub use characters::{CHARACTERS_LIMIT, ShapesFault, read_characters};
 pub use check::{CHECK_LIMIT, check_input, check_over};
 pub use edge_maker::{EdgeMaker, made_edges_come_first};
@@ -56,12 +56,12 @@ pub use fault::{CliFault, PictureFault, own_fault};
 pub use format::{shown_of, text_in_format};
 pub use input_reader::{InputReader, read_edges_come_first};
 pub use page_text::pages_text;
-pub use pages::{SCRIPT_LIMIT, pages_as_over, pages_over};
+pub use pages::{SCRIPT_LIMIT, pages_over, write_pages};
 pub use pr_input::{
     BLOCK, ReadFault, TeeReader, Watched, WriteFault, read_whole, write_piece, write_whole,
 };
 pub use raw::{RAW_LIMIT, outcome_with, print_input, raw_over};
-pub use report::{check_as_over, report_input};
+pub use report::{report_input, write_check_report};
 pub use reporter::ReportText;
 pub use run::{Ending, HeldMarks, PagesEnd, PaperEnd, RunEnd, Start};
 pub use source_reader::{SourceReader, texts_say_samples};

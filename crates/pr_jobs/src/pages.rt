@@ -80,7 +80,7 @@ fn outcome_of(alloc: Global, script: Vec<u8>, start: Start) -> Result<Outcome, C
 /// - [`CliFault::NoMemory`]: memory was refused; never reported as a script's fault.
 ///
 /// After every error but `WriteFailed` nothing has been written.
-pub fn pages_as_over<R: Read, W: Write>(
+pub fn write_pages<R: Read, W: Write>(
     alloc: Global,
     input: &mut Watched<R>,
     output: &mut Watched<W>,
@@ -113,12 +113,12 @@ pub fn pages_as_over<R: Read, W: Write>(
 /// Reads a script to its end, runs it over wires with these printers present, these delays and the
 /// status going on in this way, and writes the page text: the pages of the outcome, as a list of marks.
 ///
-/// As [`pages_as_over`] with [`Format::List`]. The answer is [`Ending::Stopped`] exactly if a BASIC
+/// As [`write_pages`] with [`Format::List`]. The answer is [`Ending::Stopped`] exactly if a BASIC
 /// error stopped the run.
 ///
 /// # Errors
 ///
-/// Those of [`pages_as_over`] but [`CliFault::Picture`]. After every error but `WriteFailed` nothing has been written.
+/// Those of [`write_pages`] but [`CliFault::Picture`]. After every error but `WriteFailed` nothing has been written.
 pub fn pages_over<R: Read, W: Write>(
     alloc: Global,
     input: &mut Watched<R>,
@@ -147,6 +147,6 @@ pub fn pages_over<R: Read, W: Write>(
         delays,
         mode,
     };
-    let end = pages_as_over(alloc, input, output, start, Format::List, &Shapes::own())?;
+    let end = write_pages(alloc, input, output, start, Format::List, &Shapes::own())?;
     Ok(end.run.ending())
 }

@@ -43,7 +43,7 @@ use std::io::{Read, Write};
 /// other error but `WriteFailed`, and of [`Report::Frames`] also with these three, nothing has been
 /// written.
 #[inline(never)]
-pub fn check_as_over<R: Read, W: Write>(
+pub fn write_check_report<R: Read, W: Write>(
     alloc: Global,
     input: &mut Watched<R>,
     output: &mut Watched<W>,
@@ -62,7 +62,7 @@ pub fn check_as_over<R: Read, W: Write>(
 {
     let text = report_input(alloc, input, trace, report, CHECK_LIMIT)?;
     let text = unless_withheld(report, text)?;
-    write_report(output, text)
+    write_report_text(output, text)
 }
 
 /// The report; frames of a refused trace are withheld: then nothing is written.
@@ -79,7 +79,7 @@ fn unless_withheld(report: Report, text: ReportText) -> Result<ReportText, CliFa
 }
 
 /// Writes the lines of a report, and answers why the trace is refused, if it is.
-fn write_report<W: Write>(output: &mut Watched<W>, text: ReportText) -> Result<(), CliFault>
+fn write_report_text<W: Write>(output: &mut Watched<W>, text: ReportText) -> Result<(), CliFault>
     requires fresh { has_failed output.old ≡ false }
     requires refused { IsRefused text }
     ensures written { WritesText text (W.contents (wrapped output.old)) (W.contents (wrapped output.new)) result }
@@ -103,7 +103,7 @@ fn write_report<W: Write>(output: &mut Watched<W>, text: ReportText) -> Result<(
 ///
 /// # Errors
 ///
-/// Those of [`check_as_over`] but a failed write, with `limit` instead of
+/// Those of [`write_check_report`] but a failed write, with `limit` instead of
 /// [`CHECK_LIMIT`](crate::CHECK_LIMIT). A trace that is refused with lines before its fault is no error here: the
 /// report has the lines and the fault. This call writes nothing.
 pub fn report_input<R: Read>(

@@ -5,7 +5,7 @@ ghost use Rattle.pr_jobs.specs.Sources.{EachTextSaysSamples, GivenSamplesComeFir
 ghost use Rattle.pr_jobs.specs.InputReads.{EndsInput, GivesMore, GivesRepeats, RefusesInput};
 
 use crate::fault::CliFault;
-use pr_capture::{CsvReader, Source, TraceInput, VcdReader, given_samples_come_first};
+use pr_capture::{CsvReader, InputFormat, TraceInput, VcdReader, given_samples_come_first};
 use pr_wire::{Edge, Levels, TraceReader, given_edges_come_first, trace_texts};
 use std::alloc::Global;
 
@@ -24,9 +24,9 @@ impl<'a> SourceReader<'a> {
         ensures lines { lines_read result ≤ 1 }
     {
         match input.source {
-            Source::Text => SourceReader::Text(TraceReader::new()),
-            Source::Vcd => SourceReader::Vcd(VcdReader::new(alloc, input.signals)),
-            Source::Csv => SourceReader::Csv(CsvReader::new(alloc, input.signals, input.rate)),
+            InputFormat::Text => SourceReader::Text(TraceReader::new()),
+            InputFormat::Vcd => SourceReader::Vcd(VcdReader::new(alloc, input.signals)),
+            InputFormat::Csv => SourceReader::Csv(CsvReader::new(alloc, input.signals, input.rate)),
         }
     }
 

@@ -2,7 +2,7 @@
 
 ghost use Rattle.std.specs.Prelude.{◌≡◌, ◌+◌, ◌^◌, ◌<◌, ◌≤◌, ◌∷◌, [], List, length, IfOk, OnOk};
 ghost use Rattle.pr_wire.specs.declared.Edge.{Edge};
-ghost use Rattle.pr_capture.specs.declared.format.Source.{Source};
+ghost use Rattle.pr_capture.specs.declared.format.InputFormat.{InputFormat};
 ghost use Rattle.pr_report.specs.declared.report.Report.{Report};
 ghost use Rattle.pr_jobs.specs.Report.{edges_checked};
 ghost use Rattle.pr_jobs.specs.Reported.{CountsMore, EndsReport, HasCounted, edges_counted};
@@ -10,7 +10,7 @@ ghost use Rattle.pr_jobs.specs.Reported.{CountsMore, EndsReport, HasCounted, edg
 use crate::beginning::Beginning;
 use crate::fault::CliFault;
 use crate::reporter::{FrameReporter, ReportText};
-use pr_capture::Source;
+use pr_capture::InputFormat;
 use pr_report::Report;
 use pr_wire::Edge;
 use std::alloc::{AllocError, Global};
@@ -24,7 +24,7 @@ pub struct TraceReporter {
 
 impl TraceReporter {
     /// A reporter that has taken no edge of an input in this format. It takes no memory.
-    pub fn new(alloc: Global, source: Source, report: Report) -> TraceReporter
+    pub fn new(alloc: Global, source: InputFormat, report: Report) -> TraceReporter
         ensures counted { HasCounted source report [] result }
         ensures count { edges_counted result ≡ 0 }
     {
@@ -58,7 +58,7 @@ impl TraceReporter {
 
     /// Ends the edges of an input with this fault, if it has one, as [`FrameReporter::finish`] does.
     pub fn finish(self, own: Option<CliFault>) -> Result<ReportText, AllocError>
-        ensures { IfOk result (λ text. (source : Source) (report : Report) (edges : List Edge) →
+        ensures { IfOk result (λ text. (source : InputFormat) (report : Report) (edges : List Edge) →
             HasCounted source report edges self → EndsReport report (edges_checked source edges) own text) }
     {
         self.frames.finish(own)

@@ -3,7 +3,7 @@
 ghost use Rattle.std.specs.Prelude.{◌≡◌, None, IfOk, OnOk};
 ghost use Rattle.pr_jobs.specs.Traced.{edges_in, end_in, format_of, head_in, last_in, last_of};
 
-use pr_capture::{TraceFormat, VcdWriter, push_vcd_head};
+use pr_capture::{OutputFormat, VcdWriter, push_vcd_head};
 use pr_wire::{Edge, NoMemory, write_trace};
 use std::alloc::Global;
 
@@ -15,11 +15,11 @@ pub enum TraceWriter {
 }
 
 /// What comes before the edges; nothing in a trace text. It is not empty where there is something.
-pub fn trace_head(alloc: Global, format: TraceFormat) -> Result<Vec<u8>, NoMemory>
+pub fn trace_head(alloc: Global, format: OutputFormat) -> Result<Vec<u8>, NoMemory>
     ensures { IfOk result (λ text. text.items ≡ head_in format) }
 {
     let mut text = Vec::new(alloc);
-    if format == TraceFormat::Vcd {
+    if format == OutputFormat::Vcd {
         push_vcd_head(&mut text)?;
     }
     Ok(text)
@@ -27,13 +27,13 @@ pub fn trace_head(alloc: Global, format: TraceFormat) -> Result<Vec<u8>, NoMemor
 
 impl TraceWriter {
     /// A writer that has written no edge. It takes no memory.
-    pub fn new(format: TraceFormat) -> TraceWriter
+    pub fn new(format: OutputFormat) -> TraceWriter
         ensures format { format_of result ≡ format }
         ensures last { last_of result ≡ None }
     {
         match format {
-            TraceFormat::Text => TraceWriter::Text,
-            TraceFormat::Vcd => TraceWriter::Vcd(VcdWriter::new()),
+            OutputFormat::Text => TraceWriter::Text,
+            OutputFormat::Vcd => TraceWriter::Vcd(VcdWriter::new()),
         }
     }
 

@@ -18,9 +18,9 @@ use Rattle.pr_render.specs.declared.format.Size.{Size}
 use Rattle.pr_render.specs.declared.format.Size.TheVariants.{Continuous, A4, Letter}
 use Rattle.pr_render.specs.declared.format.Device.{Device}
 use Rattle.pr_render.specs.declared.format.Device.TheVariants.{Four}
-use Rattle.pr_capture.specs.declared.format.TraceFormat.{TraceFormat}
-use Rattle.pr_capture.specs.declared.format.Source.{Source}
-use Rattle.pr_capture.specs.declared.format.Source.TheVariants as source
+use Rattle.pr_capture.specs.declared.format.OutputFormat.{OutputFormat}
+use Rattle.pr_capture.specs.declared.format.InputFormat.{InputFormat}
+use Rattle.pr_capture.specs.declared.format.InputFormat.TheVariants as source
 use Rattle.pr_capture.specs.declared.format.TraceInput.{TraceInput}
 use Rattle.pr_capture.specs.declared.signals.Probes.{Probes}
 use Rattle.pr_options.specs.declared.outputs.CheckOutput.{CheckOutput}
@@ -53,7 +53,7 @@ pub record RunView : Type 0 where
 
 -- how a trace or a recording is read
 pub record InputView : Type 0 where
-  pub source : Source
+  pub source : InputFormat
   pub names : Names
   pub probes : Probes
   pub start : ℕ
@@ -63,7 +63,7 @@ pub record InputView : Type 0 where
 -- a job in plain values
 pub data JobView : Type 0 where
   Pages : ListingForm → RunView → PagesOutput → JobView
-  Bus : ListingForm → RunView → TraceFormat → JobView
+  Bus : ListingForm → RunView → OutputFormat → JobView
   Check : Bool → InputView → CheckOutput → JobView
   Decode : Bool → InputView → DecodeOutput → JobView
   Raw : Bool → Format → JobView
@@ -146,14 +146,14 @@ abbrev pub wants_table : List Row → Bool
 wants_table rows = is_given opt.Rate rows || is_given opt.Threshold rows
 
 -- the options that are given fit the source: with a trace text, none of a recording, and those of a table only with one
-abbrev pub fitting : Source → List Row → Result (Unit {0}) JobFault
+abbrev pub fitting : InputFormat → List Row → Result (Unit {0}) JobFault
 fitting source.Text rows = if wants_recording rows then Err fault.NoRecording
     else (if wants_table rows then Err fault.NoTable else Ok tt)
 fitting source.Vcd rows = if wants_table rows then Err fault.NoTable else Ok tt
 fitting source.Csv rows = Ok tt
 
 -- how to read a trace or a recording in this format
-abbrev pub wanted_input : Source → List Row → Result InputView JobFault
+abbrev pub wanted_input : InputFormat → List Row → Result InputView JobFault
 wanted_input source rows =
     read opt.Names names_of rows >>= λ names.
     read opt.Invert inverted_of rows >>= λ probes.
@@ -296,7 +296,7 @@ decode_output (reading.Pages format first) lower rows =
 
 -- a recording whose format is not given is a trace text, or a table where something is given that goes with a
 -- recording alone, if its first bytes do not show another one
-abbrev pub unless_found : List Row → Source
+abbrev pub unless_found : List Row → InputFormat
 unless_found rows = if wants_recording rows || wants_table rows then source.Csv else source.Text
 
 -- the jobs of the subcommands; each has its own values of --as. The first part of a job of `check` or `decode` says whether

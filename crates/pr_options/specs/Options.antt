@@ -26,10 +26,10 @@ use Rattle.pr_render.specs.declared.format.Device.TheVariants as device
 use Rattle.pr_render.specs.declared.format.Look.TheVariants.{Blocks}
 use Rattle.pr_render.specs.declared.format.Size.{Size}
 use Rattle.pr_render.specs.declared.format.Size.TheVariants as size
-use Rattle.pr_capture.specs.declared.format.TraceFormat.{TraceFormat}
-use Rattle.pr_capture.specs.declared.format.TraceFormat.TheVariants as trace
-use Rattle.pr_capture.specs.declared.format.Source.{Source}
-use Rattle.pr_capture.specs.declared.format.Source.TheVariants as source
+use Rattle.pr_capture.specs.declared.format.OutputFormat.{OutputFormat}
+use Rattle.pr_capture.specs.declared.format.OutputFormat.TheVariants as trace
+use Rattle.pr_capture.specs.declared.format.InputFormat.{InputFormat}
+use Rattle.pr_capture.specs.declared.format.InputFormat.TheVariants as source
 use Rattle.pr_options.specs.declared.outputs.CheckOutput.{CheckOutput}
 use Rattle.pr_options.specs.declared.outputs.CheckOutput.TheVariants as checked
 use Rattle.pr_report.specs.declared.report.Report.TheVariants as report
@@ -142,16 +142,16 @@ abbrev pub device_of : Text → Option Device
 device_of = meaning_of ((codes "4", device.Four) ∷ (codes "5", device.Five) ∷ [])
 
 -- the format of a run's trace: text or vcd
-abbrev pub trace_format_of : Text → Option TraceFormat
+abbrev pub trace_format_of : Text → Option OutputFormat
 trace_format_of = meaning_of ((codes "text", trace.Text) ∷ (codes "vcd", trace.Vcd) ∷ [])
 
 -- the format of a trace or a recording: text, vcd or csv
-abbrev pub source_of : Text → Option Source
+abbrev pub source_of : Text → Option InputFormat
 source_of = meaning_of (
     (codes "text", source.Text) ∷ (codes "vcd", source.Vcd) ∷ (codes "csv", source.Csv) ∷ [])
 
 -- the same, or auto, which names none: the first bytes show it
-abbrev pub found_source_of : Text → Option (Option Source)
+abbrev pub found_source_of : Text → Option (Option InputFormat)
 found_source_of text = if bytes_eq text (codes "auto") then Some None else option_map (λ source. Some source) (source_of text)
 
 -- what `check` writes: frames, story or json

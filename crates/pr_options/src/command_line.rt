@@ -28,7 +28,7 @@ use clap::ArgMatches;
 use clap::error::ErrorKind;
 use pr_basic::StatusMode;
 use pr_bus::Delays;
-use pr_capture::{Probes, Signals, Source, TraceFormat, TraceInput};
+use pr_capture::{InputFormat, OutputFormat, Probes, Signals, TraceInput};
 use pr_listing::ListingForm;
 use pr_render::Format;
 use pr_serial::Present;
@@ -43,7 +43,7 @@ pub enum Job<'a> {
     Pages(ListingForm, Present, Delays, StatusMode, PagesOutput),
     /// Read a listing in this form and write the trace of its run, with these printers present, these
     /// delays, and the status going on in this way, in this format.
-    Bus(ListingForm, Present, Delays, StatusMode, TraceFormat),
+    Bus(ListingForm, Present, Delays, StatusMode, OutputFormat),
     /// Read a trace and write what it says.
     Check {
         /// The first bytes of the trace show its format, as [`pr_capture::found_source`] reads them; the format
@@ -369,7 +369,7 @@ fn run_of(alloc: Global, options: &ArgMatches<'_>) -> Result<Run, JobFault>
 
 /// How to read a trace or a recording in this format. Whether the options go with the format is judged when
 /// all their values are good.
-fn input_of<'a>(source: Source, options: &ArgMatches<'a>) -> Result<TraceInput<'a>, JobFault>
+fn input_of<'a>(source: InputFormat, options: &ArgMatches<'a>) -> Result<TraceInput<'a>, JobFault>
     ensures ok { IfOk result (λ input. wanted_input source (rows_of (found_of options.now)) ≡ Ok (input_view input)) }
     ensures bad { IfErr result (λ f. wanted_input source (rows_of (found_of options.now)) ≡ Err f) }
     ensures own { IfErr result IsOwn }

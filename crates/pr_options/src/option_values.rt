@@ -9,7 +9,9 @@ ghost use Rattle.pr_options.specs.SignalNames.{are_names, differ, is_clock_twice
 use crate::outputs::{CheckOutput, DecodeOutput, Hearing, PagesOutput};
 use crate::parts::{all_digits, cut};
 use pr_basic::StatusMode;
-use pr_capture::{Probes, Signals, Source, Threshold, TraceFormat, Volts, read_rate, read_volts};
+use pr_capture::{
+    InputFormat, OutputFormat, Probes, Signals, Threshold, Volts, read_rate, read_volts,
+};
 use pr_dots::Scale;
 use pr_listing::ListingForm;
 use pr_render::{Device, Format, Layout, Look, Part, Size};
@@ -325,31 +327,31 @@ fn top_numbered(n: u64) -> Option<u8>
 }
 
 /// The format of a run's trace: `text` or `vcd` (profile). None for any other text.
-pub fn read_trace_format(text: &str) -> Option<TraceFormat>
+pub fn read_trace_format(text: &str) -> Option<OutputFormat>
     ensures { result ≡ trace_format_of text.now }
 {
     match text {
-        "text" => Some(TraceFormat::Text),
-        "vcd" => Some(TraceFormat::Vcd),
+        "text" => Some(OutputFormat::Text),
+        "vcd" => Some(OutputFormat::Vcd),
         _ => None,
     }
 }
 
 /// The format of a trace or a recording: `text`, `vcd` or `csv` (profile). None for any other text.
-fn read_source(text: &str) -> Option<Source>
+fn read_source(text: &str) -> Option<InputFormat>
     ensures { result ≡ source_of text.now }
 {
     match text {
-        "text" => Some(Source::Text),
-        "vcd" => Some(Source::Vcd),
-        "csv" => Some(Source::Csv),
+        "text" => Some(InputFormat::Text),
+        "vcd" => Some(InputFormat::Vcd),
+        "csv" => Some(InputFormat::Csv),
         _ => None,
     }
 }
 
 /// The format of a trace or a recording, as [`read_source`] reads it, or `auto`, which names none: its first bytes show it
 /// (profile). None for any other text.
-pub fn read_found_source(text: &str) -> Option<Option<Source>>
+pub fn read_found_source(text: &str) -> Option<Option<InputFormat>>
     ensures { result ≡ found_source_of text.now }
 {
     match text {

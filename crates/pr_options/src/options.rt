@@ -228,7 +228,7 @@ pub struct OptionRow {
     pub file: &'static str,
     /// What the endings of that file's name say: each ending with its point, in small letters (capitals are the
     /// same), and the value, as words would give it.
-    pub endings: &'static [Ending],
+    pub endings: &'static [NameEnding],
     /// Its values, in a few words.
     pub values: &'static str,
     /// What it is for, and what its values are, as help says it.
@@ -236,7 +236,7 @@ pub struct OptionRow {
 }
 
 /// An ending of a file's name, and the value that it gives an option.
-pub type Ending = (&'static str, &'static str);
+pub type NameEnding = (&'static str, &'static str);
 
 /// An argument that names a file.
 #[derive(Clone, Copy)]
@@ -275,7 +275,7 @@ pub const ALL_LINES: &str = "ATN,CLOCK,DATA";
 pub const OUTPUT_LETTER: char = 'o';
 
 /// What the endings of a listing's name say.
-const LISTING_ENDINGS: &[Ending] = &[
+const LISTING_ENDINGS: &[NameEnding] = &[
     (".prg", "prg"),
     (".p00", "prg"),
     (".t64", "prg"),
@@ -285,10 +285,10 @@ const LISTING_ENDINGS: &[Ending] = &[
 ];
 
 /// What the endings of a recording's name say.
-const RECORDING_ENDINGS: &[Ending] = &[(".vcd", "vcd"), (".csv", "csv"), (".trace", "text")];
+const RECORDING_ENDINGS: &[NameEnding] = &[(".vcd", "vcd"), (".csv", "csv"), (".trace", "text")];
 
 /// What the endings of a page's name say.
-const PAGE_ENDINGS: &[Ending] = &[
+const PAGE_ENDINGS: &[NameEnding] = &[
     (".svg", "svg"),
     (".png", "png"),
     (".pdf", "pdf"),
@@ -296,13 +296,13 @@ const PAGE_ENDINGS: &[Ending] = &[
 ];
 
 /// What the endings of a trace's name say.
-const TRACE_ENDINGS: &[Ending] = &[(".vcd", "vcd")];
+const TRACE_ENDINGS: &[NameEnding] = &[(".vcd", "vcd")];
 
 /// What the endings of a report's name say.
-const REPORT_ENDINGS: &[Ending] = &[(".json", "json")];
+const REPORT_ENDINGS: &[NameEnding] = &[(".json", "json")];
 
 /// What the endings of a reading's name say.
-const READING_ENDINGS: &[Ending] = &[
+const READING_ENDINGS: &[NameEnding] = &[
     (".svg", "svg"),
     (".png", "png"),
     (".pdf", "pdf"),
@@ -311,7 +311,7 @@ const READING_ENDINGS: &[Ending] = &[
 
 /// The endings of files that are no listing: images of disks and tapes, archives, and recordings. Any other name says
 /// nothing, so the first bytes show the form.
-const FOREIGN_LISTINGS: &[Ending] = &[
+const FOREIGN_LISTINGS: &[NameEnding] = &[
     (".d64", "d64"),
     (".d71", "d71"),
     (".d80", "d80"),
@@ -340,7 +340,7 @@ const FOREIGN_LISTINGS: &[Ending] = &[
 
 /// The endings of files that are no recording which is read: dumps in other forms, and archives. Any other name says
 /// nothing, so the first bytes show the format.
-const FOREIGN_RECORDINGS: &[Ending] = &[
+const FOREIGN_RECORDINGS: &[NameEnding] = &[
     (".fst", "fst"),
     (".ghw", "ghw"),
     (".lxt", "lxt"),
@@ -353,7 +353,7 @@ const FOREIGN_RECORDINGS: &[Ending] = &[
 ];
 
 /// The endings of files of other programs, and of formats that only other subcommands write.
-const FOREIGN_OUTPUTS: &[Ending] = &[
+const FOREIGN_OUTPUTS: &[NameEnding] = &[
     (".svg", "svg"),
     (".png", "png"),
     (".pdf", "pdf"),
@@ -389,7 +389,7 @@ const FOREIGN_OUTPUTS: &[Ending] = &[
 ];
 
 /// No ending says anything.
-const NO_ENDINGS: &[Ending] = &[];
+const NO_ENDINGS: &[NameEnding] = &[];
 
 // What help says of the options, and their values in a few words.
 
@@ -588,7 +588,7 @@ fn valued(
 }
 
 /// The row of an option whose value the ending of a file's name can give.
-fn with_endings(row: OptionRow, file: &'static str, endings: &'static [Ending]) -> OptionRow
+fn with_endings(row: OptionRow, file: &'static str, endings: &'static [NameEnding]) -> OptionRow
     ensures { row_view result ≡ by_file file.now (endings_view endings.now) (row_view row) }
 {
     OptionRow {
@@ -706,7 +706,7 @@ impl Opt {
 impl Opt {
     /// What the endings of a file's name say that no format has: values that are none of this option, so that they are
     /// refused; or, of any other input, that its first bytes show the format.
-    pub(crate) fn foreign(self) -> &'static [Ending]
+    pub(crate) fn foreign(self) -> &'static [NameEnding]
         ensures { endings_view result.now ≡ foreign self }
     {
         match self {

@@ -15,24 +15,24 @@ use crate::option_values::{
     UNHEARING, read_bounds, read_device, read_listening, read_paper, read_scale, read_sheet,
     read_signals, read_top,
 };
-use crate::options::{Ending, FileArgument, Opt, OptionRow};
+use crate::options::{FileArgument, NameEnding, Opt, OptionRow};
 use crate::outputs::{DecodeOutput, Hearing, PagesOutput};
 use clap::ArgMatches;
 use clap::parser::ValueSource;
-use pr_capture::{Signals, Source};
+use pr_capture::{InputFormat, Signals};
 use pr_dots::Scale;
 use pr_render::{Device, Format, Layout, Part, Size};
 use pr_report::{Bounds, Detail};
 use pr_serial::Present;
 
 /// The format of a recording whose first bytes show none.
-pub fn unless_found(options: &ArgMatches<'_>) -> Source
+pub fn unless_found(options: &ArgMatches<'_>) -> InputFormat
     ensures { result ≡ unless_found (rows_of (found_of options.now)) }
 {
     if wants_recording(options) || wants_table(options) {
-        Source::Csv
+        InputFormat::Csv
     } else {
-        Source::Text
+        InputFormat::Text
     }
 }
 
@@ -381,14 +381,14 @@ fn wants_readings(options: &ArgMatches<'_>) -> bool
 
 /// Refuses what is given and does not go with the source: with a text what goes with a recording alone, and what
 /// goes with a table alone unless it is one.
-pub fn fitting(source: Source, options: &ArgMatches<'_>) -> Result<(), JobFault>
+pub fn fitting(source: InputFormat, options: &ArgMatches<'_>) -> Result<(), JobFault>
     ensures value { result ≡ fitting source (rows_of (found_of options.now)) }
     ensures own { IfErr result IsOwn }
 {
     match source {
-        Source::Text if wants_recording(options) => Err(JobFault::NoRecording),
-        Source::Text | Source::Vcd if wants_table(options) => Err(JobFault::NoTable),
-        Source::Text | Source::Vcd | Source::Csv => Ok(()),
+        InputFormat::Text if wants_recording(options) => Err(JobFault::NoRecording),
+        InputFormat::Text | InputFormat::Vcd if wants_table(options) => Err(JobFault::NoTable),
+        InputFormat::Text | InputFormat::Vcd | InputFormat::Csv => Ok(()),
     }
 }
 
@@ -470,7 +470,7 @@ fn given_value<'a>(options: &ArgMatches<'a>, row: OptionRow) -> &'a str
 fn ending_value(
     options: &ArgMatches<'_>,
     row: OptionRow,
-    foreign: &[Ending],
+    foreign: &[NameEnding],
 ) -> Option<&'static str>
     ensures { option_map (λ value. value.now) result ≡ ending_value (row_view row) (endings_view foreign.now) (rows_of (found_of options.now)) }
 {
@@ -484,7 +484,7 @@ fn ending_value(
 }
 
 /// The value by the endings of an option, or else by those that no format has.
-fn value_by_name(endings: &[Ending], foreign: &[Ending], name: &str) -> Option<&'static str>
+fn value_by_name(endings: &[NameEnding], foreign: &[NameEnding], name: &str) -> Option<&'static str>
     ensures { option_map (λ value. value.now) result ≡ value_by_name (endings_view endings.now) (endings_view foreign.now) name.now }
 {
     match value_by_ending(endings, name) {
@@ -494,7 +494,7 @@ fn value_by_name(endings: &[Ending], foreign: &[Ending], name: &str) -> Option<&
 }
 
 /// The value of the first of these endings that the name has.
-fn value_by_ending(endings: &[Ending], name: &str) -> Option<&'static str>
+fn value_by_ending(endings: &[NameEnding], name: &str) -> Option<&'static str>
     ensures { option_map (λ value. value.now) result ≡ value_by_ending (endings_view endings.now) name.now }
 {
     match first_ending(endings, name) {
@@ -504,7 +504,7 @@ fn value_by_ending(endings: &[Ending], name: &str) -> Option<&'static str>
 }
 
 /// The first of these endings that the name has.
-fn first_ending<'a>(endings: &'a [Ending], name: &str) -> Option<&'a Ending>
+fn first_ending<'a>(endings: &'a [NameEnding], name: &str) -> Option<&'a NameEnding>
     ensures { option_map (λ e. e.now) result ≡ find (λ e. has_ending name.now e.0.now) endings.now }
 {
     endings.iter().find(|e| has_ending(name, e.0))

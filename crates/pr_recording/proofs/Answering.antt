@@ -10,7 +10,7 @@ use Rattle.pr_wire.specs.declared.text.TraceFault.TheVariants as trace
 use Rattle.pr_wire.specs.Table.{fault_of}
 use Rattle.pr_capture.specs.declared.fault.CaptureFault.{CaptureFault}
 use Rattle.pr_capture.specs.declared.fault.CaptureFault.TheVariants as capture
-use Rattle.pr_capture.specs.declared.format.Source.{Source}
+use Rattle.pr_capture.specs.declared.format.InputFormat.{InputFormat}
 use Rattle.pr_capture.specs.declared.format.TraceInput.{TraceInput}
 use Rattle.pr_input.specs.PartlyWritten.{AppendsFront}
 use Rattle.pr_input.specs.Watched.{has_failed}
@@ -45,17 +45,17 @@ use Rattle.pr_recording.proofs.ReadInto.{by_no_reading, by_own, if_known, is_sto
 use Rattle.pr_recording.proofs.Writing.{front_behind, front_none, whole_behind}
 
 -- these edges were reported, and the lines that were given up were written
-pub record HasWritten (s : Source) (w : Wording) (old now : Option (List ℕ)) (n : DecodeReport) (edges : List Edge) : Type 0 where
+pub record HasWritten (s : InputFormat) (w : Wording) (old now : Option (List ℕ)) (n : DecodeReport) (edges : List Edge) : Type 0 where
   pub written : List ℕ
   pub narrated : HasNarrated s w edges written n
   pub wrote : Appends old now written
 
 -- before the first block
-pub writes_none : (s : Source) (w : Wording) (old : Option (List ℕ)) (n : DecodeReport) → HasNarrated s w [] [] n → HasWritten s w old old n []
+pub writes_none : (s : InputFormat) (w : Wording) (old : Option (List ℕ)) (n : DecodeReport) → HasNarrated s w [] [] n → HasWritten s w old old n []
 writes_none s w old n h = record { written = []; narrated = h; wrote = Appends-nil old }
 
 -- the edges of a block were reported
-pub writes_more : (s : Source) (w : Wording) (old now : Option (List ℕ)) (n m : DecodeReport) (more edges : List Edge) → NarratesMore more n m
+pub writes_more : (s : InputFormat) (w : Wording) (old now : Option (List ℕ)) (n m : DecodeReport) (more edges : List Edge) → NarratesMore more n m
     → HasWritten s w old now n edges → HasWritten s w old now m (edges ++ more)
 writes_more s w old now n m more edges narrates h = record { written = h.written; narrated = narrates s w edges h.written h.narrated; wrote = h.wrote }
 
@@ -174,7 +174,7 @@ edge_fault (Some (wave.TooLate n)) none = tt
 edge_fault (Some (wave.Shape n)) none = tt
 edge_fault (Some (wave.Truncated n)) none = tt
 
-refuses : (checked : Bool) (s : Source) (edges : List Edge) (own : Option CliFault) → IfSome own IsOwnFault → IfSome (refused_for checked s edges own) (Refuses checked)
+refuses : (checked : Bool) (s : InputFormat) (edges : List Edge) (own : Option CliFault) → IfSome own IsOwnFault → IfSome (refused_for checked s edges own) (Refuses checked)
 refuses false s edges own h = is_stop (back_in edges) own h
 refuses true s edges None h = edge_fault (fault_of (edges_checked s edges)) (no_memory (edges_checked s edges))
 refuses true s edges (Some f) h = by_own (Refuses true) f h (λ n. tt) (λ x h. h)
@@ -211,13 +211,13 @@ no_picture true x h = h
 no_picture false x h = h
 
 -- where nothing is refused, the input has no fault
-no_own_fault : (checked : Bool) (s : Source) (edges : List Edge) (own : Option CliFault) → refused_for checked s edges own ≡ None → own ≡ None
+no_own_fault : (checked : Bool) (s : InputFormat) (edges : List Edge) (own : Option CliFault) → refused_for checked s edges own ≡ None → own ≡ None
 no_own_fault false s edges own h = no_own (back_in edges) own h
 no_own_fault true s edges None h = refl
 no_own_fault true s edges (Some f) h = absurd (cc)
 
 -- nor where its edges are refused for more than that time goes back
-no_fault_beside : (s : Source) (edges : List Edge) (own : Option CliFault) (f : WaveFault) → IfSome own IsOwnFault → refused_for true s edges own ≡ Some (Wave f) → own ≡ None
+no_fault_beside : (s : InputFormat) (edges : List Edge) (own : Option CliFault) (f : WaveFault) → IfSome own IsOwnFault → refused_for true s edges own ≡ Some (Wave f) → own ≡ None
 no_fault_beside s edges None f h is = refl
 no_fault_beside s edges (Some x) f h is = absurd (by x (cc) h)
   where
@@ -291,7 +291,7 @@ own_fault checked e now new (Err f) h w = by f w
     by WriteFailed w = (any_fault checked).3
 
 -- how far the input has been read where the end is written
-read_to : (checked : Bool) (s : Source) (edges : List Edge) (own : Option CliFault) (e : Ended) (now new left : Option (List ℕ)) (v : Result Oddities CliFault) → e.refused ≡ refused_for checked s edges own → IfSome own IsOwnFault
+read_to : (checked : Bool) (s : InputFormat) (edges : List Edge) (own : Option CliFault) (e : Ended) (now new left : Option (List ℕ)) (v : Result Oddities CliFault) → e.refused ≡ refused_for checked s edges own → IfSome own IsOwnFault
     → (own ≡ None → IsAtEnd left) → WritesEnd e now new v → HasReadTo checked left v
 read_to true s edges own e now new left (Ok u) is h at_end w = at_end (no_own_fault true s edges own (sym is ∙ w.0))
 read_to false s edges own e now new left (Ok u) is h at_end w = at_end (no_own_fault false s edges own (sym is ∙ w.0))

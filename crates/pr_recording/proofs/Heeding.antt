@@ -4,7 +4,7 @@ use Rattle.std.specs.Prelude.{is_some}
 use Rattle.pr_wire.specs.declared.Edge.{Edge}
 use Rattle.pr_wire.specs.declared.WaveFault.{WaveFault}
 use Rattle.pr_wire.specs.Table.{fault_of}
-use Rattle.pr_capture.specs.declared.format.Source.{Source}
+use Rattle.pr_capture.specs.declared.format.InputFormat.{InputFormat}
 use Rattle.pr_capture.specs.declared.format.TraceInput.{TraceInput}
 use Rattle.pr_decode.specs.declared.reading.Reading.{Reading}
 use Rattle.pr_report.specs.Oddities.{oddities_of}
@@ -39,7 +39,7 @@ pub record EndsLines (input : TraceInput) (fault : Option WaveFault) (n : Decode
 
 -- the end of edges
 pub ends : (input : TraceInput) (checked : Bool) (n : DecodeReport) (own : Option CliFault) (fault : Option WaveFault) (log : ReadingLog) (end : TapeEnd) (e : Ended) → EndsTape AccountsMore own n.tape n.log log end
-    → ((s : Source) (edges : List Edge) → HasJudged s edges n.judge → fault ≡ fault_of (edges_checked s edges)) → e.refused ≡ refused_by checked end.stop own fault → EndsLines input fault n log end e
+    → ((s : InputFormat) (edges : List Edge) → HasJudged s edges n.judge → fault ≡ fault_of (edges_checked s edges)) → e.refused ≡ refused_by checked end.stop own fault → EndsLines input fault n log end e
     → (w : Wording) (edges : List Edge) (written : List ℕ) → HasNarrated input.source w edges written n → EndsEdges input w checked edges written own e
 ends input checked n own fault log end e tape judges refused lines w edges written h = record {
   refused = refused ∙ (ap (λ v. refused_by checked v own fault) is.stop ∙ ap (λ f. refused_by checked (stop_at (back_in edges) own) own f) (judges input.source edges h.judged));

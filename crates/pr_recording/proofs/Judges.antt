@@ -12,8 +12,8 @@ use Rattle.pr_wire.specs.declared.follower.TraceFollower.{TraceFollower}
 use Rattle.pr_wire.specs.Following.{HasAccepted, TakesFrame, kept_fault, outcome, refusal_at, refused_at, where_led}
 use Rattle.pr_wire.specs.Reached.{Reached, begin, led, onto, reached, step_of}
 use Rattle.pr_capture.specs.Samples.{counted_from}
-use Rattle.pr_capture.specs.declared.format.Source.{Source}
-use Rattle.pr_capture.specs.declared.format.Source.TheVariants as source
+use Rattle.pr_capture.specs.declared.format.InputFormat.{InputFormat}
+use Rattle.pr_capture.specs.declared.format.InputFormat.TheVariants as source
 use Rattle.pr_jobs.specs.Begun.{CountsOn, HasBegun, KeepsTimes}
 use Rattle.pr_jobs.specs.Report.{counted_from_first, edges_checked}
 use Rattle.pr_jobs.specs.declared.beginning.Beginning.{Beginning}
@@ -26,7 +26,7 @@ followed_none f accepted works =
     let none : List Frame = [] in
     (none, accepted ∙ sym (ap (λ v. outcome (refused_at v f.taken) (where_led f none)) works))
 
-pub judged_none : (s : Source) (j : Judge) → HasBegun s [] j.beginning → IsFollowed [] j.follower → HasJudged s [] j
+pub judged_none : (s : InputFormat) (j : Judge) → HasBegun s [] j.beginning → IsFollowed [] j.follower → HasJudged s [] j
 judged_none source.Text j begun followed = record { begun = begun; followed = followed }
 judged_none source.Csv j begun followed = record { begun = begun; followed = followed }
 judged_none source.Vcd j begun followed = record { begun = begun; followed = followed }

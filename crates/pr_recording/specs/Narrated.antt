@@ -4,7 +4,7 @@ use Rattle.std.specs.Prelude.{◌≡◌, ℕ, ◌+◌, Bool, true, false, List, 
 use Rattle.std.specs.Io.KnownBytes.{Appends}
 use Rattle.pr_wire.specs.declared.Edge.{Edge}
 use Rattle.pr_wire.specs.declared.WaveFault.TheVariants as wave
-use Rattle.pr_capture.specs.declared.format.Source.{Source}
+use Rattle.pr_capture.specs.declared.format.InputFormat.{InputFormat}
 use Rattle.pr_capture.specs.declared.format.TraceInput.{TraceInput}
 use Rattle.pr_decode.specs.declared.reading.Reading.{Reading}
 use Rattle.pr_decode.specs.Readings.{readings_of}
@@ -64,7 +64,7 @@ AccountsMore more old new = (w : Wording) (given : List Reading) (written : List
 -- Reports on edges.
 
 -- edges of an input in this format were taken up to where time goes back, their lines were made, and all were judged
-pub record HasNarrated (s : Source) (w : Wording) (edges : List Edge) (written : List ℕ) (n : DecodeReport)
+pub record HasNarrated (s : InputFormat) (w : Wording) (edges : List Edge) (written : List ℕ) (n : DecodeReport)
     : Type 0 where
   pub judged : HasJudged s edges n.judge
   pub given : List Reading
@@ -78,7 +78,7 @@ load n = edges_taped n.tape + (edges_judged n.judge + readings_told n.log)
 -- with more edges
 abbrev pub NarratesMore : List Edge → (old new : DecodeReport) → Type 0
 NarratesMore more old new =
-    (s : Source) (w : Wording) (edges : List Edge) (written : List ℕ) → HasNarrated s w edges written old
+    (s : InputFormat) (w : Wording) (edges : List Edge) (written : List ℕ) → HasNarrated s w edges written old
     → HasNarrated s w (edges ++ more) written new
 
 -- the end of edges whose input has this fault, if it has one: why they are refused, the lines that were not given up
@@ -96,7 +96,7 @@ lines_in n = n.log.lines.items
 -- the lines so far are given up
 abbrev pub GivesUp : (old new : DecodeReport) → Type 0
 GivesUp old new =
-    (s : Source) (w : Wording) (edges : List Edge) (written : List ℕ) → HasNarrated s w edges written old
+    (s : InputFormat) (w : Wording) (edges : List Edge) (written : List ℕ) → HasNarrated s w edges written old
     → HasNarrated s w edges (written ++ lines_in old) new
 
 -- the end of an input of which the edges before the last block were reported

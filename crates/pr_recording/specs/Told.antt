@@ -4,7 +4,7 @@ use Rattle.std.specs.Prelude.{◌≡◌, ℕ, Bool, true, false, List, length, O
 use Rattle.pr_wire.specs.declared.Edge.{Edge}
 use Rattle.pr_wire.specs.declared.WaveFault.{WaveFault}
 use Rattle.pr_wire.specs.Table.{fault_of}
-use Rattle.pr_capture.specs.declared.format.Source.{Source}
+use Rattle.pr_capture.specs.declared.format.InputFormat.{InputFormat}
 use Rattle.pr_capture.specs.declared.format.TraceInput.{TraceInput}
 use Rattle.pr_decode.specs.Readings.{readings_of}
 use Rattle.pr_report.specs.Oddities.{oddities_of}
@@ -23,7 +23,7 @@ refused_by true stop own fault = refusal own fault
 refused_by false stop own fault = stop
 
 -- the same, by its format and its edges
-abbrev pub refused_for : (checked : Bool) → Source → List Edge → (own : Option CliFault) → Option CliFault
+abbrev pub refused_for : (checked : Bool) → InputFormat → List Edge → (own : Option CliFault) → Option CliFault
 refused_for checked source edges own =
     refused_by checked (stop_at (back_in edges) own) own (fault_of (edges_checked source edges))
 

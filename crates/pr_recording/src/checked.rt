@@ -16,7 +16,7 @@ use std::io::{Read, Write};
 
 /// Reads a trace in any format and writes its readings as lines of JSON, and a line that says whether it is lawful: the
 /// lines that [`crate::decode_over`] writes, as it writes them. A trace that is not lawful is refused with the fault that
-/// [`pr_jobs::check_as_over`] reports of it.
+/// [`pr_jobs::write_check_report`] reports of it.
 ///
 /// # Errors
 ///

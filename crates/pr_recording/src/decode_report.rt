@@ -11,7 +11,7 @@ use crate::judge::Judge;
 use crate::reading_log::ReadingLog;
 use crate::tape::Tape;
 use crate::wording::Wording;
-use pr_capture::{Source, TraceInput};
+use pr_capture::{InputFormat, TraceInput};
 use pr_jobs::CliFault;
 use pr_report::Oddities;
 use pr_wire::{Edge, WaveFault};
@@ -37,7 +37,11 @@ pub struct DecodeReport {
 
 impl DecodeReport {
     /// A report that has taken no edge of an input in this format, and writes readings so.
-    pub fn new(alloc: Global, source: Source, wording: Wording) -> Result<DecodeReport, AllocError>
+    pub fn new(
+        alloc: Global,
+        source: InputFormat,
+        wording: Wording,
+    ) -> Result<DecodeReport, AllocError>
         ensures narrated { IfOk result (λ report. HasNarrated source wording [] [] report) }
         ensures load { IfOk result (λ report. load report ≡ 0) }
     {

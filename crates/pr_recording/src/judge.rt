@@ -3,11 +3,11 @@
 ghost use Rattle.std.specs.Prelude.{◌≡◌, ◌+◌, ◌^◌, ◌<◌, ◌≤◌, ◌∷◌, [], List, length, take};
 ghost use Rattle.pr_wire.specs.declared.Edge.{Edge};
 ghost use Rattle.pr_wire.specs.Table.{fault_of};
-ghost use Rattle.pr_capture.specs.declared.format.Source.{Source};
+ghost use Rattle.pr_capture.specs.declared.format.InputFormat.{InputFormat};
 ghost use Rattle.pr_jobs.specs.Report.{edges_checked};
 ghost use Rattle.pr_recording.specs.Judged.{HasJudged, JudgesMore, edges_judged};
 
-use pr_capture::Source;
+use pr_capture::InputFormat;
 use pr_jobs::Beginning;
 use pr_wire::{Edge, TraceFollower, WaveFault};
 
@@ -20,7 +20,7 @@ pub struct Judge {
 
 impl Judge {
     /// A judge of no edge of an input in this format. It takes no memory.
-    pub fn new(source: Source) -> Judge
+    pub fn new(source: InputFormat) -> Judge
         ensures judged { HasJudged source [] result }
         ensures count { edges_judged result ≡ 0 }
     {
@@ -99,7 +99,7 @@ impl Judge {
 
     /// Ends the edges, and gives their first fault, if they have one.
     pub fn finish(self) -> Option<WaveFault>
-        ensures { (source : Source) (edges : List Edge) → HasJudged source edges self → result ≡ fault_of (edges_checked source edges) }
+        ensures { (source : InputFormat) (edges : List Edge) → HasJudged source edges self → result ≡ fault_of (edges_checked source edges) }
     {
         self.follower.finish().err()
     }

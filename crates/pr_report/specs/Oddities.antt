@@ -2,8 +2,8 @@
 -- rests at 0: what is odd, and what to try.
 use Rattle.std.specs.Prelude.{ℕ, not, ◌||◌, Bool, true, false, List, [], ◌∷◌, ◌++◌, Option, Some, None, codes, if◌then◌else◌}
 use Rattle.std.specs.List.{list_any}
-use Rattle.pr_capture.specs.declared.format.Source.{Source}
-use Rattle.pr_capture.specs.declared.format.Source.TheVariants.{Csv, Text, Vcd}
+use Rattle.pr_capture.specs.declared.format.InputFormat.{InputFormat}
+use Rattle.pr_capture.specs.declared.format.InputFormat.TheVariants.{Csv, Text, Vcd}
 use Rattle.pr_capture.specs.declared.format.TraceInput.{TraceInput}
 use Rattle.pr_capture.specs.Recording.{inverts_any}
 use Rattle.pr_wire.specs.declared.Edge.{Edge}
@@ -83,7 +83,7 @@ other_signals no_byte is_inverted =
     ++ told_if (not is_inverted) (codes "try --invert for probes behind inverters, or other signals with --names\n")
 
 -- a trace text has neither probes nor other signals
-abbrev pub to_try : Source → (no_byte is_inverted : Bool) → List ℕ
+abbrev pub to_try : InputFormat → (no_byte is_inverted : Bool) → List ℕ
 to_try Text no_byte is_inverted =
     codes "in a trace text the levels are those of ATN, CLOCK and DATA, and 1 is released\n"
 to_try Vcd no_byte is_inverted = other_signals no_byte is_inverted

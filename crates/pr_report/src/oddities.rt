@@ -9,7 +9,7 @@ ghost use Rattle.pr_report.specs.Steps.{first_or};
 ghost use Rattle.pr_report.specs.Taking.{HasSeen};
 
 use crate::brief_pulses::PulseCount;
-use pr_capture::{Source, TraceInput};
+use pr_capture::{InputFormat, TraceInput};
 use pr_decode::{FrameEnd, Reading};
 use pr_wire::{Edge, Levels, NoMemory};
 
@@ -209,17 +209,17 @@ fn push_other_signals(text: &mut Vec<u8>, no_byte: bool, is_inverted: bool) -> R
 /// Adds what to try of a recording in this format, in which no byte is acknowledged or one is.
 fn push_to_try(
     text: &mut Vec<u8>,
-    source: Source,
+    source: InputFormat,
     no_byte: bool,
     is_inverted: bool,
 ) -> Result<(), NoMemory>
     ensures { OnOk result (text.new.items ≡ text.old.items ++ to_try source no_byte is_inverted) }
 {
     match source {
-        Source::Text => text.extend_from_slice(
+        InputFormat::Text => text.extend_from_slice(
             b"in a trace text the levels are those of ATN, CLOCK and DATA, and 1 is released\n",
         ),
-        Source::Vcd | Source::Csv => push_other_signals(text, no_byte, is_inverted),
+        InputFormat::Vcd | InputFormat::Csv => push_other_signals(text, no_byte, is_inverted),
     }
 }
 

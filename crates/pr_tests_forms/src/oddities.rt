@@ -1,6 +1,6 @@
 //! What is odd about a recording.
 
-use pr_capture::{Probes, Signals, Source, TraceInput};
+use pr_capture::{InputFormat, Probes, Signals, TraceInput};
 use pr_report::{LinesSeen, push_oddities};
 use pr_wire::{Edge, Levels};
 use std::process::Abort;
@@ -24,7 +24,7 @@ const CALLED: Edge = Edge {
 };
 
 /// An input in this format, whose levels are inverted or not.
-fn input(source: Source, is_inverted: bool) -> TraceInput<'static> {
+fn input(source: InputFormat, is_inverted: bool) -> TraceInput<'static> {
     TraceInput {
         source,
         signals: Signals {
@@ -41,52 +41,58 @@ fn input(source: Source, is_inverted: bool) -> TraceInput<'static> {
 
 /// The format of a recording, whether its levels are inverted, its edges, whether a byte was acknowledged in them, and
 /// what is odd.
-const ODD: [(Source, bool, &[Edge], bool, &str); 8] = [
-    (Source::Csv, false, &[RELEASED, CALLED, RELEASED], true, ""),
+const ODD: [(InputFormat, bool, &[Edge], bool, &str); 8] = [
     (
-        Source::Csv,
+        InputFormat::Csv,
+        false,
+        &[RELEASED, CALLED, RELEASED],
+        true,
+        "",
+    ),
+    (
+        InputFormat::Csv,
         false,
         &[RELEASED, CALLED, RELEASED],
         false,
         "no byte is acknowledged\ntry --invert for probes behind inverters, or other signals with --names\n",
     ),
     (
-        Source::Vcd,
+        InputFormat::Vcd,
         false,
         &[RELEASED],
         true,
         "attention never comes: ATN is not pulled\nif the bytes make no sense, try --invert for probes behind inverters, or other signals with --names\n",
     ),
     (
-        Source::Csv,
+        InputFormat::Csv,
         false,
         &[CALLED, RELEASED, CALLED],
         true,
         "ATN rests at 0\nCLOCK rests at 0\nif the bytes make no sense, try --invert for probes behind inverters, or other signals with --names\n",
     ),
     (
-        Source::Csv,
+        InputFormat::Csv,
         false,
         &[CALLED, RELEASED, CALLED],
         false,
         "no byte is acknowledged\nATN rests at 0\nCLOCK rests at 0\ntry --invert for probes behind inverters, or other signals with --names\n",
     ),
     (
-        Source::Csv,
+        InputFormat::Csv,
         true,
         &[RELEASED],
         false,
         "no byte is acknowledged\nattention never comes: ATN is not pulled\ntry without --invert, or other signals with --names\n",
     ),
     (
-        Source::Text,
+        InputFormat::Text,
         false,
         &[RELEASED, CALLED, RELEASED],
         false,
         "no byte is acknowledged\nin a trace text the levels are those of ATN, CLOCK and DATA, and 1 is released\n",
     ),
     (
-        Source::Text,
+        InputFormat::Text,
         false,
         &[RELEASED],
         true,

@@ -2,7 +2,7 @@
 //! tests/c/refused.c; the lines that the program prints are in tests/rows/explained.
 
 use pr_basic::StatusMode;
-use pr_capture::{Probes, Signals, Source, TraceInput};
+use pr_capture::{InputFormat, Probes, Signals, TraceInput};
 use pr_channels::Stop;
 use pr_explain::{
     EdgePlace, Miss, ReadingPlace, Row, ScriptPlace, StopCause, StopPlace, TracePlace,
@@ -14,7 +14,7 @@ use std::alloc::Global;
 
 /// A trace text. In another format its signals have the usual names.
 const TEXT: TraceInput<'static> = TraceInput {
-    source: Source::Text,
+    source: InputFormat::Text,
     signals: Signals {
         atn: b"ATN",
         clock: b"CLOCK",

@@ -1,6 +1,6 @@
 //! The limits of recordings, tried with small ones: the program's are 4,000,000,000 and 1,099,511,627,776 bytes.
 
-use pr_capture::{Probes, Signals, Source, TraceInput};
+use pr_capture::{InputFormat, Probes, Signals, TraceInput};
 use pr_jobs::{CliFault, Watched};
 use pr_recording::{
     PrinterPair, Wording, read_into, readings_are_heard_in_turn, tell_input,
@@ -9,7 +9,7 @@ use pr_recording::{
 use pr_report::{Bounds, Detail};
 
 const TEXT: TraceInput<'_> = TraceInput {
-    source: Source::Text,
+    source: InputFormat::Text,
     signals: Signals {
         atn: b"ATN",
         clock: b"CLOCK",

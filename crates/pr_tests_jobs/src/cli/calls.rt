@@ -5,11 +5,11 @@ ghost use Rattle.pr_input.specs.Watched.{has_failed};
 
 use pr_basic::StatusMode;
 use pr_bus::Delays;
-use pr_capture::{Probes, Signals, Source, TraceFormat, TraceInput};
+use pr_capture::{InputFormat, OutputFormat, Probes, Signals, TraceInput};
 use pr_dots::{Scale, Shapes};
 use pr_jobs::{
-    CliFault, Ending, Start, Watched, bus_as_over, bus_over, check_as_over, check_over,
-    pages_as_over, pages_over, raw_over,
+    CliFault, Ending, Start, Watched, bus_over, check_over, pages_over, raw_over, write_bus_trace,
+    write_check_report, write_pages,
 };
 use pr_render::{Format, Layout, Look, Part, Size};
 use pr_report::Report;
@@ -152,11 +152,11 @@ pub enum Call {
     /// The pages of a script.
     Pages(Format),
     /// The trace of a script.
-    Bus(TraceFormat),
+    Bus(OutputFormat),
     /// The frames of a trace text.
     Check,
     /// A report on a trace.
-    CheckAs(Source, Report),
+    CheckAs(InputFormat, Report),
     /// The page of a printer's bytes, in the graphic/upper case set.
     Raw(Format),
 }
@@ -189,46 +189,46 @@ static ROWS: [Row; 18] = [
     ),
     (Call::Raw(SVG), HI_BYTES, PICTURE),
     (Call::TraceText, HI, TRACE_TEXT),
-    (Call::Bus(TraceFormat::Vcd), HI, EXAMPLE_DUMP),
+    (Call::Bus(OutputFormat::Vcd), HI, EXAMPLE_DUMP),
     (Call::Check, ONE_ATTENTION, ONE_COMMAND),
     (Call::Check, TRACE_TEXT, EXAMPLE_LINES),
     (
-        Call::CheckAs(Source::Text, Report::Frames),
+        Call::CheckAs(InputFormat::Text, Report::Frames),
         ONE_ATTENTION,
         ONE_COMMAND,
     ),
     (
-        Call::CheckAs(Source::Text, Report::Story),
+        Call::CheckAs(InputFormat::Text, Report::Story),
         ONE_ATTENTION,
         ONE_STORY,
     ),
     (
-        Call::CheckAs(Source::Text, Report::Frames),
+        Call::CheckAs(InputFormat::Text, Report::Frames),
         TRACE_TEXT,
         EXAMPLE_LINES,
     ),
     (
-        Call::CheckAs(Source::Text, Report::Story),
+        Call::CheckAs(InputFormat::Text, Report::Story),
         TRACE_TEXT,
         EXAMPLE_STORY,
     ),
     (
-        Call::CheckAs(Source::Csv, Report::Frames),
+        Call::CheckAs(InputFormat::Csv, Report::Frames),
         ONE_ATTENTION_TABLE,
         ONE_COMMAND,
     ),
     (
-        Call::CheckAs(Source::Csv, Report::Story),
+        Call::CheckAs(InputFormat::Csv, Report::Story),
         ONE_ATTENTION_TABLE,
         ONE_STORY,
     ),
     (
-        Call::CheckAs(Source::Vcd, Report::Frames),
+        Call::CheckAs(InputFormat::Vcd, Report::Frames),
         ONE_ATTENTION_DUMP,
         ONE_COMMAND,
     ),
     (
-        Call::CheckAs(Source::Vcd, Report::Story),
+        Call::CheckAs(InputFormat::Vcd, Report::Story),
         ONE_ATTENTION_DUMP,
         ONE_STORY,
     ),
@@ -241,7 +241,7 @@ pub fn rows() -> &'static [Row] {
 
 /// A trace text, from its first moment on. In another format its signals have the usual names.
 pub const USUAL: TraceInput<'static> = TraceInput {
-    source: Source::Text,
+    source: InputFormat::Text,
     signals: Signals {
         atn: b"ATN",
         clock: b"CLOCK",
@@ -306,17 +306,17 @@ impl Call {
             }
             Call::Pages(format) => {
                 let start = started(alloc);
-                let end = pages_as_over(alloc, input, output, start, format, &Shapes::own())?;
+                let end = write_pages(alloc, input, output, start, format, &Shapes::own())?;
                 Ok(end.run.ending())
             }
             Call::Bus(format) => {
                 let start = started(alloc);
-                Ok(bus_as_over(alloc, input, output, start, format)?.ending())
+                Ok(write_bus_trace(alloc, input, output, start, format)?.ending())
             }
             Call::Check => done(check_over(alloc, input, output)),
             Call::CheckAs(source, report) => {
                 let trace = TraceInput { source, ..USUAL };
-                done(check_as_over(alloc, input, output, trace, report))
+                done(write_check_report(alloc, input, output, trace, report))
             }
             Call::Raw(format) => {
                 let end = raw_over(alloc, input, output, false, format, &Shapes::own())?;
@@ -337,8 +337,8 @@ impl Call {
     /// dump for its head and its end too, the others at the end.
     pub fn flushes(self) -> usize {
         match self {
-            Call::TraceText | Call::Bus(TraceFormat::Text) => 3,
-            Call::Bus(TraceFormat::Vcd) => 5,
+            Call::TraceText | Call::Bus(OutputFormat::Text) => 3,
+            Call::Bus(OutputFormat::Vcd) => 5,
             _ => 1,
         }
     }

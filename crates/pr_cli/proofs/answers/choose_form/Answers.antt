@@ -1,5 +1,5 @@
 use Rattle.std.proofs.Common.{◌∙◌, sym}
-use Rattle.pr_cli.proofs.answers.answer_job.Goals as goal
+use Rattle.pr_cli.proofs.answers.choose_form.Goals as goal
 
 pub returns-in-Some : goal.returns-in-Some
 returns-in-Some g c = rw c.in-Some.is (rw c.in-Some.is at c.answer_recording.ensures)

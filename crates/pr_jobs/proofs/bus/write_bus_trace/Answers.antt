@@ -3,7 +3,7 @@ use Rattle.pr_basic.specs.declared.statement.Statement.{Statement}
 use Rattle.pr_basic.specs.Grammar.{IsScript}
 use Rattle.pr_jobs.specs.Bus.{AnswersBusAs}
 use Rattle.pr_jobs.proofs.BusLemmas.{of_known, bus_answered}
-use Rattle.pr_jobs.proofs.bus.bus_as_over.Goals as goal
+use Rattle.pr_jobs.proofs.bus.write_bus_trace.Goals as goal
 
 pub returns-clause-bus : goal.returns-clause-bus
 returns-clause-bus g c =
