@@ -73,7 +73,7 @@ struct Work<'a> {
 
 /// Where a task is done, and what it says beside its answer.
 #[derive(Clone, Copy)]
-pub struct Session {
+pub struct Surroundings {
     /// An explanation follows a refusal or an error.
     pub is_explained: bool,
     /// Nothing is said but faults and explanations.
@@ -118,7 +118,7 @@ struct Reporting<'a> {
 pub fn run_task(
     rt: &(impl Files + Clock + Input + Print + Eprint + AllocGlobal),
     task: Task<'_>,
-    session: Session,
+    around: Surroundings,
 ) -> u8 {
     let Task {
         job,
@@ -140,7 +140,7 @@ pub fn run_task(
         input,
         output: output.filter(|name| !is_standard_output(name)),
     };
-    let job = if session.is_reversing && names.output.is_none() {
+    let job = if around.is_reversing && names.output.is_none() {
         seen_job(job)
     } else {
         job
@@ -149,9 +149,9 @@ pub fn run_task(
         job,
         before,
         shapes: &shapes,
-        is_located: session.is_explained,
+        is_located: around.is_explained,
     };
-    open_input(rt, names, work, session)
+    open_input(rt, names, work, around)
 }
 
 /// Opens the files of these names, does a job over them and gives the exit status.
@@ -159,28 +159,28 @@ fn open_input(
     rt: &(impl Files + Clock + Input + Print + Eprint + AllocGlobal),
     names: Names<'_>,
     work: Work<'_>,
-    session: Session,
+    around: Surroundings,
 ) -> u8 {
-    if names.output.is_none() && session.terminals.output && is_for_a_file(&work.job) {
+    if names.output.is_none() && around.terminals.output && is_for_a_file(&work.job) {
         return refuse(rt, FOR_A_FILE).status();
     }
     let is_shown = Cell::new(false);
     let count = Cell::new(0);
     let aside = Reporting {
-        is_explained: session.is_explained,
-        is_advised: session.terminals.error && !session.is_explained && !session.is_quiet,
-        is_noted: !session.is_quiet && (session.is_explained || session.terminals.error),
-        is_quiet: session.is_quiet,
+        is_explained: around.is_explained,
+        is_advised: around.terminals.error && !around.is_explained && !around.is_quiet,
+        is_noted: !around.is_quiet && (around.is_explained || around.terminals.error),
+        is_quiet: around.is_quiet,
         note: ListingNote::Nothing,
         is_file: false,
         count: &count,
         is_shown: &is_shown,
     };
-    let is_apart = session.terminals.error
-        && !session.is_quiet
-        && (names.output.is_some() || !session.terminals.output);
+    let is_apart = around.terminals.error
+        && !around.is_quiet
+        && (names.output.is_some() || !around.terminals.output);
     let Some(name) = names.input else {
-        if session.terminals.input && !session.is_quiet {
+        if around.terminals.input && !around.is_quiet {
             tell_waiting(rt, &work.job);
         }
         if let Some(output) = names.output {
@@ -188,7 +188,7 @@ fn open_input(
                 return refuse_same(rt, "standard input").status();
             }
         }
-        let is_watched = is_apart && !session.terminals.input;
+        let is_watched = is_apart && !around.terminals.input;
         let reader = Progress::new(rt, rt.reader(), is_watched, &count, &is_shown);
         return open_output(rt, reader, names, work, aside);
     };

@@ -2,7 +2,7 @@
 
 ghost use Rattle.std.specs.Prelude.{◌≡◌};
 
-use crate::answers::{Session, run_task, tell};
+use crate::answers::{Surroundings, run_task, tell};
 use crate::meant::meant;
 use crate::refusals::{refuse, refuse_task, refuse_word};
 use crate::statuses::{End, is_answered};
@@ -94,14 +94,14 @@ fn answer_words(
     let is_quiet = is_quiet(texts.as_slice());
     match read_task(rt.alloc(), texts.as_slice()) {
         Ok(task) => {
-            let session = Session {
+            let around = Surroundings {
                 is_explained,
                 is_quiet,
                 terminals,
                 is_reversing,
             };
             let note = ending_note(texts.as_slice(), &task);
-            let status = run_task(rt, task, session);
+            let status = run_task(rt, task, around);
             if !is_quiet && (is_explained || terminals.error) && is_answered(status) {
                 show_note(rt, note);
             }
