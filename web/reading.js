@@ -1,23 +1,28 @@
 // Reading a listing: its parts in colour, and what each code does to the printer. It says nothing of what is printed: the
 // module does.
 
+import { CODE_NAMES } from './codes.js';
 import { NAMES } from './listing.js';
 
-/** What the printer does with its codes (docs/DEFINITIONS.md): the bytes, and words. */
-export const CODES = [
-  ['8', 'graphic mode: bytes from 128 on are columns of seven dots'],
-  ['10', 'ends the line'],
-  ['13', 'ends the line, and reverse with it'],
-  ['14', 'character mode in double width'],
-  ['15', 'character mode in standard width'],
-  ['16 a b', 'moves to column ab, two digits from 00 to 79'],
-  ['17', 'lower/upper case set, for the line'],
-  ['18', 'reverse: white on black, to the end of the line'],
-  ['26 n d', 'in graphic mode: n times the column of dots d'],
-  ['27 16 h l', 'moves to dot 256h + l, from 0 to 479'],
-  ['145', 'graphic/upper case set, for the line'],
-  ['146', 'reverse ends'],
-];
+/** What the printer does with its codes (docs/DEFINITIONS.md), in the page's words, and the bytes of those that begin a command. */
+const WORDS = {
+  8: 'graphic mode: bytes from 128 on are columns of seven dots',
+  10: 'ends the line',
+  13: 'ends the line, and reverse with it',
+  14: 'character mode in double width',
+  15: 'character mode in standard width',
+  16: 'moves to column ab, two digits from 00 to 79',
+  17: 'lower/upper case set, for the line',
+  18: 'reverse: white on black, to the end of the line',
+  26: 'in graphic mode: n times the column of dots d',
+  27: 'moves to dot 256h + l, from 0 to 479',
+  145: 'graphic/upper case set, for the line',
+  146: 'reverse ends',
+};
+const COMMANDS = { 16: '16 a b', 26: '26 n d', 27: '27 16 h l' };
+
+/** The bytes of each code, and what it does: its name where there are no words of the page's own. */
+export const CODES = Object.entries(CODE_NAMES).map(([code, name]) => [COMMANDS[code] || code, WORDS[code] || name]);
 
 /** What a byte does on paper. */
 function wordsOfByte(byte) {

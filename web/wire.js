@@ -2,6 +2,8 @@
 // here reads a recording. An edge is a moment in microseconds and a level, which has 4 for ATN, 2 for CLOCK and 1 for DATA
 // where they are released.
 
+import { CODE_NAMES } from './codes.js';
+
 export const ATN = 4, CLOCK = 2, DATA = 1;
 
 /** The bounds of the profile's delays, in microseconds, by their kinds; `answers` is the length of an answer of two listeners. */
@@ -84,11 +86,6 @@ export function textOfEdges({ times, levels }, end) {
   return new TextEncoder().encode(lines.join(''));
 }
 
-const CONTROLS = {
-  8: 'graphic mode', 10: 'line feed', 13: 'return', 14: 'double width', 15: 'standard width', 16: 'column', 17: 'lower case', 18: 'reverse on',
-  26: 'repeat', 27: 'escape', 145: 'upper case', 146: 'reverse off',
-};
-
 /** The name of a command, by its number. */
 function commandName(byte) {
   if (byte === 63) return 'UNLISTEN';
@@ -101,7 +98,7 @@ function commandName(byte) {
 function dataName(byte, printerListens) {
   if (byte === 39) return '"\'"';
   if (byte > 31 && byte < 127) return `'${String.fromCharCode(byte)}'`;
-  return (printerListens && CONTROLS[byte]) || `byte ${byte}`;
+  return (printerListens && CODE_NAMES[byte]) || `byte ${byte}`;
 }
 
 /** What is written at a reading's frame. */

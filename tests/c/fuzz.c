@@ -6,6 +6,7 @@
  * and the same answer when it is asked again. Some allocations are refused. Status 0, else 1 and a line with the round. (tests/c/header.py
  * says which calls of the header are not here.) */
 #define _DEFAULT_SOURCE
+#include "codes.h"
 #include "print1525.h"
 #include <stdio.h>
 #include <stdlib.h>
@@ -351,7 +352,7 @@ static void try_strict(uint8_t *memories[6]) {
 
 /* Bytes that a printer gets, many of them the codes of its commands. */
 static const uint8_t *made_bytes(uint8_t *memory, size_t *length) {
-    static const uint8_t codes[] = {8, 10, 13, 14, 15, 16, 17, 18, 26, 27, 145, 146, '0', '3', 0, 1, 200, 255, 129};
+    static const uint8_t codes[] = {CODES, '0', '3', 0, 1, 200, 255, 129};
     size_t index;
     uint8_t *front;
     *length = below(3) ? below(40) : below(3);

@@ -184,16 +184,11 @@ def listings():
 
 
 def wave():
-    """What the page writes at frames and intervals: the printer's codes, the kinds of delay, the intervals, and what ends a byte."""
+    """What the page writes at frames and intervals: the kinds of delay, the intervals, and what ends a byte."""
     page, report = text_of("web/wire.js"), text_of("crates/pr_report/src/interval.rt")
-    codes = re.findall(r'b == (\d+) then .*?codes "([^"]+)"', text_of("crates/pr_page/specs/Codes.antt"))
-    own = re.findall(r"(\d+): '([^']*)'", re.search(r"const CONTROLS = \{(.*?)\};", page, re.S).group(1))
-    wrong = differ("CONTROLS of web/wire.js and pr_page", own, codes)
-    told = re.findall(r"^  \['(\d+)", text_of("web/reading.js"), re.M)
-    wrong += differ("CODES of web/reading.js and pr_page", told, [code for code, _ in codes])
     body = re.search(r"pub enum Kind \{(.*?)^\}", text_of("crates/pr_wire/src/delay.rt"), re.S | re.M).group(1)
     own = re.findall(r"(\w+): \['", re.search(r"const DELAYS = \{(.*?)\};", page, re.S).group(1))
-    wrong += differ("DELAYS of web/wire.js and pr_wire", own, [*re.findall(r"^    (\w+),", body, re.M), "rest"])
+    wrong = differ("DELAYS of web/wire.js and pr_wire", own, [*re.findall(r"^    (\w+),", body, re.M), "rest"])
     rows = re.findall(r'Interval::\w+ => Row::new\(b"([^"]+)"', report)
     wrong += differ("INTERVALS of web/wire.js and pr_report", lists_in(page, "INTERVALS"), rows)
     body = function(text_of("crates/pr_exports/src/rows.rt"), "end_of")
