@@ -1221,6 +1221,8 @@ int main(int words, char **word) {
     const char *once = getenv("CALLS");
     print1525_details answer;
     guarded input, buffer, empty = guard(0);
+    /* What MinGW's start has taken for the words is its own. */
+    live = 0;
     if (words < 2) return 98;
     is_all = once && strcmp(once, "all") == 0;
     j.name = word[1];

@@ -429,6 +429,8 @@ int main(int words, char **word) {
     print1525_details details;
     size_t index;
     FILE *const file = words > 1 ? fopen(word[1], "rb") : NULL;
+    /* What MinGW's start has taken for the words is its own. */
+    live = 0;
     if (file == NULL) return 98;
     characters_length = fread(characters, 1, sizeof characters, file);
     fclose(file);
