@@ -1,0 +1,10 @@
+pub mod Timing
+pub mod Events
+pub mod Following
+pub mod Data
+pub mod Spoken
+pub mod Pairs
+pub mod Sound
+pub mod Seen
+pub mod Talkers
+pub mod Laws

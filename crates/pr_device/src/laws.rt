@@ -1,0 +1,46 @@
+//! Laws of the definitions, with nothing to run. A caller whose proof needs one calls the function.
+
+ghost use Rattle.pr_device.specs.Laws.{DelaysAreKept, HistoriesAreHeard, PairsShareTheLine, TalkersAreHeard, TracesAreHeard, TracesSayWhatTheySpell, WakesAreActs};
+
+use pr_receiver::traces_give_what_is_heard;
+
+/// A law: whatever the history, a device hears what the bytes say that are said in it.
+pub fn histories_are_heard()
+    ensures { HistoriesAreHeard }
+{}
+
+/// The law of hearing: of any talker whose moves are those of the KERNAL or of the profile a device hears
+/// just the bytes that the talker sends, whatever other moments it is shown between them.
+pub fn talkers_are_heard()
+    ensures { TalkersAreHeard }
+{}
+
+/// The law of traces: of a lawful trace, shown edge by edge, a device hears what the frames say that it
+/// spells, and its events give a printer the inputs that a receiver gives with these edges.
+pub fn traces_are_heard()
+    ensures said { TracesSayWhatTheySpell }
+    ensures heard { TracesAreHeard }
+{
+    traces_give_what_is_heard();
+}
+
+/// The law of delays: before a byte a device has released DATA when its delay is over and it does not
+/// print; it answers end-or-identify in data bytes alone, no sooner than 200 microseconds after DATA's
+/// release; it does not touch the bits; and it has released DATA 60 microseconds after ATN's release, if
+/// it does not listen.
+pub fn delays_are_kept()
+    ensures { DelaysAreKept }
+{}
+
+/// The law of pairs: two devices that hear the same bytes make DATA's moments in the timed trace of
+/// pr_bus. They pull DATA after the least of their delays, release it after the greatest, and answer
+/// end-or-identify with one pulse.
+pub fn pairs_share_the_line()
+    ensures { PairsShareTheLine }
+{}
+
+/// The law of wakes: as long as things stand as they do, a device does to DATA what it does now until its
+/// wake, and the other thing from then on; without a wake it goes on as it does.
+pub fn wakes_are_acts()
+    ensures { WakesAreActs }
+{}
