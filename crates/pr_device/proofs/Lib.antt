@@ -6,3 +6,5 @@ pub mod Stepping
 pub mod Delays
 pub mod Pairs
 pub mod Waking
+pub mod Sharing
+pub mod Making

@@ -10,43 +10,43 @@ use Rattle.pr_device.proofs.Stepping.{left-true, right-true}
 use Rattle.pr_device.proofs.Walking.{chosen}
 
 -- two tests that hold together are one
-same-tests : (a b : Bool) → (a ≡ true → b ≡ true) → (b ≡ true → a ≡ true) → a ≡ b
+pub same-tests : (a b : Bool) → (a ≡ true → b ≡ true) → (b ≡ true → a ≡ true) → a ≡ b
 same-tests true b h k = sym (h refl)
 same-tests false true h k = k refl
 same-tests false false h k = refl
 
-not-lt : (n m : ℕ) → m ≤ n → not (nat_lt n m) ≡ true
+pub not-lt : (n m : ℕ) → m ≤ n → not (nat_lt n m) ≡ true
 not-lt n m h = ap not (le-ltb n m h)
 
-lt-not : (n m : ℕ) → not (nat_lt n m) ≡ true → m ≤ n
+pub lt-not : (n m : ℕ) → not (nat_lt n m) ≡ true → m ≤ n
 lt-not n m h = by (nat_lt n m) refl h
   where
     by : (b : Bool) → nat_lt n m ≡ b → not b ≡ true → m ≤ n
     by false k i = ltb-false n m k
     by true k i = absurd (let j : false ≡ true = i in cc)
 
-or-left : (a b : Bool) → a ≡ true → (a || b) ≡ true
+pub or-left : (a b : Bool) → a ≡ true → (a || b) ≡ true
 or-left true b h = refl
 or-left false b h = absurd (let k : false ≡ true = h in cc)
 
-or-right : (a b : Bool) → b ≡ true → (a || b) ≡ true
+pub or-right : (a b : Bool) → b ≡ true → (a || b) ≡ true
 or-right true b h = refl
 or-right false b h = h
 
-both-hold : (a b : Bool) → a ≡ true → b ≡ true → (a && b) ≡ true
+pub both-hold : (a b : Bool) → a ≡ true → b ≡ true → (a && b) ≡ true
 both-hold true b h k = k
 both-hold false b h k = absurd (let i : false ≡ true = h in cc)
 
 -- one of two tests holds
-abbrev OneHolds : Bool → Bool → Type 0
+abbrev pub OneHolds : Bool → Bool → Type 0
 OneHolds a b = (a ≡ true) ⊎ (b ≡ true)
 
-one-holds : (a b : Bool) → (a || b) ≡ true → OneHolds a b
+pub one-holds : (a b : Bool) → (a || b) ≡ true → OneHolds a b
 one-holds true b h = inl refl
 one-holds false b h = inr h
 
 -- two numbers in order
-either-order : (a b : ℕ) → (a ≤ b) ⊎ (b < a)
+pub either-order : (a b : ℕ) → (a ≤ b) ⊎ (b < a)
 either-order a b = by (nat_lt b a) refl
   where
     by : (x : Bool) → nat_lt b a ≡ x → (a ≤ b) ⊎ (b < a)
@@ -54,7 +54,7 @@ either-order a b = by (nat_lt b a) refl
     by false h = inl (ltb-false b a h)
 
 -- released with the last
-last-releases : (n m a b : ℕ) → (nat_lt n (m + a) || nat_lt n (m + b)) ≡ nat_lt n (m + max a b)
+pub last-releases : (n m a b : ℕ) → (nat_lt n (m + a) || nat_lt n (m + b)) ≡ nat_lt n (m + max a b)
 last-releases n m a b = same-tests (nat_lt n (m + a) || nat_lt n (m + b)) (nat_lt n (m + max a b)) to from
   where
     by : OneHolds (nat_lt n (m + a)) (nat_lt n (m + b)) → nat_lt n (m + max a b) ≡ true
@@ -72,7 +72,7 @@ last-releases n m a b = same-tests (nat_lt n (m + a) || nat_lt n (m + b)) (nat_l
     from h = which (ltb-true n (m + max a b) h) (either-order a b)
 
 -- pulled with the first
-first-pulls : (n m a b : ℕ) → (not (nat_lt n (m + a)) || not (nat_lt n (m + b))) ≡ not (nat_lt n (m + min a b))
+pub first-pulls : (n m a b : ℕ) → (not (nat_lt n (m + a)) || not (nat_lt n (m + b))) ≡ not (nat_lt n (m + min a b))
 first-pulls n m a b = same-tests (not (nat_lt n (m + a)) || not (nat_lt n (m + b))) (not (nat_lt n (m + min a b))) to from
   where
     by : OneHolds (not (nat_lt n (m + a))) (not (nat_lt n (m + b))) → not (nat_lt n (m + min a b)) ≡ true
@@ -90,16 +90,16 @@ first-pulls n m a b = same-tests (not (nat_lt n (m + a)) || not (nat_lt n (m + b
     from h = which (lt-not n (m + min a b) h) (either-order a b)
 
 -- a moment in an answer
-abbrev is_in : ℕ → ℕ → ℕ → Bool
+abbrev pub is_in : ℕ → ℕ → ℕ → Bool
 is_in n from to = not (nat_lt n from) && nat_lt n to
 
-in-from : (n p q : ℕ) → is_in n p q ≡ true → p ≤ n
+pub in-from : (n p q : ℕ) → is_in n p q ≡ true → p ≤ n
 in-from n p q h = lt-not n p (left-true (not (nat_lt n p)) (nat_lt n q) h)
 
-in-to : (n p q : ℕ) → is_in n p q ≡ true → n < q
+pub in-to : (n p q : ℕ) → is_in n p q ≡ true → n < q
 in-to n p q h = ltb-true n q (right-true (not (nat_lt n p)) (nat_lt n q) h)
 
-is-in : (n p q : ℕ) → p ≤ n → n < q → is_in n p q ≡ true
+pub is-in : (n p q : ℕ) → p ≤ n → n < q → is_in n p q ≡ true
 is-in n p q h k = both-hold (not (nat_lt n p)) (nat_lt n q) (not-lt n p h) (lt-ltb n q k)
 
 -- two answers that overlap are one
@@ -147,7 +147,7 @@ both-near t u before s now p a e =
     ∙ ap (λ v. pulls_at t 0 before s p now || v) (near u 0 before s now p a e)
 
 -- a greatest of a number and 0
-or-zero : (n : ℕ) → max n 0 ≡ n
+pub or-zero : (n : ℕ) → max n 0 ≡ n
 or-zero n = omega arith
 
 pub pairs-share : PairsShareTheLine

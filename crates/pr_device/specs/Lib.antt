@@ -8,3 +8,5 @@ pub mod Sound
 pub mod Seen
 pub mod Talkers
 pub mod Laws
+pub mod Course
+pub mod CourseLaws

@@ -1,8 +1,10 @@
 //! Laws of the definitions, with nothing to run. A caller whose proof needs one calls the function.
 
 ghost use Rattle.pr_device.specs.Laws.{DelaysAreKept, HistoriesAreHeard, PairsShareTheLine, TalkersAreHeard, TracesAreHeard, TracesSayWhatTheySpell, WakesAreActs};
+ghost use Rattle.pr_device.specs.CourseLaws.{FramesAreMade};
 
-use pr_receiver::traces_give_what_is_heard;
+use pr_receiver::{frames_are_heard_in_turn, traces_give_what_is_heard};
+use pr_wire::delays_within_bounds;
 
 /// A law: whatever the history, a device hears what the bytes say that are said in it.
 pub fn histories_are_heard()
@@ -44,3 +46,14 @@ pub fn pairs_share_the_line()
 pub fn wakes_are_acts()
     ensures { WakesAreActs }
 {}
+
+/// The law of frames: a frame whose moments are the sums of the timed trace of pr_bus, for the devices
+/// that heed it, is made by the talker and any number of devices on one line. With each edge DATA comes
+/// to the level that talker and devices give it, and stays so until the next one. 100 microseconds
+/// after the acknowledgement the devices expect the next frame.
+pub fn frames_are_made()
+    ensures { FramesAreMade }
+{
+    frames_are_heard_in_turn();
+    delays_within_bounds();
+}
