@@ -168,14 +168,14 @@ any-more : (f k : Party → Bool) (ps : List Party) → any_by f ps ≡ true →
 any-more f k [] h = h
 any-more f k (p ∷ ps) h = by (f p) (any-more f k ps) h
   where
+    or-last : (a b : Bool) → b ≡ true → (a || b) ≡ true
+    or-last true b e = refl
+    or-last false b e = e
+
     by : (a : Bool) → (any_by f ps ≡ true → any_by (λ (q : Party). f q || k q) ps ≡ true) → (a || any_by f ps) ≡ true
         → ((a || k p) || any_by (λ (q : Party). f q || k q) ps) ≡ true
     by true w e = refl
     by false w e = or-last (k p) (any_by (λ (q : Party). f q || k q) ps) (w e)
-
-    or-last : (a b : Bool) → b ≡ true → (a || b) ≡ true
-    or-last true b e = refl
-    or-last false b e = e
 
 -- how long the first of some devices waits before it acknowledges
 abbrev pub first_accept : Bool → List Party → ℕ

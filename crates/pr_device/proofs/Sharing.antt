@@ -178,10 +178,11 @@ none-answers x n m ps w k =
     any-none (λ (q : Party). x && is_in n (m + q.timing.wait) (m + q.timing.wait + q.timing.answer)) ps
     (each-map IsParty (λ (q : Party). (x && is_in n (m + q.timing.wait) (m + q.timing.wait + q.timing.answer)) ≡ false) ps one w)
   where
+    by : (y : Bool) → (y && false) ≡ false
+    by true = refl
+    by false = refl
+
     one : (q : Party) → IsParty q → (x && is_in n (m + q.timing.wait) (m + q.timing.wait + q.timing.answer)) ≡ false
     one q t =
         let a : 200 ≤ q.timing.wait = t.wait.from in
         ap (λ v. x && (not v && nat_lt n (m + q.timing.wait + q.timing.answer))) (lt-ltb n (m + q.timing.wait) (omega arith)) ∙ by x
-    by : (y : Bool) → (y && false) ≡ false
-    by true = refl
-    by false = refl

@@ -1,5 +1,5 @@
 -- Laws: what a device hears of talkers and traces. The functions of src/laws.rt prove them, and callers take them from there.
-use Rattle.std.specs.Prelude.{◌≡◌, ℕ, ◌+◌, ◌<◌, ◌≤◌, Bool, true, false, List, Some, None, reverse}
+use Rattle.std.specs.Prelude.{◌≡◌, ℕ, ◌+◌, ◌<◌, ◌≤◌, Bool, true, false, List, Option, Some, None, not, reverse}
 use Rattle.pr_wire.specs.declared.Edge.{Edge}
 use Rattle.pr_wire.specs.declared.Frame.{Frame}
 use Rattle.pr_wire.specs.Pieces.{Spells}
@@ -7,7 +7,7 @@ use Rattle.pr_receiver.specs.Given.{inputs_with}
 use Rattle.pr_device.specs.declared.place.Place.{Place}
 use Rattle.pr_device.specs.declared.place.Place.TheVariants.{Opening, Bits}
 use Rattle.pr_device.specs.declared.timing.Timing.{Timing}
-use Rattle.pr_device.specs.Data.{Standing, is_away, pulls}
+use Rattle.pr_device.specs.Data.{Standing, is_away, pulls, wake}
 use Rattle.pr_device.specs.Events.{events_of, inputs_of_events}
 use Rattle.pr_device.specs.Following.{said}
 use Rattle.pr_device.specs.Seen.{events_with}
