@@ -8,3 +8,4 @@ pub mod Pairs
 pub mod Waking
 pub mod Sharing
 pub mod Making
+pub mod Calling

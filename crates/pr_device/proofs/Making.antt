@@ -15,7 +15,7 @@ use Rattle.pr_device.specs.declared.place.Place.TheVariants.{Between, Sent, Open
 use Rattle.pr_device.specs.declared.timing.Timing.{Timing}
 use Rattle.pr_device.specs.Data.{Standing, standing, pulls, pulls_at, leaves, is_away}
 use Rattle.pr_device.specs.Following.{atn_of, clock_of, place_after, said, leads, ends, shifted}
-use Rattle.pr_device.specs.Course.{Party, Each, Move, IsMade, AreMade, next_moment, after_moves, released, set, pulling, one_pulls, shared, heeding, hearer, IsBetweenBytes, ExpectsByte, frame_moves}
+use Rattle.pr_device.specs.Course.{Party, Each, Move, IsMade, AreMade, next_moment, after_moves, released, set, pulling, one_pulls, shared, heeding, hearer, IsBetweenBytes, ExpectsByte, frame_moves, sent_moves}
 use Rattle.pr_device.specs.CourseLaws.{FramesAreMade}
 use Rattle.pr_device.proofs.Delays.{near, not-true}
 use Rattle.pr_device.proofs.Pairs.{is_in, is-in, not-lt, or-right, or-zero}
@@ -30,11 +30,11 @@ pub one-more : (ps : List Party) (h : List Edge) (m : Move) (ms : List Move) (en
     → IsMade ps h m (next_moment ms end) → Made ps (m.edge ∷ h) ms end R → Made ps h (m ∷ ms) end R
 one-more ps h m ms end R a (b, r) = ((a, b), r)
 
-not-false : (b : Bool) → not b ≡ false → b ≡ true
+pub not-false : (b : Bool) → not b ≡ false → b ≡ true
 not-false true h = refl
 not-false false h = absurd (let k : true ≡ false = h in cc)
 
-and-true : (b : Bool) → b ≡ (b && true)
+pub and-true : (b : Bool) → b ≡ (b && true)
 and-true true = refl
 and-true false = refl
 
@@ -60,7 +60,7 @@ pub record At (g h : List Edge) (x c : Bool) (place : Place) (f : Party → ℕ 
   pub does : (n : ℕ) → pulling p h n ≡ (heeds g p && f p n)
 
 -- it heeds as before, where nothing more is said
-same-heeds : (p : Party) (h k : List Edge) (x : Bool) → atn_of h ≡ x → atn_of k ≡ x → said p.timing.wait k ≡ said p.timing.wait h → heeds k p ≡ heeds h p
+pub same-heeds : (p : Party) (h k : List Edge) (x : Bool) → atn_of h ≡ x → atn_of k ≡ x → said p.timing.wait k ≡ said p.timing.wait h → heeds k p ≡ heeds h p
 same-heeds p h k x a b s =
     ap (λ y. not (y && not (is_listening p.device (said p.timing.wait k)))) (b ∙ sym a)
     ∙ ap (λ l. not (atn_of h && not (is_listening p.device l))) s
@@ -472,17 +472,17 @@ expects-again g k x pull ack now p s h =
     }
 
 -- what the law says of a frame for some hearers
-abbrev Framed : Bool → Bool → List Edge → List Party → ℕ → ℕ → List ℕ → List Party → Type 0
+abbrev pub Framed : Bool → Bool → List Edge → List Party → ℕ → ℕ → List ℕ → List Party → Type 0
 Framed x eoi h ps look byte numbers hs =
     let f : FrameTimes = frame_times look eoi byte numbers (map (hearer eoi) hs) in
-    let ms : List Move = released (edge_at look x true false) ∷ frame_moves x f in
+    let ms : List Move = sent_moves x look f in
     ((end : ℕ) → AreMade ps h ms end) × ((now : ℕ) → f.ack + 100 ≤ now → Each (ExpectsByte x (after_moves h ms) now) ps)
 
-framed-for : ListeningAfterOneMore → DelaysLieWithinBounds → (x eoi : Bool) (h : List Edge) (ps : List Party) (look byte : ℕ) (numbers : List ℕ) (q : Party) (qs : List Party)
+pub framed-for : ListeningAfterOneMore → DelaysLieWithinBounds → (x eoi : Bool) (h : List Edge) (ps : List Party) (look byte : ℕ) (numbers : List ℕ) (q : Party) (qs : List Party)
     → (eoi ≡ true → x ≡ true) → heeding h ps ≡ q ∷ qs → Each IsParty ps → Each (ExpectsByte x h look) ps → Framed x eoi h ps look byte numbers (q ∷ qs)
 framed-for law bounds x eoi h ps look byte numbers q qs u e i s =
     let f : FrameTimes = frame_times look eoi byte numbers (map (hearer eoi) (q ∷ qs)) in
-    let ms : List Move = released (edge_at look x true false) ∷ frame_moves x f in
+    let ms : List Move = sent_moves x look f in
     let pull : ℕ = last_pull f.pull f.bits in (
       λ end. (frame-made law bounds x eoi h ps look byte numbers q qs u e i s end).0,
       λ now k. each-map (At h (after_moves h ms) x false (Sent pull) (has_accepted f.ack pull)) (ExpectsByte x (after_moves h ms) now) ps

@@ -54,7 +54,7 @@ each-heeds P h (p ∷ ps) (a, w) = by (is_away (standing p.timing.wait p.device 
     by true e = e
     by false e = (a, e)
 
-or-false : (b : Bool) → (b || false) ≡ b
+pub or-false : (b : Bool) → (b || false) ≡ b
 or-false true = refl
 or-false false = refl
 

@@ -1,10 +1,12 @@
 -- Trusted: a talker and devices on one line. A device that is called at its wakes does at each moment what its rule says
 -- of that moment (`WakesAreActs`), so the edges before a moment say what each device does then.
-use Rattle.std.specs.Prelude.{◌≡◌, ℕ, ◌<◌, ◌≤◌, Bool, true, false, not, ◌&&◌, ◌||◌, if◌then◌else◌, cond, List, [], ◌∷◌, ◌++◌, map}
+use Rattle.std.specs.Prelude.{◌≡◌, ℕ, ◌+◌, ◌<◌, ◌≤◌, nat_lt, Bool, true, false, not, ◌&&◌, ◌||◌, ◌==◌, if◌then◌else◌, cond, List, [], ◌∷◌, ◌++◌, map, drop, Option, Some, None}
 use Rattle.pr_wire.specs.declared.Edge.{Edge}
 use Rattle.pr_wire.specs.Levels.{edge_at}
-use Rattle.pr_wire.specs.Pieces.{FrameTimes, pulse_edges, bit_edges}
-use Rattle.pr_bus.specs.Timed.{ListenerTiming}
+use Rattle.pr_wire.specs.Pieces.{FrameTimes, SecondFrame, Ending, pulse_edges, bit_edges, ending_edges}
+use Rattle.pr_wire.specs.declared.delay.Kind.TheVariants.{Aw}
+use Rattle.pr_wire.specs.Delays.{delay_at}
+use Rattle.pr_bus.specs.Timed.{ListenerTiming, frame_times}
 use Rattle.pr_device.specs.declared.place.Place.{Place}
 use Rattle.pr_device.specs.declared.place.Place.TheVariants.{Between, Sent}
 use Rattle.pr_device.specs.declared.timing.Timing.{Timing}
@@ -103,3 +105,48 @@ pub record ExpectsByte (atn : Bool) (history : List Edge) (now : ℕ) (p : Party
   pub clock_is : clock_of history ≡ false
   pub between : IsBetweenBytes (place_after p.timing.wait history)
   pub pulls_is : pulling p history now ≡ not (is_away (standing p.timing.wait p.device history))
+
+-- a whole frame, from CLOCK's release on
+abbrev pub sent_moves : Bool → ℕ → FrameTimes → List Move
+sent_moves x look f = released (edge_at look x true false) ∷ frame_moves x f
+
+-- DATA's pull in answer to ATN, unless it comes with CLOCK's release or DATA is pulled already
+abbrev pub answer_moves : Option ℕ → ℕ → List Move
+answer_moves None look = []
+answer_moves (Some d) look = if d == look then [] else released (edge_at d false false false) ∷ []
+
+-- a second command
+abbrev pub second_moves : Option SecondFrame → List Move
+second_moves None = []
+second_moves (Some m) = sent_moves false m.look m.sent
+
+-- a second command, after an acknowledgement, with the talker's numbers, to devices that hear it
+abbrev pub second_for : ℕ → Option ℕ → List ℕ → List Party → Option SecondFrame
+second_for ack None numbers parties = None
+second_for ack (Some byte) numbers parties =
+    let look = ack + delay_at Aw numbers 0 in
+    Some (record { look = look; sent = frame_times look false byte (drop 1 numbers) (map (hearer false) parties) })
+
+-- an attention: ATN's pull, where DATA has this level, the commands, and the end
+abbrev pub attention_moves : Bool → ℕ → Option ℕ → ℕ → FrameTimes → Option SecondFrame → Ending → List Move
+attention_moves line a answer look first second end =
+    released (edge_at a false false line)
+    ∷ (answer_moves answer look ++ (sent_moves false look first ++ (second_moves second ++ map released (ending_edges end))))
+
+-- before a call: ATN is released, and DATA has what a device does to it at that moment, by whether it is heeding
+pub record IsCallable (holds : Party → Bool) (history : List Edge) (now : ℕ) (p : Party) : Type 0 where
+  pub atn_is : atn_of history ≡ true
+  pub pulls_is : pulling p history now ≡ holds p
+
+-- after ATN's release a device that is spoken to holds DATA, and another one leaves it
+pub record HasLeft (history : List Edge) (since : ℕ) (p : Party) : Type 0 where
+  pub atn_is : atn_of history ≡ true
+  pub clock_is : clock_of history ≡ false
+  pub place_is : place_after p.timing.wait history ≡ Between
+  pub does : (now : ℕ) → pulling p history now ≡ (not (is_away (standing p.timing.wait p.device history)) || nat_lt now (since + p.timing.leave))
+
+-- nobody speaks to a device, and it does nothing
+pub record IsIdle (history : List Edge) (p : Party) : Type 0 where
+  pub atn_is : atn_of history ≡ true
+  pub away_is : is_away (standing p.timing.wait p.device history) ≡ true
+  pub does : (now : ℕ) → pulling p history now ≡ false

@@ -1,7 +1,7 @@
 //! Laws of the definitions, with nothing to run. A caller whose proof needs one calls the function.
 
 ghost use Rattle.pr_device.specs.Laws.{DelaysAreKept, HistoriesAreHeard, PairsShareTheLine, TalkersAreHeard, TracesAreHeard, TracesSayWhatTheySpell, WakesAreActs};
-ghost use Rattle.pr_device.specs.CourseLaws.{FramesAreMade};
+ghost use Rattle.pr_device.specs.CourseLaws.{CallsAreMade, FramesAreMade};
 
 use pr_receiver::{frames_are_heard_in_turn, traces_give_what_is_heard};
 use pr_wire::delays_within_bounds;
@@ -53,6 +53,16 @@ pub fn wakes_are_acts()
 /// after the acknowledgement the devices expect the next frame.
 pub fn frames_are_made()
     ensures { FramesAreMade }
+{
+    frames_are_heard_in_turn();
+    delays_within_bounds();
+}
+
+/// The law of attentions: an attention whose moments are the sums of the timed trace of pr_bus, for the
+/// devices on the line, is made by the talker and these devices: the answer to ATN, the commands, and
+/// what each device does to DATA after ATN's release.
+pub fn attentions_are_made()
+    ensures { CallsAreMade }
 {
     frames_are_heard_in_turn();
     delays_within_bounds();
