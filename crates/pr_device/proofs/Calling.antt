@@ -22,7 +22,7 @@ use Rattle.pr_device.proofs.Delays.{near, not-true}
 use Rattle.pr_device.proofs.Pairs.{not-lt, last-releases, first-pulls}
 use Rattle.pr_device.proofs.Walking.{Stands, IsAt, goes-quietly, turns, chosen, refused, same-self}
 use Rattle.pr_device.proofs.Sharing.{any_by, heeds, each-map, each-both, one-is, any-heeds, or-false, IsParty}
-use Rattle.pr_device.proofs.Making.{Framed, framed-for, not-false, and-true, same-heeds}
+use Rattle.pr_device.proofs.Making.{Framed, framed-for, not-false, and-true, same-heeds, or-same, not-yet}
 
 -- moves after moves
 pub after-append : (h : List Edge) (xs ys : List Move) → after_moves h (xs ++ ys) ≡ after_moves (after_moves h xs) ys
@@ -75,6 +75,20 @@ calls-rule t s before a n x q o =
     near t 0 before s n Between (ap (λ y. y && not s.listens) x) q
     ∙ (ap (λ y. if y then not s.clock else calls t before s.since n) x ∙ ap (λ y. calls t before y n) o)
 
+-- the same, where it has acted before at a moment
+calls-twice : (t : Timing) (s : Standing) (before : Bool) (a m n : ℕ) → s.atn ≡ false → s.place ≡ Between → s.since ≡ Some a
+    → pulls t 0 (pulls t 0 before s m) s n ≡ ((before || not (nat_lt m (a + t.attention))) || not (nat_lt n (a + t.attention)))
+calls-twice t s before a m n x q o =
+    calls-rule t s (pulls t 0 before s m) a n x q o ∙ ap (λ y. y || not (nat_lt n (a + t.attention))) (calls-rule t s before a m x q o)
+
+or-none : (a b c : Bool) → b ≡ false → ((a || b) || c) ≡ (a || c)
+or-none true b c h = refl
+or-none false b c h = ap (λ y. y || c) h
+
+or-again : (a b c : Bool) → (((a || b) || b) || c) ≡ ((a || b) || c)
+or-again true b c = refl
+or-again false b c = or-same b c
+
 -- ATN's pull
 step-call : (h : List Edge) (a : ℕ) (line : Bool) (b : Party → Bool) (p : Party) → IsCallable b h a p × IsParty p → Called a b (edge_at a false false line ∷ h) p
 step-call h a line b p (s, i) =
@@ -88,8 +102,10 @@ step-call h a line b p (s, i) =
       since_is = o;
       timing = i;
       does = λ n.
-          calls-rule p.timing (standing p.timing.wait p.device (e ∷ h)) (pulling p h a) a n refl t.place_is o
-          ∙ ap (λ y. y || not (nat_lt n (a + p.timing.attention))) s.pulls_is;
+          calls-twice p.timing (standing p.timing.wait p.device (e ∷ h)) (pulling p h a) a a n refl t.place_is o
+          ∙ (or-none (pulling p h a) (not (nat_lt a (a + p.timing.attention))) (not (nat_lt n (a + p.timing.attention)))
+          (not-yet a p.timing.attention (let j : 1 ≤ p.timing.attention = i.attention.from in omega (arith, j)))
+          ∙ ap (λ y. y || not (nat_lt n (a + p.timing.attention))) s.pulls_is);
     }
 
 -- another edge of DATA while ATN and CLOCK are pulled
@@ -107,8 +123,9 @@ step-answer k a d line b p s =
       since_is = o;
       timing = s.timing;
       does = λ n.
-          calls-rule p.timing (standing p.timing.wait p.device (e ∷ k)) (pulling p k d) a n refl t.place_is o
-          ∙ ap (λ y. y || not (nat_lt n (a + p.timing.attention))) (s.does d);
+          calls-twice p.timing (standing p.timing.wait p.device (e ∷ k)) (pulling p k d) a d n refl t.place_is o
+          ∙ (ap (λ y. (y || not (nat_lt d (a + p.timing.attention))) || not (nat_lt n (a + p.timing.attention))) (s.does d)
+          ∙ or-again (b p) (not (nat_lt d (a + p.timing.attention))) (not (nat_lt n (a + p.timing.attention))));
     }
 
 or-true : (b : Bool) → (b || true) ≡ true
@@ -304,9 +321,16 @@ left-rule t s before r n x c q o b = by (is_away s) refl
     by false k =
         near t 0 before s n Between k q ∙ (ap (λ y. if y then not s.clock else calls t before s.since n) x ∙ ap not c)
 
+-- the same, where it has acted at ATN's release
+left-twice : (t : Timing) (s : Standing) (before : Bool) (r n : ℕ) → s.atn ≡ true → s.clock ≡ false → s.place ≡ Between → s.since ≡ Some r → before ≡ true → 0 < t.leave
+    → pulls t 0 (pulls t 0 before s r) s n ≡ (not (is_away s) || nat_lt n (r + t.leave))
+left-twice t s before r n x c q o b h =
+    left-rule t s (pulls t 0 before s r) r n x c q o
+    (left-rule t s before r r x c q o b ∙ (ap (λ y. not (is_away s) || y) (lt-ltb r (r + t.leave) (omega arith)) ∙ or-true (not (is_away s))))
+
 -- ATN's release
-step-left : (k : List Edge) (r : ℕ) (p : Party) → ExpectsByte false k r p → HasLeft (edge_at r true false false ∷ k) r p
-step-left k r p s =
+step-left : (k : List Edge) (r : ℕ) (p : Party) → ExpectsByte false k r p × IsParty p → HasLeft (edge_at r true false false ∷ k) r p
+step-left k r p (s, i) =
     let e : Edge = edge_at r true false false in
     let t = turns p.timing.wait k true false (said p.timing.wait k) e (record { atn_is = s.atn_is; said_is = refl }) refl refl in
     let o : since_of (e ∷ k) ≡ Some r = refused (same true (atn_of k)) (since_of k) (Some r) (ap (λ y. same true y) s.atn_is) in
@@ -314,8 +338,14 @@ step-left k r p s =
       atn_is = refl;
       clock_is = refl;
       place_is = t.place_is;
-      does = λ n. left-rule p.timing (standing p.timing.wait p.device (e ∷ k)) (pulling p k r) r n refl refl t.place_is o (s.pulls_is ∙ expects-heeds k r p s);
+      does = λ n. left-twice p.timing (standing p.timing.wait p.device (e ∷ k)) (pulling p k r) r n refl refl t.place_is o (s.pulls_is ∙ expects-heeds k r p s)
+          (let j : 1 ≤ p.timing.leave = i.leave.from in omega (arith, j));
     }
+
+left-all : (k : List Edge) (r : ℕ) (ps : List Party) → Each IsParty ps → Each (ExpectsByte false k r) ps → Each (HasLeft (edge_at r true false false ∷ k) r) ps
+left-all k r ps i s =
+    each-map (λ (p : Party). ExpectsByte false k r p × IsParty p) (HasLeft (edge_at r true false false ∷ k) r) ps (step-left k r)
+    (each-both (ExpectsByte false k r) IsParty ps s i)
 
 -- what devices do together after it
 abbrev pub last_leave : List Party → ℕ
@@ -330,10 +360,10 @@ left-does : (k : List Edge) (r : ℕ) (ps : List Party) (n : ℕ) → Each (HasL
 left-does k r ps n s = each-map (HasLeft k r) (λ (p : Party). pulling p k n ≡ (heeds k p || nat_lt n (r + p.timing.leave))) ps (λ p z. z.does n) s
 
 -- ATN's release, after which somebody listens
-left-held : (k : List Edge) (r : ℕ) (q : Party) (qs : List Party) (next : ℕ) → Each (ExpectsByte false k r) (q ∷ qs)
+left-held : (k : List Edge) (r : ℕ) (q : Party) (qs : List Party) (next : ℕ) → Each IsParty (q ∷ qs) → Each (ExpectsByte false k r) (q ∷ qs)
     → any_by (heeds (edge_at r true false false ∷ k)) (q ∷ qs) ≡ true → IsMade (q ∷ qs) k (released (edge_at r true false false)) next
-left-held k r q qs next s e =
-    let t = each-map (ExpectsByte false k r) (HasLeft (edge_at r true false false ∷ k) r) (q ∷ qs) (step-left k r) s in
+left-held k r q qs next i s e =
+    let t = left-all k r (q ∷ qs) i s in
     made-sum (q ∷ qs) k (released (edge_at r true false false)) next true true (λ p n. true)
     (λ p n. heeds (edge_at r true false false ∷ k) p || nat_lt n (r + p.timing.leave))
     (each-map (ExpectsByte false k r) (λ (p : Party). pulling p k r ≡ true) (q ∷ qs) (λ p z. z.pulls_is ∙ expects-heeds k r p z) s)
@@ -345,12 +375,11 @@ none-heeds : (h : List Edge) (g : Party → Bool) (ps : List Party) → Each (λ
 none-heeds h g [] w = refl
 none-heeds h g (p ∷ ps) (a, w) = ap (λ v. (v || g p) || any_by (λ (q : Party). heeds h q || g q) ps) a ∙ ap (λ v. g p || v) (none-heeds h g ps w)
 
-left-due : (k : List Edge) (r : ℕ) (q : Party) (qs : List Party) (next : ℕ) → Each (ExpectsByte false k r) (q ∷ qs)
+left-due : (k : List Edge) (r : ℕ) (q : Party) (qs : List Party) (next : ℕ) → Each IsParty (q ∷ qs) → Each (ExpectsByte false k r) (q ∷ qs)
     → any_by (heeds (edge_at r true false false ∷ k)) (q ∷ qs) ≡ false → next ≤ r + last_leave (q ∷ qs)
     → IsMade (q ∷ qs) k (released (edge_at r true false false)) next
-left-due k r q qs next s e m =
-    let g : List Edge = edge_at r true false false ∷ k in
-    let t = each-map (ExpectsByte false k r) (HasLeft (edge_at r true false false ∷ k) r) (q ∷ qs) (step-left k r) s in
+left-due k r q qs next i s e m =
+    let t = left-all k r (q ∷ qs) i s in
     let w = each-false (heeds (edge_at r true false false ∷ k)) (q ∷ qs) e in
     made-sum (q ∷ qs) k (released (edge_at r true false false)) next true true (λ p n. true)
     (λ p n. heeds (edge_at r true false false ∷ k) p || nat_lt n (r + p.timing.leave))
@@ -359,20 +388,24 @@ left-due k r q qs next s e m =
     (λ n u v. none-heeds (edge_at r true false false ∷ k) (λ (p : Party). nat_lt n (r + p.timing.leave)) (q ∷ qs) w
     ∙ (any-leaves n r q qs ∙ lt-ltb n (r + last_leave (q ∷ qs)) (omega arith))) refl
 
+-- the rule of a device to which nobody speaks
+idle-rule : (t : Timing) (s : Standing) (before : Bool) (n : ℕ) → is_away s ≡ true → before ≡ false → pulls t 0 before s n ≡ false
+idle-rule t s before n a b =
+    chosen (is_away s) (leaves t before s.since n) (pulls_at t 0 before s s.place n) a ∙ (ap (λ y. leaves t y s.since n) b ∙ none s.since)
+  where
+    none : (o : Option ℕ) → leaves t false o n ≡ false
+    none None = refl
+    none (Some r) = refl
+
 -- an edge at which nobody speaks to a device
 step-idle : (h : List Edge) (e : Edge) (p : Party) → e.levels.atn ≡ true → is_away (standing p.timing.wait p.device (e ∷ h)) ≡ true → pulling p h e.time ≡ false → IsIdle (e ∷ h) p
 step-idle h e p x a b = record {
   atn_is = x;
   away_is = a;
   does = λ n.
-      chosen (is_away (standing p.timing.wait p.device (e ∷ h))) (leaves p.timing (pulling p h e.time) (since_of (e ∷ h)) n)
-      (pulls_at p.timing 0 (pulling p h e.time) (standing p.timing.wait p.device (e ∷ h)) (place_after p.timing.wait (e ∷ h)) n) a
-      ∙ (ap (λ y. leaves p.timing y (since_of (e ∷ h)) n) b ∙ none p.timing (since_of (e ∷ h)) n);
+      idle-rule p.timing (standing p.timing.wait p.device (e ∷ h)) (pulls p.timing 0 (pulling p h e.time) (standing p.timing.wait p.device (e ∷ h)) e.time) n a
+      (idle-rule p.timing (standing p.timing.wait p.device (e ∷ h)) (pulling p h e.time) e.time a b);
 }
-  where
-    none : (t : Timing) (o : Option ℕ) (n : ℕ) → leaves t false o n ≡ false
-    none t None n = refl
-    none t (Some r) n = refl
 
 -- an edge at which DATA is released, and nobody does anything
 idle-made : (h : List Edge) (t : ℕ) (clock : Bool) (ps : List Party) (next : ℕ) → Each (λ (p : Party). pulling p h t ≡ false) ps → Each (IsIdle (edge_at t true clock true ∷ h)) ps
@@ -427,14 +460,14 @@ due-all k r q qs s e =
     (each-both (λ (p : Party). heeds k p ≡ false) (λ (p : Party). nat_lt d (r + p.timing.leave) ≡ false) (q ∷ qs) u v))
 
 -- the releases of all lines
-pub end-closed : (k : List Edge) (r clock : ℕ) (q : Party) (qs : List Party) (end : ℕ) → Each (ExpectsByte false k r) (q ∷ qs)
+pub end-closed : (k : List Edge) (r clock : ℕ) (q : Party) (qs : List Party) (end : ℕ) → Each IsParty (q ∷ qs) → Each (ExpectsByte false k r) (q ∷ qs)
     → any_by (heeds (edge_at r true false false ∷ k)) (q ∷ qs) ≡ false
     → AreMade (q ∷ qs) k (released (edge_at r true false false) ∷ (released (edge_at (r + last_leave (q ∷ qs)) true false true) ∷ (released (edge_at clock true true true) ∷ []))) end
-end-closed k r clock q qs end s e =
+end-closed k r clock q qs end i s e =
     let d : ℕ = r + last_leave (q ∷ qs) in
     let g : List Edge = edge_at r true false false ∷ k in
     let f : List Edge = edge_at d true false true ∷ g in
-    let t : Each (HasLeft g r) (q ∷ qs) = each-map (ExpectsByte false k r) (HasLeft g r) (q ∷ qs) (step-left k r) s in
+    let t : Each (HasLeft g r) (q ∷ qs) = left-all k r (q ∷ qs) i s in
     let w = due-all g r q qs t e in
     let a : Each (λ (p : Party). pulling p g d ≡ false) (q ∷ qs) =
     each-map (λ (p : Party). (pulling p g d ≡ false) × IsIdle f p) (λ (p : Party). pulling p g d ≡ false) (q ∷ qs) (λ p z. z.0) w in
@@ -442,7 +475,7 @@ end-closed k r clock q qs end s e =
     let c : Each (IsIdle (edge_at clock true true true ∷ f)) (q ∷ qs) =
     each-map (λ (p : Party). HasLeft g r p × IsIdle f p) (IsIdle (edge_at clock true true true ∷ f)) (q ∷ qs)
     (λ p z. closed-idle f clock p z.1 refl (due-between g r d p z.0)) (each-both (HasLeft g r) (IsIdle f) (q ∷ qs) t b) in (
-      left-due k r q qs d s e (omega arith),
+      left-due k r q qs d i s e (omega arith),
       (idle-made g d false (q ∷ qs) clock a b,
       (idle-made f clock true (q ∷ qs) end (each-map (IsIdle f) (λ (p : Party). pulling p f clock ≡ false) (q ∷ qs) (λ p z. z.does clock) b) c, tt)),
     )
@@ -509,12 +542,12 @@ calls-made law bounds c h q qs i x p m n =
     record {
       kept = λ z zs end e.
           whole (released (edge_at r true false false) ∷ []) end
-          (λ s. (left-held k r q qs end s (heeds-some (edge_at r true false false ∷ k) (q ∷ qs) z zs (subst (λ g. heeding g (q ∷ qs) ≡ z ∷ zs) at e)), tt));
+          (λ s. (left-held k r q qs end i s (heeds-some (edge_at r true false false ∷ k) (q ∷ qs) z zs (subst (λ g. heeding g (q ∷ qs) ≡ z ∷ zs) at e)), tt));
       due = λ end e v.
           whole (released (edge_at r true false false) ∷ []) end
-          (λ s. (left-due k r q qs end s (heeds-none (edge_at r true false false ∷ k) (q ∷ qs) (subst (λ g. heeding g (q ∷ qs) ≡ []) at e)) v, tt));
+          (λ s. (left-due k r q qs end i s (heeds-none (edge_at r true false false ∷ k) (q ∷ qs) (subst (λ g. heeding g (q ∷ qs) ≡ []) at e)) v, tt));
       closed = λ clock end e v.
           whole (released (edge_at r true false false) ∷ (released (edge_at (r + last_leave (q ∷ qs)) true false true) ∷ (released (edge_at clock true true true) ∷ []))) end
-          (λ s. end-closed k r clock q qs end s (heeds-none (edge_at r true false false ∷ k) (q ∷ qs) (subst (λ g. heeding g (q ∷ qs) ≡ []) at e)));
-      left = subst (λ g. Each (HasLeft g r) (q ∷ qs)) (sym at) (each-map (ExpectsByte false k r) (HasLeft (edge_at r true false false ∷ k) r) (q ∷ qs) (step-left k r) two.1);
+          (λ s. end-closed k r clock q qs end i s (heeds-none (edge_at r true false false ∷ k) (q ∷ qs) (subst (λ g. heeding g (q ∷ qs) ≡ []) at e)));
+      left = subst (λ g. Each (HasLeft g r) (q ∷ qs)) (sym at) (left-all k r (q ∷ qs) i two.1);
     }

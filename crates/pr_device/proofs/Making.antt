@@ -50,6 +50,19 @@ does-rule t s q before b false n k e d =
     none None = refl
     none (Some r) = refl
 
+-- the same, where it has acted before at a moment
+pub does-twice : (t : Timing) (s : Standing) (q : Place) (before b v : Bool) (m n : ℕ) → not (is_away s) ≡ v → s.place ≡ q → before ≡ (v && b)
+    → pulls t 0 (pulls t 0 before s m) s n ≡ (v && pulls_at t 0 (pulls_at t 0 b s q m) s q n)
+does-twice t s q before b v m n k e d =
+    does-rule t s q (pulls t 0 before s m) (pulls_at t 0 b s q m) v n k e (does-rule t s q before b v m k e d)
+
+pub or-same : (a b : Bool) → ((a || a) || b) ≡ (a || b)
+or-same true b = refl
+or-same false b = refl
+
+pub not-yet : (m d : ℕ) → 0 < d → not (nat_lt m (m + d)) ≡ false
+not-yet m d h = ap not (lt-ltb m (m + d) (omega arith))
+
 -- how a device is after a history, if it heeds as it did after another one: where it is, and what it does at a moment
 pub record At (g h : List Edge) (x c : Bool) (place : Place) (f : Party → ℕ → Bool) (p : Party) : Type 0 where
   pub atn_is : atn_of h ≡ x
@@ -86,7 +99,7 @@ more-heeds law p h k x v eoi a b s =
 -- one edge more
 step-at : (g h : List Edge) (x c d : Bool) (place next : Place) (f k : Party → ℕ → Bool) (e : Edge) (p : Party) → At g h x c place f p
     → e.levels.atn ≡ x → e.levels.clock ≡ d → leads p.timing.wait place c e ≡ next → ends place c e ≡ None
-    → ((s : Standing) (n : ℕ) → s.atn ≡ x → pulls_at p.timing 0 (f p e.time) s next n ≡ k p n)
+    → ((s : Standing) (n : ℕ) → s.atn ≡ x → pulls_at p.timing 0 (pulls_at p.timing 0 (f p e.time) s next e.time) s next n ≡ k p n)
     → At g (e ∷ h) x d next k p
 step-at g h x c d place next f k e p s a l m o w =
     let z : Stands p.timing.wait h x c place (said p.timing.wait h) = record { atn_is = s.atn_is; clock_is = s.clock_is; place_is = s.place_is; said_is = refl } in
@@ -99,13 +112,13 @@ step-at g h x c d place next f k e p s a l m o w =
       heeds_is = v;
       timing = s.timing;
       does = λ n.
-          does-rule p.timing (standing p.timing.wait p.device (e ∷ h)) next (pulling p h e.time) (f p e.time) (heeds g p) n v t.place_is (s.does e.time)
+          does-twice p.timing (standing p.timing.wait p.device (e ∷ h)) next (pulling p h e.time) (f p e.time) (heeds g p) e.time n v t.place_is (s.does e.time)
           ∙ ap (λ y. heeds g p && y) (w (standing p.timing.wait p.device (e ∷ h)) n t.atn_is);
     }
 
 each-step : (g h : List Edge) (x c d : Bool) (place next : Place) (f k : Party → ℕ → Bool) (e : Edge) (ps : List Party) → Each (At g h x c place f) ps
     → e.levels.atn ≡ x → e.levels.clock ≡ d → ((w : ℕ) → leads w place c e ≡ next) → ends place c e ≡ None
-    → ((p : Party) (s : Standing) (n : ℕ) → s.atn ≡ x → pulls_at p.timing 0 (f p e.time) s next n ≡ k p n)
+    → ((p : Party) (s : Standing) (n : ℕ) → s.atn ≡ x → pulls_at p.timing 0 (pulls_at p.timing 0 (f p e.time) s next e.time) s next n ≡ k p n)
     → Each (At g (e ∷ h) x d next k) ps
 each-step g h x c d place next f k e ps s a l m o w =
     each-map (At g h x c place f) (At g (e ∷ h) x d next k) ps (λ p z. step-at g h x c d place next f k e p z a l (m p.timing.wait) o (w p)) s
@@ -194,7 +207,7 @@ made-ack g h x eoi pull ps q qs end R e s r =
     let ack : ℕ = pull + first_accept eoi (q ∷ qs) in
     let a : Edge = edge_at ack x false false in
     let t : Each (At g (a ∷ h) x false (Sent pull) (has_accepted ack pull)) ps =
-    each-step g h x false false (Sent pull) (Sent pull) (accepts pull) (has_accepted ack pull) a ps s refl refl (λ w. refl) refl (λ p z n k. refl) in
+    each-step g h x false false (Sent pull) (Sent pull) (accepts pull) (has_accepted ack pull) a ps s refl refl (λ w. refl) refl (λ p z n k. or-same (not (nat_lt ack (pull + p.timing.accept))) (not (nat_lt n (pull + p.timing.accept)))) in
     let i : any_by (λ (p : Party). accepts pull p ack) (q ∷ qs) ≡ true =
     any-first (λ (l : ListenerTiming). l.accept) (hearer eoi) ack pull q qs ∙ not-lt ack (pull + first_accept eoi (q ∷ qs)) (omega arith) in
     one-more ps h (released a) [] end R
@@ -216,7 +229,9 @@ step-last law g h x eoi v pull p s =
       place_is = t.place_is;
       heeds_is = y;
       timing = s.timing;
-      does = λ n. does-rule p.timing (standing p.timing.wait p.device (e ∷ h)) (Sent pull) (pulling p h pull) false (heeds g p) n y t.place_is (s.does pull);
+      does = λ n.
+          does-twice p.timing (standing p.timing.wait p.device (e ∷ h)) (Sent pull) (pulling p h pull) false (heeds g p) pull n y t.place_is (s.does pull)
+          ∙ ap (λ v. heeds g p && (v || not (nat_lt n (pull + p.timing.accept)))) (not-yet pull p.timing.accept (let i = s.timing in let j : 1 ≤ p.timing.accept = i.accept.from in omega (arith, j)));
     }
 
 -- the bits from CLOCK's release for one of them on
@@ -339,6 +354,11 @@ look-ends (Sent z) e i = refl
 look-ends (Opening l f eoi) e i = absurd i
 look-ends (Bits eoi n v) e i = absurd i
 
+held : (look d n : ℕ) → 0 < d → ((nat_lt look (max (look + d) 0) || n == look) && nat_lt n (max (look + d) 0)) ≡ nat_lt n (look + d)
+held look d n h =
+    ap (λ k. (nat_lt look k || n == look) && nat_lt n k) (or-zero (look + d))
+    ∙ ap (λ v. (v || n == look) && nat_lt n (look + d)) (lt-ltb look (look + d) (omega arith))
+
 step-look : (h : List Edge) (x : Bool) (look : ℕ) (p : Party) → ExpectsByte x h look p × IsParty p
     → At h (edge_at look x true false ∷ h) x true (Opening look None false) (holds look) p
 step-look h x look p (s, i) =
@@ -356,12 +376,12 @@ step-look h x look p (s, i) =
       heeds_is = y;
       timing = i;
       does = λ n.
-          does-rule p.timing (standing p.timing.wait p.device (e ∷ h)) (Opening look None false) (pulling p h look) true (heeds h p) n y t.place_is
+          does-twice p.timing (standing p.timing.wait p.device (e ∷ h)) (Opening look None false) (pulling p h look) true (heeds h p) look n y t.place_is
           (s.pulls_is ∙ and-true (heeds h p))
-          ∙ ap (λ k. heeds h p && nat_lt n k) (or-zero (look + p.timing.hold));
+          ∙ ap (λ v. heeds h p && v) (held look p.timing.hold n (let j : 1 ≤ p.timing.hold = i.hold.from in omega (arith, j)));
     }
 
-made-look : (h : List Edge) (x eoi : Bool) (look : ℕ) (ps : List Party) (q : Party) (qs : List Party) (ms : List Move) (end : ℕ) (R : List Edge → Type 0)
+pub made-look : (h : List Edge) (x eoi : Bool) (look : ℕ) (ps : List Party) (q : Party) (qs : List Party) (ms : List Move) (end : ℕ) (R : List Edge → Type 0)
     → heeding h ps ≡ q ∷ qs → Each IsParty ps → Each (ExpectsByte x h look) ps → next_moment ms end ≤ look + last_hold eoi (q ∷ qs)
     → (Each (At h (edge_at look x true false ∷ h) x true (Opening look None false) (holds look)) ps → Made ps (edge_at look x true false ∷ h) ms end R)
     → Made ps h (released (edge_at look x true false) ∷ ms) end R

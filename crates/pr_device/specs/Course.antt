@@ -23,11 +23,13 @@ abbrev pub Each : (Party → Type 0) → List Party → Type 0
 Each P [] = Unit {0}
 Each P (p ∷ ps) = P p × Each P ps
 
--- whether a device pulls DATA at a moment, after these edges, the latest first
+-- whether a device pulls DATA at a moment, after these edges, the latest first: it acts at the last edge, by what it did
+-- until then, and at the moment, by what it did from the edge on
 abbrev pub pulling : Party → List Edge → ℕ → Bool
 pulling p [] now = false
 pulling p (e ∷ history) now =
-    pulls p.timing 0 (pulling p history e.time) (standing p.timing.wait p.device (e ∷ history)) now
+    let s = standing p.timing.wait p.device (e ∷ history) in
+    pulls p.timing 0 (pulls p.timing 0 (pulling p history e.time) s e.time) s now
 
 -- whether one of some devices does
 abbrev pub one_pulls : List Party → List Edge → ℕ → Bool
