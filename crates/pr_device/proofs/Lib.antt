@@ -9,3 +9,4 @@ pub mod Waking
 pub mod Sharing
 pub mod Making
 pub mod Calling
+pub mod Shown

@@ -4,7 +4,8 @@ use Rattle.pr_device.specs.declared.place.Place.{Place}
 use Rattle.pr_device.specs.declared.place.Place.TheVariants.{Between, Sent, Opening, Bits}
 use Rattle.pr_device.specs.declared.timing.Timing.{Timing}
 use Rattle.pr_device.specs.Data.{Standing, pulls, pulls_at, calls, leaves, is_away, wake, wake_at, where_true, after_where}
-use Rattle.pr_device.specs.Laws.{IsBeforeWake, IsPast, WakesAreActs}
+use Rattle.pr_device.specs.Course.{IsBefore}
+use Rattle.pr_device.specs.Laws.{IsPast, WakesAreActs}
 use Rattle.pr_device.specs.Timing.{IsTiming}
 
 -- pulled from a moment on
@@ -17,7 +18,7 @@ stays-down : (h : Bool) (later m : ℕ) → (h ≡ true → later < m) → (h &&
 stays-down true later m k = lt-ltb later m (k refl)
 stays-down false later m k = refl
 
-before-where : (b : Bool) (m later : ℕ) → IsBeforeWake later (where_true b m) → b ≡ true → later < m
+before-where : (b : Bool) (m later : ℕ) → IsBefore later (where_true b m) → b ≡ true → later < m
 before-where true m later h k = h
 before-where false m later h k = absurd (let i : false ≡ true = k in cc)
 
@@ -27,12 +28,12 @@ not-false true h = absurd (let k : true ≡ false = h in cc)
 
 -- two bounds of an answer, while neither is passed
 answer-stays : (x : Bool) (d e now later : ℕ) → now ≤ later → d ≤ e
-    → IsBeforeWake later (if nat_lt now d then where_true x d else where_true (x && nat_lt now e) e)
+    → IsBefore later (if nat_lt now d then where_true x d else where_true (x && nat_lt now e) e)
     → (x && (not (nat_lt later d) && nat_lt later e)) ≡ (x && (not (nat_lt now d) && nat_lt now e))
 answer-stays false d e now later i j h = refl
 answer-stays true d e now later i j h = by (nat_lt now d) (nat_lt now e) refl refl h
   where
-    by : (p q : Bool) → nat_lt now d ≡ p → nat_lt now e ≡ q → IsBeforeWake later (if p then where_true true d else where_true (true && q) e)
+    by : (p q : Bool) → nat_lt now d ≡ p → nat_lt now e ≡ q → IsBefore later (if p then where_true true d else where_true (true && q) e)
         → (not (nat_lt later d) && nat_lt later e) ≡ (not p && q)
     by true q a b k = ap (λ v. not v && nat_lt later e) (lt-ltb later d k)
     by false true a b k =
@@ -47,12 +48,12 @@ after-is : (b : Bool) (a d : ℕ) → after_where b (Some a) d ≡ where_true b 
 after-is true a d = refl
 after-is false a d = refl
 
-before-after : (b : Bool) (a d later : ℕ) → IsBeforeWake later (after_where b (Some a) d) → b ≡ true → later < a + d
-before-after b a d later h k = before-where b (a + d) later (subst (IsBeforeWake later) (after-is b a d) h) k
+before-after : (b : Bool) (a d later : ℕ) → IsBefore later (after_where b (Some a) d) → b ≡ true → later < a + d
+before-after b a d later h k = before-where b (a + d) later (subst (IsBefore later) (after-is b a d) h) k
 
 -- between two bytes
 between-stays : (t : Timing) (before clock atn : Bool) (since : Option ℕ) (now later : ℕ)
-    → IsBeforeWake later (after_where (not atn && not (if atn then not clock else calls t before since now)) since t.attention)
+    → IsBefore later (after_where (not atn && not (if atn then not clock else calls t before since now)) since t.attention)
     → (if atn then not clock else calls t (if atn then not clock else calls t before since now) since later) ≡ (if atn then not clock else calls t before since now)
 between-stays t before clock true since now later h = refl
 between-stays t before clock false None now later h = refl
@@ -66,7 +67,7 @@ last-false true b x h k = h
 last-false false true x h k = h
 last-false false false x h k = absurd (let i : false ≡ true = k in cc)
 
-open-stays : (before h : Bool) (look m now later : ℕ) → ((before || now == look) && nat_lt now m) ≡ h → look ≤ now → now ≤ later → IsBeforeWake later (where_true h m)
+open-stays : (before h : Bool) (look m now later : ℕ) → ((before || now == look) && nat_lt now m) ≡ h → look ≤ now → now ≤ later → IsBefore later (where_true h m)
     → ((h || later == look) && nat_lt later m) ≡ h
 open-stays before true look m now later e p i w = lt-ltb later m w
 open-stays before false look m now later e p i w = by (later == look) refl
@@ -81,7 +82,7 @@ open-stays before false look m now later e p i w = by (later == look) refl
 
 -- where somebody speaks to the device
 near-stays : (t : Timing) (until : ℕ) (before : Bool) (s : Standing) (p : Place) (now later : ℕ) → IsPast p now → now ≤ later
-    → IsBeforeWake later (wake_at t until (pulls_at t until before s p now) s p now)
+    → IsBefore later (wake_at t until (pulls_at t until before s p now) s p now)
     → pulls_at t until (pulls_at t until before s p now) s p later ≡ pulls_at t until before s p now
 near-stays t until before s Between now later c i h = between-stays t before s.clock s.atn s.since now later h
 near-stays t until before s (Sent pull) now later c i h =
@@ -94,7 +95,7 @@ near-stays t until before s (Opening look (Some free) eoi) now later c i h =
 near-stays t until before s (Bits eoi count byte) now later c i h = refl
 
 -- where nobody does
-away-stays : (t : Timing) (before : Bool) (since : Option ℕ) (now later : ℕ) → IsBeforeWake later (after_where (leaves t before since now) since t.leave)
+away-stays : (t : Timing) (before : Bool) (since : Option ℕ) (now later : ℕ) → IsBefore later (after_where (leaves t before since now) since t.leave)
     → leaves t (leaves t before since now) since later ≡ leaves t before since now
 away-stays t before None now later h = refl
 away-stays t before (Some r) now later h =
@@ -169,7 +170,7 @@ abbrev woken : Timing → ℕ → Standing → Bool → Bool → ℕ → Option 
 woken t until s away held now = if away then after_where held s.since t.leave else wake_at t until held s s.place now
 
 all-stays : (t : Timing) (until : ℕ) (before : Bool) (s : Standing) (now later : ℕ) (b : Bool) → IsPast s.place now → now ≤ later
-    → IsBeforeWake later (woken t until s b (ruled t until s b before now) now)
+    → IsBefore later (woken t until s b (ruled t until s b before now) now)
     → ruled t until s b (ruled t until s b before now) later ≡ ruled t until s b before now
 all-stays t until before s now later true c i h = away-stays t before s.since now later h
 all-stays t until before s now later false c i h = near-stays t until before s s.place now later c i h

@@ -11,6 +11,7 @@ use Rattle.pr_device.specs.Data.{Standing, is_away, pulls, wake}
 use Rattle.pr_device.specs.Events.{events_of, inputs_of_events}
 use Rattle.pr_device.specs.Following.{said}
 use Rattle.pr_device.specs.Seen.{events_with}
+use Rattle.pr_device.specs.Course.{Party, Moment, AreInTime, IsBefore, changes_shown, moments_shown, does_after, wake_after, time_after, pulling}
 use Rattle.pr_device.specs.Pairs.{SharesTheLine}
 use Rattle.pr_device.specs.Timing.{IsTiming}
 use Rattle.pr_device.specs.Talkers.{Turn, AreTurns, moments_of, frames_sent}
@@ -61,11 +62,6 @@ DelaysAreKept =
 abbrev pub PairsShareTheLine : Type 0
 PairsShareTheLine = (t u : Timing) (s : Standing) (now : ℕ) → IsTiming t → IsTiming u → SharesTheLine t u s now
 
--- a moment comes before the next wake, if there is one
-abbrev pub IsBeforeWake : ℕ → Option ℕ → Type 0
-IsBeforeWake moment None = Unit {0}
-IsBeforeWake moment (Some next) = moment < next
-
 -- a place's moment does not come after the present one
 abbrev pub IsPast : Place → ℕ → Type 0
 IsPast (Opening look free eoi) now = look ≤ now
@@ -73,7 +69,7 @@ IsPast _ now = Unit {0}
 
 -- as long as things stand as they do, the device does to DATA what it does now, until its wake, and then the other thing
 pub record StaysUntilTheWake (t : Timing) (until : ℕ) (before : Bool) (s : Standing) (now : ℕ) : Type 0 where
-  pub stays : (later : ℕ) → now ≤ later → IsBeforeWake later (wake t until (pulls t until before s now) s now)
+  pub stays : (later : ℕ) → now ≤ later → IsBefore later (wake t until (pulls t until before s now) s now)
       → pulls t until (pulls t until before s now) s later ≡ pulls t until before s now
   pub turns : (next : ℕ) → wake t until (pulls t until before s now) s now ≡ Some next
       → pulls t until (pulls t until before s now) s next ≡ not (pulls t until before s now)
@@ -83,3 +79,10 @@ abbrev pub WakesAreActs : Type 0
 WakesAreActs =
     (t : Timing) (until : ℕ) (before : Bool) (s : Standing) (now : ℕ) → IsTiming t → IsPast s.place now
     → StaysUntilTheWake t until before s now
+
+-- a device that is called at its wakes does until the next one what `pulling` says of the changes alone
+abbrev pub WakesSuffice : Type 0
+WakesSuffice =
+    (p : Party) (ms : List Moment) → IsTiming p.timing → AreInTime p ms
+    → (now : ℕ) → time_after (moments_shown ms) ≤ now → IsBefore now (wake_after p (moments_shown ms))
+    → pulling p (changes_shown ms) now ≡ does_after p (moments_shown ms)

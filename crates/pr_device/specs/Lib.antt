@@ -7,6 +7,6 @@ pub mod Pairs
 pub mod Sound
 pub mod Seen
 pub mod Talkers
-pub mod Laws
 pub mod Course
+pub mod Laws
 pub mod CourseLaws

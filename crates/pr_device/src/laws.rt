@@ -1,6 +1,6 @@
 //! Laws of the definitions, with nothing to run. A caller whose proof needs one calls the function.
 
-ghost use Rattle.pr_device.specs.Laws.{DelaysAreKept, HistoriesAreHeard, PairsShareTheLine, TalkersAreHeard, TracesAreHeard, TracesSayWhatTheySpell, WakesAreActs};
+ghost use Rattle.pr_device.specs.Laws.{DelaysAreKept, HistoriesAreHeard, PairsShareTheLine, TalkersAreHeard, TracesAreHeard, TracesSayWhatTheySpell, WakesAreActs, WakesSuffice};
 ghost use Rattle.pr_device.specs.CourseLaws.{CallsAreMade, FramesAreMade};
 
 use pr_receiver::{frames_are_heard_in_turn, traces_give_what_is_heard};
@@ -46,6 +46,15 @@ pub fn pairs_share_the_line()
 pub fn wakes_are_acts()
     ensures { WakesAreActs }
 {}
+
+/// The law of calls: a device that is shown each change of the lines, and called at each wake, does at
+/// each moment until the next wake what the changes alone say (`pulling`). It finds DATA pulled where
+/// it pulls DATA, since it shares the line.
+pub fn wakes_suffice()
+    ensures { WakesSuffice }
+{
+    frames_are_heard_in_turn();
+}
 
 /// The law of frames: a frame whose moments are the sums of the timed trace of pr_bus, for the devices
 /// that heed it, is made by the talker and any number of devices on one line. With each edge DATA comes
