@@ -398,7 +398,7 @@ idle-rule t s before n a b =
     none (Some r) = refl
 
 -- an edge at which nobody speaks to a device
-step-idle : (h : List Edge) (e : Edge) (p : Party) → e.levels.atn ≡ true → is_away (standing p.timing.wait p.device (e ∷ h)) ≡ true → pulling p h e.time ≡ false → IsIdle (e ∷ h) p
+pub step-idle : (h : List Edge) (e : Edge) (p : Party) → e.levels.atn ≡ true → is_away (standing p.timing.wait p.device (e ∷ h)) ≡ true → pulling p h e.time ≡ false → IsIdle (e ∷ h) p
 step-idle h e p x a b = record {
   atn_is = x;
   away_is = a;
@@ -408,7 +408,7 @@ step-idle h e p x a b = record {
 }
 
 -- an edge at which DATA is released, and nobody does anything
-idle-made : (h : List Edge) (t : ℕ) (clock : Bool) (ps : List Party) (next : ℕ) → Each (λ (p : Party). pulling p h t ≡ false) ps → Each (IsIdle (edge_at t true clock true ∷ h)) ps
+pub idle-made : (h : List Edge) (t : ℕ) (clock : Bool) (ps : List Party) (next : ℕ) → Each (λ (p : Party). pulling p h t ≡ false) ps → Each (IsIdle (edge_at t true clock true ∷ h)) ps
     → IsMade ps h (released (edge_at t true clock true)) next
 idle-made h t clock ps next a b =
     made-sum ps h (released (edge_at t true clock true)) next false false (λ p n. false) (λ p n. false) a
@@ -431,7 +431,7 @@ due-idle k r d p s (a, b) =
     (v, step-idle k e p refl (not-false (is_away (standing p.timing.wait p.device (e ∷ k))) (h ∙ a)) v)
 
 -- CLOCK's release then
-closed-idle : (k : List Edge) (c : ℕ) (p : Party) → IsIdle k p → clock_of k ≡ false → place_after p.timing.wait k ≡ Between → IsIdle (edge_at c true true true ∷ k) p
+pub closed-idle : (k : List Edge) (c : ℕ) (p : Party) → IsIdle k p → clock_of k ≡ false → place_after p.timing.wait k ≡ Between → IsIdle (edge_at c true true true ∷ k) p
 closed-idle k c p s y q =
     let e : Edge = edge_at c true true true in
     let z : Stands p.timing.wait k true false Between (said p.timing.wait k) = record { atn_is = s.atn_is; clock_is = y; place_is = q; said_is = refl } in
@@ -459,15 +459,13 @@ due-all k r q qs s e =
     (each-both (HasLeft k r) (λ (p : Party). (heeds k p ≡ false) × (nat_lt d (r + p.timing.leave) ≡ false)) (q ∷ qs) s
     (each-both (λ (p : Party). heeds k p ≡ false) (λ (p : Party). nat_lt d (r + p.timing.leave) ≡ false) (q ∷ qs) u v))
 
--- the releases of all lines
-pub end-closed : (k : List Edge) (r clock : ℕ) (q : Party) (qs : List Party) (end : ℕ) → Each IsParty (q ∷ qs) → Each (ExpectsByte false k r) (q ∷ qs)
-    → any_by (heeds (edge_at r true false false ∷ k)) (q ∷ qs) ≡ false
-    → AreMade (q ∷ qs) k (released (edge_at r true false false) ∷ (released (edge_at (r + last_leave (q ∷ qs)) true false true) ∷ (released (edge_at clock true true true) ∷ []))) end
-end-closed k r clock q qs end i s e =
+-- DATA's release after ATN's, and CLOCK's
+pub due-closed : (g : List Edge) (r clock : ℕ) (q : Party) (qs : List Party) (end : ℕ) → Each (HasLeft g r) (q ∷ qs) → any_by (heeds g) (q ∷ qs) ≡ false
+    → AreMade (q ∷ qs) g (released (edge_at (r + last_leave (q ∷ qs)) true false true) ∷ (released (edge_at clock true true true) ∷ [])) end
+    × Each (IsIdle (edge_at clock true true true ∷ (edge_at (r + last_leave (q ∷ qs)) true false true ∷ g))) (q ∷ qs)
+due-closed g r clock q qs end t e =
     let d : ℕ = r + last_leave (q ∷ qs) in
-    let g : List Edge = edge_at r true false false ∷ k in
     let f : List Edge = edge_at d true false true ∷ g in
-    let t : Each (HasLeft g r) (q ∷ qs) = left-all k r (q ∷ qs) i s in
     let w = due-all g r q qs t e in
     let a : Each (λ (p : Party). pulling p g d ≡ false) (q ∷ qs) =
     each-map (λ (p : Party). (pulling p g d ≡ false) × IsIdle f p) (λ (p : Party). pulling p g d ≡ false) (q ∷ qs) (λ p z. z.0) w in
@@ -475,10 +473,27 @@ end-closed k r clock q qs end i s e =
     let c : Each (IsIdle (edge_at clock true true true ∷ f)) (q ∷ qs) =
     each-map (λ (p : Party). HasLeft g r p × IsIdle f p) (IsIdle (edge_at clock true true true ∷ f)) (q ∷ qs)
     (λ p z. closed-idle f clock p z.1 refl (due-between g r d p z.0)) (each-both (HasLeft g r) (IsIdle f) (q ∷ qs) t b) in (
-      left-due k r q qs d i s e (omega arith),
       (idle-made g d false (q ∷ qs) clock a b,
       (idle-made f clock true (q ∷ qs) end (each-map (IsIdle f) (λ (p : Party). pulling p f clock ≡ false) (q ∷ qs) (λ p z. z.does clock) b) c, tt)),
+      c,
     )
+
+-- they say nothing
+pub said-closed : (g : List Edge) (r d c : ℕ) (p : Party) → HasLeft g r p → said p.timing.wait (edge_at c true true true ∷ (edge_at d true false true ∷ g)) ≡ said p.timing.wait g
+said-closed g r d c p s =
+    let e : Edge = edge_at d true false true in
+    let f : Edge = edge_at c true true true in
+    let z : Stands p.timing.wait g true false Between (said p.timing.wait g) = record { atn_is = s.atn_is; clock_is = s.clock_is; place_is = s.place_is; said_is = refl } in
+    let t = goes-quietly p.timing.wait g true false false Between Between (said p.timing.wait g) e z refl refl refl refl in
+    let u = goes-quietly p.timing.wait (e ∷ g) true false true Between (Opening c None false) (said p.timing.wait g) f t refl refl refl refl in
+    u.said_is
+
+-- the releases of all lines
+pub end-closed : (k : List Edge) (r clock : ℕ) (q : Party) (qs : List Party) (end : ℕ) → Each IsParty (q ∷ qs) → Each (ExpectsByte false k r) (q ∷ qs)
+    → any_by (heeds (edge_at r true false false ∷ k)) (q ∷ qs) ≡ false
+    → AreMade (q ∷ qs) k (released (edge_at r true false false) ∷ (released (edge_at (r + last_leave (q ∷ qs)) true false true) ∷ (released (edge_at clock true true true) ∷ []))) end
+end-closed k r clock q qs end i s e =
+    (left-due k r q qs (r + last_leave (q ∷ qs)) i s e (omega arith), (due-closed (edge_at r true false false ∷ k) r clock q qs end (left-all k r (q ∷ qs) i s) e).0)
 
 -- somebody or nobody heeds
 pub heeds-some : (h : List Edge) (ps : List Party) (z : Party) (zs : List Party) → heeding h ps ≡ z ∷ zs → any_by (heeds h) ps ≡ true

@@ -10,3 +10,5 @@ pub mod Sharing
 pub mod Making
 pub mod Calling
 pub mod Shown
+pub mod Items
+pub mod Traces

@@ -491,12 +491,15 @@ expects-again g k x pull ack now p s h =
           ∙ (sym (and-true (heeds g p)) ∙ sym s.heeds_is));
     }
 
--- what the law says of a frame for some hearers
-abbrev pub Framed : Bool → Bool → List Edge → List Party → ℕ → ℕ → List ℕ → List Party → Type 0
-Framed x eoi h ps look byte numbers hs =
-    let f : FrameTimes = frame_times look eoi byte numbers (map (hearer eoi) hs) in
+-- what the law says of a frame, by what its hearers wait
+abbrev pub FramedBy : Bool → Bool → List Edge → List Party → ℕ → ℕ → List ℕ → List ListenerTiming → Type 0
+FramedBy x eoi h ps look byte numbers hs =
+    let f : FrameTimes = frame_times look eoi byte numbers hs in
     let ms : List Move = sent_moves x look f in
     ((end : ℕ) → AreMade ps h ms end) × ((now : ℕ) → f.ack + 100 ≤ now → Each (ExpectsByte x (after_moves h ms) now) ps)
+
+abbrev pub Framed : Bool → Bool → List Edge → List Party → ℕ → ℕ → List ℕ → List Party → Type 0
+Framed x eoi h ps look byte numbers hs = FramedBy x eoi h ps look byte numbers (map (hearer eoi) hs)
 
 pub framed-for : ListeningAfterOneMore → DelaysLieWithinBounds → (x eoi : Bool) (h : List Edge) (ps : List Party) (look byte : ℕ) (numbers : List ℕ) (q : Party) (qs : List Party)
     → (eoi ≡ true → x ≡ true) → heeding h ps ≡ q ∷ qs → Each IsParty ps → Each (ExpectsByte x h look) ps → Framed x eoi h ps look byte numbers (q ∷ qs)

@@ -10,3 +10,5 @@ pub mod Talkers
 pub mod Course
 pub mod Laws
 pub mod CourseLaws
+pub mod Paired
+pub mod PairLaws

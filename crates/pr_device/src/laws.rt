@@ -2,8 +2,11 @@
 
 ghost use Rattle.pr_device.specs.Laws.{DelaysAreKept, HistoriesAreHeard, PairsShareTheLine, TalkersAreHeard, TracesAreHeard, TracesSayWhatTheySpell, WakesAreActs, WakesSuffice};
 ghost use Rattle.pr_device.specs.CourseLaws.{CallsAreMade, FramesAreMade};
+ghost use Rattle.pr_device.specs.PairLaws.{TimedTracesAreMade};
 
+use pr_bus::laws::timed_traces_spell;
 use pr_receiver::{frames_are_heard_in_turn, traces_give_what_is_heard};
+use pr_serial::laws::items_make_listeners;
 use pr_wire::delays_within_bounds;
 
 /// A law: whatever the history, a device hears what the bytes say that are said in it.
@@ -75,4 +78,16 @@ pub fn attentions_are_made()
 {
     frames_are_heard_in_turn();
     delays_within_bounds();
+}
+
+/// The law of the pair: the timed trace of any items is what the talker of pr_bus and devices on one
+/// line make, any number of them, where the trace's printers have their numbers and their delays. So
+/// the trace that is defined by sums, and the devices that move by steps, are one.
+pub fn timed_traces_are_made()
+    ensures { TimedTracesAreMade }
+{
+    frames_are_heard_in_turn();
+    items_make_listeners();
+    delays_within_bounds();
+    timed_traces_spell();
 }
