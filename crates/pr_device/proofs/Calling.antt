@@ -16,13 +16,24 @@ use Rattle.pr_device.specs.declared.place.Place.TheVariants.{Between, Sent, Open
 use Rattle.pr_device.specs.declared.timing.Timing.{Timing}
 use Rattle.pr_device.specs.Data.{Standing, standing, pulls, pulls_at, calls, leaves, is_away}
 use Rattle.pr_device.specs.Following.{atn_of, clock_of, since_of, place_after, said, leads, ends}
-use Rattle.pr_device.specs.Course.{Party, Each, Move, IsMade, AreMade, next_moment, after_moves, released, set, pulling, one_pulls, shared, heeding, hearer, IsBetweenBytes, ExpectsByte, frame_moves, sent_moves, answer_moves, second_moves, attention_moves, second_for, IsCallable, HasLeft, IsIdle}
+use Rattle.pr_device.specs.Course.{Party, Each, Move, IsMade, AreMade, next_moment, after_moves, released, set, pulling, one_pulls, shared, heeding, hearer, IsBetweenBytes, ExpectsByte, frame_moves, sent_moves, answer_moves, second_moves, attention_moves, second_for, HasLeft}
 use Rattle.pr_device.specs.CourseLaws.{Call, CallIsMade, CallsAreMade, first_frame, next_frame, answer_of, due_of, call_moves, released_at}
 use Rattle.pr_device.proofs.Delays.{near, not-true}
 use Rattle.pr_device.proofs.Pairs.{not-lt, last-releases, first-pulls}
 use Rattle.pr_device.proofs.Walking.{Stands, IsAt, goes-quietly, turns, chosen, refused, same-self}
 use Rattle.pr_device.proofs.Sharing.{any_by, heeds, each-map, each-both, one-is, any-heeds, or-false, IsParty}
 use Rattle.pr_device.proofs.Making.{Framed, framed-for, not-false, and-true, same-heeds, or-same, not-yet}
+
+-- before a call: ATN is released, and DATA has what a device does to it at that moment, by whether it is heeding
+pub record IsCallable (holds : Party → Bool) (history : List Edge) (now : ℕ) (p : Party) : Type 0 where
+  pub atn_is : atn_of history ≡ true
+  pub pulls_is : pulling p history now ≡ holds p
+
+-- nobody speaks to a device, and it does nothing
+pub record IsIdle (history : List Edge) (p : Party) : Type 0 where
+  pub atn_is : atn_of history ≡ true
+  pub away_is : is_away (standing p.timing.wait p.device history) ≡ true
+  pub does : (now : ℕ) → pulling p history now ≡ false
 
 -- moves after moves
 pub after-append : (h : List Edge) (xs ys : List Move) → after_moves h (xs ++ ys) ≡ after_moves (after_moves h xs) ys
@@ -473,8 +484,10 @@ due-closed g r clock q qs end t e =
     let c : Each (IsIdle (edge_at clock true true true ∷ f)) (q ∷ qs) =
     each-map (λ (p : Party). HasLeft g r p × IsIdle f p) (IsIdle (edge_at clock true true true ∷ f)) (q ∷ qs)
     (λ p z. closed-idle f clock p z.1 refl (due-between g r d p z.0)) (each-both (HasLeft g r) (IsIdle f) (q ∷ qs) t b) in (
-      (idle-made g d false (q ∷ qs) clock a b,
-      (idle-made f clock true (q ∷ qs) end (each-map (IsIdle f) (λ (p : Party). pulling p f clock ≡ false) (q ∷ qs) (λ p z. z.does clock) b) c, tt)),
+      (
+        idle-made g d false (q ∷ qs) clock a b,
+        (idle-made f clock true (q ∷ qs) end (each-map (IsIdle f) (λ (p : Party). pulling p f clock ≡ false) (q ∷ qs) (λ p z. z.does clock) b) c, tt),
+      ),
       c,
     )
 
@@ -546,7 +559,7 @@ calls-made law bounds c h q qs i x p m n =
     let k : List Edge = after_moves (after_moves (after_moves h front) (sent_moves false c.look first)) (second_moves next) in
     let r : ℕ = c.release in
     let whole : (tail : List Move) (end : ℕ) → (Each (ExpectsByte false k r) (q ∷ qs) → AreMade (q ∷ qs) k tail end)
-        → AreMade (q ∷ qs) h (front ++ (sent_moves false c.look first ++ (second_moves next ++ tail))) end =
+    → AreMade (q ∷ qs) h (front ++ (sent_moves false c.look first ++ (second_moves next ++ tail))) end =
     λ tail end w. attention-made law bounds h q qs front c.look c.byte r c.second c.numbers c.more tail end i f.0 f.1 n w in
     let one = command-made law bounds (after_moves h front) q qs c.look c.byte c.numbers i f.1 in
     let two = second-made law bounds (after_moves (after_moves h front) (sent_moves false c.look first)) q qs first.ack r c.second c.more i one.1 n in

@@ -1,9 +1,9 @@
 -- What a device does keeps to its delays.
-use Rattle.std.proofs.Common.{◌≡◌, ℕ, ◌+◌, ◌<◌, ◌≤◌, ◌==◌, nat_lt, max, Bool, true, false, not, ◌&&◌, ◌||◌, Some, None, refl, sym, ap, ◌∙◌, arith, ltb-true, ltb-false, le-ltb}
+use Rattle.std.proofs.Common.{◌≡◌, ℕ, ◌+◌, ◌<◌, ◌≤◌, ◌==◌, nat_lt, max, Bool, true, false, not, ◌&&◌, ◌||◌, Some, None, if◌then◌else◌, refl, sym, ap, ◌∙◌, arith, ltb-true, ltb-false, le-ltb}
 use Rattle.pr_device.specs.declared.place.Place.{Place}
-use Rattle.pr_device.specs.declared.place.Place.TheVariants.{Opening, Bits}
+use Rattle.pr_device.specs.declared.place.Place.TheVariants.{Between, Sent, Opening, Bits}
 use Rattle.pr_device.specs.declared.timing.Timing.{Timing}
-use Rattle.pr_device.specs.Data.{Standing, pulls, pulls_at, leaves, is_away}
+use Rattle.pr_device.specs.Data.{Standing, pulls, pulls_at, calls, leaves, is_away}
 use Rattle.pr_device.specs.Laws.{DelaysAreKept}
 use Rattle.pr_device.proofs.Stepping.{left-true, right-true}
 use Rattle.pr_device.proofs.Walking.{chosen, refused}
@@ -22,8 +22,22 @@ near t until before s now p a e =
     refused (is_away s) (leaves t before s.since now) (pulls_at t until before s s.place now) a
     ∙ ap (λ q. pulls_at t until before s q now) e
 
+or-last : (a b : Bool) → b ≡ true → (a || b) ≡ true
+or-last true b h = refl
+or-last false b h = h
+
 pub delays-kept : DelaysAreKept
 delays-kept t until before s now w = record {
+  called = λ since x e k h.
+      let m : t.attention ≤ 1000 = w.attention.to in
+      near t until before s now Between (ap (λ y. y && not s.listens) x) e
+      ∙ (ap (λ y. if y then not s.clock else calls t before s.since now) x
+      ∙ (ap (λ o. calls t before o now) k
+      ∙ or-last before (not (nat_lt now (since + t.attention))) (ap not (le-ltb now (since + t.attention) (omega arith)))));
+  accepted = λ pull a e h.
+      let m : t.accept ≤ 80 = w.accept.to in
+      near t until before s now (Sent pull) a e
+      ∙ or-last before (not (nat_lt now (pull + t.accept))) (ap not (le-ltb now (pull + t.accept) (omega arith)));
   released = λ look eoi a e h k.
       let m : max (look + t.hold) until ≤ now = omega arith in
       near t until before s now (Opening look None eoi) a e

@@ -19,14 +19,14 @@ use Rattle.pr_device.specs.declared.place.Place.{Place}
 use Rattle.pr_device.specs.declared.place.Place.TheVariants.{Between}
 use Rattle.pr_device.specs.Data.{standing, is_away}
 use Rattle.pr_device.specs.Following.{atn_of, clock_of, place_after, said}
-use Rattle.pr_device.specs.Course.{Party, Each, Move, AreMade, next_moment, after_moves, released, pulling, one_pulls, heeding, hearer, IsBetweenBytes, ExpectsByte, sent_moves, answer_moves, second_moves, attention_moves, second_for, HasLeft, IsIdle}
+use Rattle.pr_device.specs.Course.{Party, Each, Move, AreMade, next_moment, after_moves, released, pulling, one_pulls, heeding, hearer, IsBetweenBytes, ExpectsByte, sent_moves, answer_moves, second_moves, attention_moves, second_for, HasLeft}
 use Rattle.pr_device.specs.CourseLaws.{Call, CallIsMade, first_frame, next_frame, answer_of, due_of, call_moves, released_at}
 use Rattle.pr_device.specs.Paired.{Both, MakeSecond, MakeCall, MakeByte, MakeItem, StandsFor, piece_moves, item_moves, IsInTime}
 use Rattle.pr_device.proofs.Delays.{not-true}
 use Rattle.pr_device.proofs.Sharing.{any_by, heeds, each-map, each-both, any-heeds, or-false, IsParty}
 use Rattle.pr_device.proofs.Walking.{chosen}
 use Rattle.pr_device.proofs.Making.{FramedBy, framed-for}
-use Rattle.pr_device.proofs.Calling.{after-append, made-append, each-false, last_leave, calls-made, due-all, due-closed, said-closed, idle-made}
+use Rattle.pr_device.proofs.Calling.{IsIdle, after-append, made-append, each-false, last_leave, calls-made, due-all, due-closed, said-closed, idle-made}
 
 -- what holds of devices and printers, from what else does
 both-map : (P Q : Party → TimedPrinter → Type 0) (ps : List Party) (qs : List TimedPrinter) → ((p : Party) (q : TimedPrinter) → P p q → Q p q) → Both P ps qs → Both Q ps qs

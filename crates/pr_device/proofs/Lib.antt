@@ -12,3 +12,4 @@ pub mod Calling
 pub mod Shown
 pub mod Items
 pub mod Traces
+pub mod Numbering

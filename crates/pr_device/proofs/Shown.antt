@@ -11,8 +11,9 @@ use Rattle.pr_device.specs.declared.place.Place.TheVariants.{Between, Sent, Open
 use Rattle.pr_device.specs.declared.timing.Timing.{Timing}
 use Rattle.pr_device.specs.Data.{Standing, standing, pulls, pulls_at, calls, leaves, is_away, wake, wake_at, where_true, after_where}
 use Rattle.pr_device.specs.Following.{atn_of, clock_of, since_of, place_after, said, frame_at, leads, ends, freed, begun, is_answered, rises, falls, shifted}
-use Rattle.pr_device.specs.Course.{Party, Moment, pulling, levels_after, time_after, moments_shown, changes_shown, does_after, wake_after, IsBefore, AreInTime}
-use Rattle.pr_device.specs.Course.Moment.{Change, Wake}
+use Rattle.pr_device.specs.Course.{Party, pulling}
+use Rattle.pr_device.specs.Shown.{Moment, levels_after, time_after, moments_shown, changes_shown, does_after, wake_after, IsBefore, AreInTime}
+use Rattle.pr_device.specs.Shown.Moment.{Change, Wake}
 use Rattle.pr_device.specs.Laws.{IsPast, WakesSuffice}
 use Rattle.pr_device.specs.Timing.{IsTiming}
 use Rattle.pr_device.proofs.Delays.{near}

@@ -21,14 +21,14 @@ use Rattle.pr_bus.specs.Answers.{item_frames, frames_after, answered_frames}
 use Rattle.pr_bus.specs.Timed.{Lines, Free, Pulled, Due, TimedPrinter, TimedBus, Done, done, due_edges, edges_done, item_edges, timed_edges, timed_trace, trace_from, between, listening, wires, dropped_byte, heard_byte}
 use Rattle.pr_bus.specs.WiresState.{wires_after, state_from}
 use Rattle.pr_device.specs.Following.{said}
-use Rattle.pr_device.specs.Course.{Party, Each, Move, AreMade, next_moment, after_moves, released, set, sent_moves, frame_moves, answer_moves, second_moves, IsIdle, pulling}
+use Rattle.pr_device.specs.Course.{Party, Each, Move, AreMade, next_moment, after_moves, released, set, sent_moves, frame_moves, answer_moves, second_moves, pulling}
 use Rattle.pr_device.specs.Paired.{Both, StandsFor, StandFor, piece_moves, item_moves, timed_moves, IsInTime}
 use Rattle.pr_device.specs.PairLaws.{TimedTracesAreMade}
 use Rattle.pr_device.proofs.Sharing.{heeds, each-map, IsParty}
 use Rattle.pr_device.proofs.Walking.{onto, chosen, refused}
 use Rattle.pr_device.proofs.Talking.{reverse-onto, traces-say}
 use Rattle.pr_device.proofs.Making.{not-false}
-use Rattle.pr_device.proofs.Calling.{after-append, made-append, idle-made, step-idle}
+use Rattle.pr_device.proofs.Calling.{IsIdle, after-append, made-append, idle-made, step-idle}
 use Rattle.pr_device.proofs.Items.{Ties, Sits, Steps, item-made, tied-heeds, each-all}
 
 -- the edge of a move
@@ -124,7 +124,7 @@ wires-next : (w : TimedBus) (ys : List Item) (x : Item) → wires_after w (ys ++
 wires-next w [] x = refl
 wires-next w (y ∷ ys) x = wires-next (done w y).wires ys x
 
-before-next : (before : List Item) (now : ℕ) (l : Lines) (computer : List ℕ) (ps : List TimedPrinter) (x : Item)
+pub before-next : (before : List Item) (now : ℕ) (l : Lines) (computer : List ℕ) (ps : List TimedPrinter) (x : Item)
     → (let d = done (record { before = before; now = now; lines = l; computer = computer; printers = ps }) x in d.wires.before ≡ before ++ x ∷ [])
 before-next before now l computer [] (item.Attention byte second) = refl
 before-next before now l computer (p ∷ ps) (item.Attention byte second) = refl

@@ -4,7 +4,7 @@ use Rattle.pr_device.specs.declared.place.Place.{Place}
 use Rattle.pr_device.specs.declared.place.Place.TheVariants.{Between, Sent, Opening, Bits}
 use Rattle.pr_device.specs.declared.timing.Timing.{Timing}
 use Rattle.pr_device.specs.Data.{Standing, pulls, pulls_at, calls, leaves, is_away, wake, wake_at, where_true, after_where}
-use Rattle.pr_device.specs.Course.{IsBefore}
+use Rattle.pr_device.specs.Shown.{IsBefore}
 use Rattle.pr_device.specs.Laws.{IsPast, WakesAreActs}
 use Rattle.pr_device.specs.Timing.{IsTiming}
 

@@ -5,13 +5,14 @@ use Rattle.pr_wire.specs.declared.Frame.{Frame}
 use Rattle.pr_wire.specs.Pieces.{Spells}
 use Rattle.pr_receiver.specs.Given.{inputs_with}
 use Rattle.pr_device.specs.declared.place.Place.{Place}
-use Rattle.pr_device.specs.declared.place.Place.TheVariants.{Opening, Bits}
+use Rattle.pr_device.specs.declared.place.Place.TheVariants.{Between, Sent, Opening, Bits}
 use Rattle.pr_device.specs.declared.timing.Timing.{Timing}
 use Rattle.pr_device.specs.Data.{Standing, is_away, pulls, wake}
 use Rattle.pr_device.specs.Events.{events_of, inputs_of_events}
 use Rattle.pr_device.specs.Following.{said}
 use Rattle.pr_device.specs.Seen.{events_with}
-use Rattle.pr_device.specs.Course.{Party, Moment, AreInTime, IsBefore, changes_shown, moments_shown, does_after, wake_after, time_after, pulling}
+use Rattle.pr_device.specs.Course.{Party, pulling}
+use Rattle.pr_device.specs.Shown.{Moment, AreInTime, IsBefore, changes_shown, moments_shown, does_after, wake_after, time_after}
 use Rattle.pr_device.specs.Pairs.{SharesTheLine}
 use Rattle.pr_device.specs.Timing.{IsTiming}
 use Rattle.pr_device.specs.Talkers.{Turn, AreTurns, moments_of, frames_sent}
@@ -40,8 +41,13 @@ TracesAreHeard =
     → (events_with wait device (reverse edges) ≡ events_of device frames)
     × (inputs_of_events (events_with wait device (reverse edges)) ≡ inputs_with device edges)
 
--- when a device does not pull DATA, and when it answers end-or-identify
+-- when a device pulls DATA at the latest, when it does not, and when it answers end-or-identify
 pub record KeepsToDelays (t : Timing) (until : ℕ) (before : Bool) (s : Standing) (now : ℕ) : Type 0 where
+  -- 1000 microseconds after ATN's pull it has pulled DATA
+  pub called : (since : ℕ) → s.atn ≡ false → s.place ≡ Between → s.since ≡ Some since → since + 1000 ≤ now
+      → pulls t until before s now ≡ true
+  -- and 80 after a byte it has acknowledged
+  pub accepted : (pull : ℕ) → is_away s ≡ false → s.place ≡ Sent pull → pull + 80 ≤ now → pulls t until before s now ≡ true
   -- before a byte it has released DATA when its delay is over and it does not print
   pub released : (look : ℕ) (eoi : Bool) → is_away s ≡ false → s.place ≡ Opening look None eoi → look + t.hold ≤ now
       → until ≤ now → pulls t until before s now ≡ false

@@ -8,7 +8,9 @@ pub mod Sound
 pub mod Seen
 pub mod Talkers
 pub mod Course
+pub mod Shown
 pub mod Laws
 pub mod CourseLaws
 pub mod Paired
+pub mod Numbers
 pub mod PairLaws

@@ -7,7 +7,9 @@ use Rattle.pr_wire.specs.Levels.{start}
 use Rattle.pr_bus.specs.Laws.{AreItems}
 use Rattle.pr_bus.specs.Timed.{trace_from, wires}
 use Rattle.pr_bus.specs.WiresState.{state_from}
+use Rattle.pr_device.specs.declared.timing.Timing.{Timing}
 use Rattle.pr_device.specs.Timing.{IsTiming}
+use Rattle.pr_device.specs.Numbers.{devices_of, delays_for}
 use Rattle.pr_device.specs.Course.{Party, Each, Move, AreMade, released}
 use Rattle.pr_device.specs.Paired.{StandFor, timed_moves, IsInTime}
 
@@ -29,3 +31,12 @@ TimedTracesAreMade =
     → Each (λ (q : Party). q.device ≤ 30) (p ∷ others)
     → StandFor (p ∷ others) (wires present delays.computer delays.four delays.five) items
     → IsInTime (state_from present delays items).lines end → TraceIsMade present delays (p ∷ others) items end
+
+-- the law of the pair: the talker and devices 4 and 5, or the one of them that is present, with any delays within the
+-- bounds, make the timed trace of any items
+abbrev pub PairsMakeTraces : Type 0
+PairsMakeTraces =
+    (present : Present) (computer : List ℕ) (four five : Timing) (items : List Item) (end : ℕ) → AreItems items
+    → (present.four || present.five) ≡ true → IsTiming four → IsTiming five
+    → (let delays : DelayNumbers = delays_for computer four five items in IsInTime (state_from present delays items).lines end
+    → TraceIsMade present delays (devices_of present four five) items end)

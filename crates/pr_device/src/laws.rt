@@ -2,7 +2,7 @@
 
 ghost use Rattle.pr_device.specs.Laws.{DelaysAreKept, HistoriesAreHeard, PairsShareTheLine, TalkersAreHeard, TracesAreHeard, TracesSayWhatTheySpell, WakesAreActs, WakesSuffice};
 ghost use Rattle.pr_device.specs.CourseLaws.{CallsAreMade, FramesAreMade};
-ghost use Rattle.pr_device.specs.PairLaws.{TimedTracesAreMade};
+ghost use Rattle.pr_device.specs.PairLaws.{PairsMakeTraces, TimedTracesAreMade};
 
 use pr_bus::laws::timed_traces_spell;
 use pr_receiver::{frames_are_heard_in_turn, traces_give_what_is_heard};
@@ -29,10 +29,11 @@ pub fn traces_are_heard()
     traces_give_what_is_heard();
 }
 
-/// The law of delays: before a byte a device has released DATA when its delay is over and it does not
-/// print; it answers end-or-identify in data bytes alone, no sooner than 200 microseconds after DATA's
-/// release; it does not touch the bits; and it has released DATA 60 microseconds after ATN's release, if
-/// it does not listen.
+/// The law of delays: a device has pulled DATA 1000 microseconds after ATN's pull, and 80 after a byte;
+/// before a byte it has released DATA when its delay is over and it does not print; it answers
+/// end-or-identify in data bytes alone, no sooner than 200 microseconds after DATA's release; it does
+/// not touch the bits; and it has released DATA 60 microseconds after ATN's release, if it does not
+/// listen.
 pub fn delays_are_kept()
     ensures { DelaysAreKept }
 {}
@@ -80,7 +81,7 @@ pub fn attentions_are_made()
     delays_within_bounds();
 }
 
-/// The law of the pair: the timed trace of any items is what the talker of pr_bus and devices on one
+/// The law of timed traces: the timed trace of any items is what the talker of pr_bus and devices on one
 /// line make, any number of them, where the trace's printers have their numbers and their delays. So
 /// the trace that is defined by sums, and the devices that move by steps, are one.
 pub fn timed_traces_are_made()
@@ -90,4 +91,13 @@ pub fn timed_traces_are_made()
     items_make_listeners();
     delays_within_bounds();
     timed_traces_spell();
+}
+
+/// The law of the pair: for devices 4 and 5, or the one of them that is present, with any delays within
+/// the bounds, and any items, there are numbers with which the timed trace has these delays; and the
+/// talker and the devices make that trace.
+pub fn pairs_make_traces()
+    ensures { PairsMakeTraces }
+{
+    timed_traces_are_made();
 }
