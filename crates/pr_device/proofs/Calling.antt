@@ -1,26 +1,25 @@
 -- An attention is made by the talker and the devices that it calls.
-use Rattle.std.proofs.Common.{◌≡◌, ℕ, ◌+◌, ◌<◌, ◌≤◌, ◌==◌, nat_lt, min, max, Bool, true, false, not, ◌&&◌, ◌||◌, List, [], ◌∷◌, ◌++◌, map, Option, Some, None, if◌then◌else◌, refl, sym, ap, subst, ◌∙◌, arith, lt-ltb, le-ltb, eqb-true, drop}
+use Rattle.std.proofs.Common.{◌≡◌, ℕ, ◌+◌, ◌<◌, ◌≤◌, ◌==◌, nat_lt, max, Bool, true, false, not, ◌&&◌, ◌||◌, List, [], ◌∷◌, ◌++◌, map, Option, Some, None, if◌then◌else◌, refl, sym, ap, subst, ◌∙◌, arith, lt-ltb, le-ltb, eqb-true, drop}
 use Rattle.pr_wire.specs.declared.Edge.{Edge}
-use Rattle.pr_wire.specs.declared.Frame.{Frame}
 use Rattle.pr_wire.specs.Levels.{edge_at}
 use Rattle.pr_wire.specs.declared.delay.Kind.TheVariants.{Aw}
 use Rattle.pr_wire.specs.Delays.{delay_at}
-use Rattle.pr_wire.specs.Pieces.{FrameTimes, SecondFrame, Ending, last_ack}
+use Rattle.pr_wire.specs.Pieces.{FrameTimes, SecondFrame, last_ack}
 use Rattle.pr_wire.specs.Table.{same}
 use Rattle.pr_wire.specs.Laws.{DelaysLieWithinBounds}
 use Rattle.pr_receiver.specs.Heard.{is_listening}
 use Rattle.pr_receiver.specs.Laws.{ListeningAfterOneMore}
-use Rattle.pr_bus.specs.Timed.{ListenerTiming, greatest, least, frame_times}
+use Rattle.pr_bus.specs.Timed.{greatest, least, frame_times}
 use Rattle.pr_device.specs.declared.place.Place.{Place}
-use Rattle.pr_device.specs.declared.place.Place.TheVariants.{Between, Sent, Opening, Bits}
+use Rattle.pr_device.specs.declared.place.Place.TheVariants.{Between, Opening}
 use Rattle.pr_device.specs.declared.timing.Timing.{Timing}
 use Rattle.pr_device.specs.Data.{Standing, standing, pulls, pulls_at, calls, leaves, is_away}
-use Rattle.pr_device.specs.Following.{atn_of, clock_of, since_of, place_after, said, leads, ends}
-use Rattle.pr_device.specs.Course.{Party, Each, Move, IsMade, AreMade, next_moment, after_moves, released, set, pulling, one_pulls, shared, heeding, hearer, IsBetweenBytes, ExpectsByte, frame_moves, sent_moves, answer_moves, second_moves, attention_moves, second_for, HasLeft}
-use Rattle.pr_device.specs.CourseLaws.{Call, CallIsMade, CallsAreMade, first_frame, next_frame, answer_of, due_of, call_moves, released_at}
+use Rattle.pr_device.specs.Following.{atn_of, clock_of, since_of, place_after, said}
+use Rattle.pr_device.specs.Course.{Party, Each, Move, IsMade, AreMade, next_moment, after_moves, released, pulling, one_pulls, heeding, hearer, IsBetweenBytes, ExpectsByte, sent_moves, answer_moves, second_moves, second_for, HasLeft}
+use Rattle.pr_device.specs.CourseLaws.{Call, CallsAreMade, first_frame, next_frame, answer_of, released_at}
 use Rattle.pr_device.proofs.Delays.{near, not-true}
 use Rattle.pr_device.proofs.Pairs.{not-lt, last-releases, first-pulls}
-use Rattle.pr_device.proofs.Walking.{Stands, IsAt, goes-quietly, turns, chosen, refused, same-self}
+use Rattle.pr_device.proofs.Walking.{Stands, goes-quietly, turns, chosen, refused}
 use Rattle.pr_device.proofs.Sharing.{any_by, heeds, each-map, each-both, one-is, any-heeds, or-false, IsParty}
 use Rattle.pr_device.proofs.Making.{Framed, framed-for, not-false, and-true, same-heeds, or-same, not-yet}
 

@@ -1,11 +1,11 @@
 -- The items of the timed trace are made by the talker and the devices.
-use Rattle.std.proofs.Common.{◌≡◌, ℕ, suc, ◌+◌, ◌<◌, ◌≤◌, ◌==◌, eqb, cond, nat_lt, max, Bool, true, false, not, ◌&&◌, ◌||◌, List, [], ◌∷◌, ◌++◌, map, drop, Option, Some, None, if◌then◌else◌, refl, sym, ap, subst, ◌∙◌, append_assoc, append-nil, arith, lt-ltb, le-ltb, eqb-true, inl, inr}
+use Rattle.std.proofs.Common.{◌≡◌, ℕ, ◌+◌, ◌≤◌, ◌==◌, eqb, cond, Bool, true, false, not, ◌&&◌, ◌||◌, List, [], ◌∷◌, ◌++◌, map, drop, Option, Some, None, if◌then◌else◌, refl, sym, ap, subst, ◌∙◌, arith, le-ltb, eqb-true, inl, inr}
 use Rattle.pr_serial.specs.declared.Item.{Item}
 use Rattle.pr_serial.specs.declared.Item.TheVariants as item
 use Rattle.pr_serial.specs.Answers.{is_listener}
 use Rattle.pr_serial.specs.Laws as serial
 use Rattle.pr_wire.specs.declared.Edge.{Edge}
-use Rattle.pr_wire.specs.declared.delay.Kind.TheVariants.{Bb, Aw, Ne, Ry, R, Cr, At, H, Ye, Ei, F, Dr}
+use Rattle.pr_wire.specs.declared.delay.Kind.TheVariants.{Bb, Aw, Ne, R, Cr, At, H, Ye, Ei, F, Dr}
 use Rattle.pr_wire.specs.Levels.{edge_at}
 use Rattle.pr_wire.specs.Delays.{delay_at}
 use Rattle.pr_wire.specs.Laws.{DelaysLieWithinBounds}
@@ -14,16 +14,14 @@ use Rattle.pr_wire.specs.Pieces.Piece.{Attention as Attended}
 use Rattle.pr_receiver.specs.Heard.{is_listening}
 use Rattle.pr_receiver.specs.Laws.{ListeningAfterOneMore}
 use Rattle.pr_bus.specs.Laws.{IsItem}
-use Rattle.pr_bus.specs.Timed.{Lines, Free, Pulled, Due, ListenerTiming, TimedPrinter, TimedBus, Done, greatest, least, frame_times, bit_times, bits_of, command_hearers, data_hearers, listening, done, answered, heard_byte, dropped_byte, answer_at, second_frame, printer_takes, commands_take, due_edges, between}
+use Rattle.pr_bus.specs.Timed.{Lines, Free, Pulled, Due, ListenerTiming, TimedPrinter, TimedBus, Done, greatest, least, frame_times, bit_times, bits_of, command_hearers, data_hearers, listening, done, heard_byte, dropped_byte, answer_at, second_frame, printer_takes, commands_take, due_edges, between}
 use Rattle.pr_device.specs.declared.place.Place.{Place}
-use Rattle.pr_device.specs.declared.place.Place.TheVariants.{Between}
 use Rattle.pr_device.specs.Data.{standing, is_away}
-use Rattle.pr_device.specs.Following.{atn_of, clock_of, place_after, said}
-use Rattle.pr_device.specs.Course.{Party, Each, Move, AreMade, next_moment, after_moves, released, pulling, one_pulls, heeding, hearer, IsBetweenBytes, ExpectsByte, sent_moves, answer_moves, second_moves, attention_moves, second_for, HasLeft}
+use Rattle.pr_device.specs.Following.{atn_of, said}
+use Rattle.pr_device.specs.Course.{Party, Each, Move, AreMade, after_moves, released, pulling, one_pulls, heeding, hearer, IsBetweenBytes, ExpectsByte, sent_moves, answer_moves, second_moves, attention_moves, second_for, HasLeft}
 use Rattle.pr_device.specs.CourseLaws.{Call, CallIsMade, first_frame, next_frame, answer_of, due_of, call_moves, released_at}
-use Rattle.pr_device.specs.Paired.{Both, MakeSecond, MakeCall, MakeByte, MakeItem, StandsFor, piece_moves, item_moves, IsInTime}
-use Rattle.pr_device.proofs.Delays.{not-true}
-use Rattle.pr_device.proofs.Sharing.{any_by, heeds, each-map, each-both, any-heeds, or-false, IsParty}
+use Rattle.pr_device.specs.Paired.{Both, MakeByte, StandsFor, piece_moves, item_moves, IsInTime}
+use Rattle.pr_device.proofs.Sharing.{any_by, heeds, each-map, each-both, or-false, IsParty}
 use Rattle.pr_device.proofs.Walking.{chosen}
 use Rattle.pr_device.proofs.Making.{FramedBy, framed-for}
 use Rattle.pr_device.proofs.Calling.{IsIdle, after-append, made-append, each-false, last_leave, calls-made, due-all, due-closed, said-closed, idle-made}

@@ -1,9 +1,9 @@
 -- A talker's frame is made by the talker and the devices that hear it.
-use Rattle.std.proofs.Common.{◌≡◌, ℕ, zero, suc, ◌+◌, ◌<◌, ◌≤◌, ◌==◌, nat_lt, max, Bool, true, false, not, ◌&&◌, ◌||◌, List, [], ◌∷◌, ◌++◌, length, map, Option, Some, None, if◌then◌else◌, refl, sym, ap, subst, ◌∙◌, arith, lt-ltb, le-ltb, ne_eqb, drop}
+use Rattle.std.proofs.Common.{◌≡◌, ℕ, suc, ◌+◌, ◌<◌, ◌≤◌, ◌==◌, nat_lt, max, Bool, true, false, not, ◌&&◌, ◌||◌, List, [], ◌∷◌, ◌++◌, length, map, Option, Some, None, refl, sym, ap, subst, ◌∙◌, arith, lt-ltb, le-ltb, ne_eqb, drop}
 use Rattle.pr_wire.specs.declared.Edge.{Edge}
 use Rattle.pr_wire.specs.declared.Frame.{Frame}
 use Rattle.pr_wire.specs.Levels.{edge_at}
-use Rattle.pr_wire.specs.declared.delay.Kind.TheVariants.{Ne, Ry, S, V}
+use Rattle.pr_wire.specs.declared.delay.Kind.TheVariants.{Ne, S, V}
 use Rattle.pr_wire.specs.Delays.{delay_at}
 use Rattle.pr_wire.specs.Laws.{DelaysLieWithinBounds}
 use Rattle.pr_wire.specs.Pieces.{BitTimes, FrameTimes, bit_edges, last_pull}
@@ -15,7 +15,7 @@ use Rattle.pr_device.specs.declared.place.Place.TheVariants.{Between, Sent, Open
 use Rattle.pr_device.specs.declared.timing.Timing.{Timing}
 use Rattle.pr_device.specs.Data.{Standing, standing, pulls, pulls_at, leaves, is_away}
 use Rattle.pr_device.specs.Following.{atn_of, clock_of, place_after, said, leads, ends, shifted}
-use Rattle.pr_device.specs.Course.{Party, Each, Move, IsMade, AreMade, next_moment, after_moves, released, set, pulling, one_pulls, shared, heeding, hearer, IsBetweenBytes, ExpectsByte, frame_moves, sent_moves}
+use Rattle.pr_device.specs.Course.{Party, Each, Move, IsMade, AreMade, next_moment, after_moves, released, set, pulling, heeding, hearer, IsBetweenBytes, ExpectsByte, frame_moves, sent_moves}
 use Rattle.pr_device.specs.CourseLaws.{FramesAreMade}
 use Rattle.pr_device.proofs.Delays.{near, not-true}
 use Rattle.pr_device.proofs.Pairs.{is_in, is-in, not-lt, or-right, or-zero}

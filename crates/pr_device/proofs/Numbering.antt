@@ -1,22 +1,21 @@
 -- For any delays of devices there are numbers with which the timed trace has them.
-use Rattle.std.proofs.Common.{◌≡◌, ℕ, ◌+◌, ◌-◌, ◌%◌, ◌<◌, ◌≤◌, cond, Bool, true, false, not, ◌&&◌, ◌||◌, List, [], ◌∷◌, ◌++◌, map, drop, Option, Some, None, if◌then◌else◌, refl, sym, ap, subst, ◌∙◌, append_assoc, arith}
+use Rattle.std.proofs.Common.{◌≡◌, ℕ, cond, Bool, true, false, ◌||◌, List, [], ◌∷◌, ◌++◌, map, drop, Option, Some, None, if◌then◌else◌, refl, sym, ap, subst, ◌∙◌, arith}
 use Rattle.pr_serial.specs.declared.Present.{Present}
 use Rattle.pr_serial.specs.declared.Item.{Item}
 use Rattle.pr_serial.specs.declared.Item.TheVariants as item
 use Rattle.pr_serial.specs.Answers.{is_listener}
 use Rattle.pr_serial.specs.Bus.{DelayNumbers}
-use Rattle.pr_wire.specs.declared.delay.Kind.{Kind}
 use Rattle.pr_wire.specs.declared.delay.Kind.TheVariants.{At, H, Ye, Ei, F, Dr}
-use Rattle.pr_wire.specs.Delays.{delay_at, delay_of}
+use Rattle.pr_wire.specs.Delays.{delay_of}
 use Rattle.pr_wire.specs.Pieces.{IsWithin}
 use Rattle.pr_bus.specs.Laws.{AreItems}
 use Rattle.pr_bus.specs.WiresState.{state_from}
 use Rattle.pr_bus.specs.Timed.{Lines, TimedPrinter, TimedBus, Done, done, listening, dropped_byte, heard_byte, taking, printer_takes, wires}
 use Rattle.pr_device.specs.declared.timing.Timing.{Timing}
 use Rattle.pr_device.specs.Timing.{IsTiming}
-use Rattle.pr_device.specs.Course.{Party, Each}
-use Rattle.pr_device.specs.Paired.{Both, MakeSecond, MakeCall, MakeByte, MakeItem, StandsFor, StandFor, IsInTime}
-use Rattle.pr_device.specs.Numbers.{number_for, second_numbers, item_numbers, numbers_for, device_four, device_five, devices_of, delays_for}
+use Rattle.pr_device.specs.Course.{Party}
+use Rattle.pr_device.specs.Paired.{Both, MakeCall, MakeByte, StandsFor, StandFor, IsInTime}
+use Rattle.pr_device.specs.Numbers.{number_for, second_numbers, numbers_for, device_four, device_five, devices_of, delays_for}
 use Rattle.pr_device.specs.PairLaws.{PairsMakeTraces, TimedTracesAreMade, TraceIsMade}
 use Rattle.pr_device.proofs.Sharing.{IsParty}
 use Rattle.pr_device.proofs.Traces.{before-next}

@@ -1,11 +1,11 @@
 -- What devices do to a line together, by what each does.
-use Rattle.std.proofs.Common.{◌≡◌, ℕ, ◌+◌, ◌<◌, ◌≤◌, nat_lt, min, max, Bool, true, false, not, ◌&&◌, ◌||◌, List, [], ◌∷◌, map, if◌then◌else◌, refl, sym, ap, ◌∙◌, arith, lt-ltb, le-ltb, ◌⊎◌, inl, inr}
+use Rattle.std.proofs.Common.{◌≡◌, ℕ, ◌+◌, ◌<◌, ◌≤◌, nat_lt, min, max, Bool, true, false, not, ◌&&◌, ◌||◌, List, [], ◌∷◌, map, if◌then◌else◌, refl, ap, ◌∙◌, arith, lt-ltb, ◌⊎◌, inl, inr}
 use Rattle.pr_wire.specs.declared.Edge.{Edge}
 use Rattle.pr_bus.specs.Timed.{ListenerTiming, greatest, least}
 use Rattle.pr_device.specs.Data.{is_away, standing}
 use Rattle.pr_device.specs.Course.{Party, Each, pulling, one_pulls, heeding, hearer}
 use Rattle.pr_device.specs.Timing.{IsTiming}
-use Rattle.pr_device.proofs.Pairs.{same-tests, not-lt, or-left, or-right, OneHolds, one-holds, either-order, last-releases, first-pulls, is_in, in-from, in-to, is-in}
+use Rattle.pr_device.proofs.Pairs.{same-tests, or-left, or-right, OneHolds, one-holds, either-order, last-releases, first-pulls, is_in, in-from, in-to, is-in}
 
 -- one of some devices keeps a test
 abbrev pub any_by : (Party → Bool) → List Party → Bool

@@ -1,5 +1,5 @@
 -- The timed trace of items is made by the talker and the devices.
-use Rattle.std.proofs.Common.{◌≡◌, ℕ, ◌+◌, ◌<◌, ◌≤◌, ◌==◌, eqb, cond, Bool, true, false, not, ◌&&◌, ◌||◌, List, [], ◌∷◌, ◌++◌, map, Option, Some, None, if◌then◌else◌, refl, sym, ap, subst, ◌∙◌, append_assoc, append-nil, arith, ne_eqb}
+use Rattle.std.proofs.Common.{◌≡◌, ℕ, ◌+◌, ◌≤◌, ◌==◌, cond, Bool, true, false, ◌||◌, List, [], ◌∷◌, ◌++◌, map, Option, Some, None, if◌then◌else◌, refl, sym, ap, subst, ◌∙◌, append_assoc, append-nil, arith, ne_eqb}
 use Rattle.std.proofs.Common.{inl, inr}
 use Rattle.std.specs.Prelude.{reverse}
 use Rattle.pr_serial.specs.declared.Present.{Present}
@@ -12,24 +12,24 @@ use Rattle.pr_wire.specs.declared.Edge.{Edge}
 use Rattle.pr_wire.specs.declared.Frame.{Frame}
 use Rattle.pr_wire.specs.Levels.{edge_at, start}
 use Rattle.pr_wire.specs.Laws.{DelaysLieWithinBounds}
-use Rattle.pr_wire.specs.Pieces.{FrameTimes, SecondFrame, Ending, Piece, call_edge, answer_edges, frame_edges, second_edges, ending_edges, pulse_edges, bit_edges, piece_edges}
+use Rattle.pr_wire.specs.Pieces.{FrameTimes, SecondFrame, Ending, Piece, call_edge, answer_edges, frame_edges, second_edges, ending_edges, pulse_edges, bit_edges}
 use Rattle.pr_wire.specs.Pieces.Piece.{Unanswered, Attention as Attended, DataByte, Dropped}
 use Rattle.pr_receiver.specs.Heard.{is_listening}
 use Rattle.pr_receiver.specs.Laws.{ListeningAfterOneMore}
 use Rattle.pr_bus.specs.Laws.{IsItem, AreItems, TimedTracesSpell}
 use Rattle.pr_bus.specs.Answers.{item_frames, frames_after, answered_frames}
-use Rattle.pr_bus.specs.Timed.{Lines, Free, Pulled, Due, TimedPrinter, TimedBus, Done, done, due_edges, edges_done, item_edges, timed_edges, timed_trace, trace_from, between, listening, wires, dropped_byte, heard_byte}
-use Rattle.pr_bus.specs.WiresState.{wires_after, state_from}
+use Rattle.pr_bus.specs.Timed.{Lines, Free, Pulled, Due, TimedPrinter, TimedBus, Done, done, due_edges, edges_done, item_edges, timed_edges, timed_trace, between, listening, wires, dropped_byte, heard_byte}
+use Rattle.pr_bus.specs.WiresState.{wires_after}
 use Rattle.pr_device.specs.Following.{said}
 use Rattle.pr_device.specs.Course.{Party, Each, Move, AreMade, next_moment, after_moves, released, set, sent_moves, frame_moves, answer_moves, second_moves, pulling}
-use Rattle.pr_device.specs.Paired.{Both, StandsFor, StandFor, piece_moves, item_moves, timed_moves, IsInTime}
+use Rattle.pr_device.specs.Paired.{StandFor, piece_moves, item_moves, timed_moves, IsInTime}
 use Rattle.pr_device.specs.PairLaws.{TimedTracesAreMade}
-use Rattle.pr_device.proofs.Sharing.{heeds, each-map, IsParty}
-use Rattle.pr_device.proofs.Walking.{onto, chosen, refused}
+use Rattle.pr_device.proofs.Sharing.{each-map, IsParty}
+use Rattle.pr_device.proofs.Walking.{onto}
 use Rattle.pr_device.proofs.Talking.{reverse-onto, traces-say}
 use Rattle.pr_device.proofs.Making.{not-false}
 use Rattle.pr_device.proofs.Calling.{IsIdle, after-append, made-append, idle-made, step-idle}
-use Rattle.pr_device.proofs.Items.{Ties, Sits, Steps, item-made, tied-heeds, each-all}
+use Rattle.pr_device.proofs.Items.{Ties, Sits, item-made, tied-heeds, each-all}
 
 -- the edge of a move
 abbrev edge_in : Move → Edge

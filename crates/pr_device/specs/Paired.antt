@@ -1,15 +1,15 @@
 -- Trusted: the timed trace of pr_bus as moves of its talker, and the printers' numbers that make the delays of devices.
-use Rattle.std.specs.Prelude.{◌≡◌, ℕ, ◌+◌, ◌≤◌, Bool, true, false, cond, List, [], ◌∷◌, ◌++◌, map, Option, Some, None}
+use Rattle.std.specs.Prelude.{◌≡◌, ℕ, ◌≤◌, Bool, true, false, cond, List, [], ◌∷◌, ◌++◌, map, Option, Some, None}
 use Rattle.pr_serial.specs.declared.Item.{Item}
 use Rattle.pr_serial.specs.declared.Item.TheVariants as item
 use Rattle.pr_serial.specs.Answers.{is_listener}
 use Rattle.pr_wire.specs.declared.delay.Kind.TheVariants.{At, H, Ye, Ei, F, Dr}
-use Rattle.pr_wire.specs.Levels.{edge_at, start}
+use Rattle.pr_wire.specs.Levels.{edge_at}
 use Rattle.pr_wire.specs.Delays.{delay_at}
 use Rattle.pr_wire.specs.Pieces.{Piece, call_edge, ending_edges}
 use Rattle.pr_wire.specs.Pieces.Piece.{Unanswered, Attention, DataByte, Dropped}
 use Rattle.pr_bus.specs.Timed.{Lines, Free, Pulled, Due, TimedPrinter, TimedBus, done, due_edges, between, printer_takes}
-use Rattle.pr_device.specs.Course.{Party, Move, released, set, sent_moves, answer_moves, second_moves}
+use Rattle.pr_device.specs.Course.{Party, Move, released, sent_moves, answer_moves, second_moves}
 
 -- a condition of each device and its printer in the timed trace
 abbrev pub Both : (Party → TimedPrinter → Type 0) → List Party → List TimedPrinter → Type 0

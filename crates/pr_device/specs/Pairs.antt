@@ -1,6 +1,6 @@
 -- Trusted: what two devices do to one line together. The moments are those of the timed trace of pr_bus: the least or the
 -- greatest of the two devices' delays after the same moment.
-use Rattle.std.specs.Prelude.{◌≡◌, ℕ, ◌+◌, ◌≤◌, nat_lt, min, max, Bool, true, false, not, ◌&&◌, ◌||◌, Option, Some, None}
+use Rattle.std.specs.Prelude.{◌≡◌, ℕ, ◌+◌, nat_lt, min, max, Bool, true, false, not, ◌&&◌, ◌||◌, Some, None}
 use Rattle.pr_device.specs.declared.place.Place.TheVariants.{Between, Sent, Opening}
 use Rattle.pr_device.specs.declared.timing.Timing.{Timing}
 use Rattle.pr_device.specs.Data.{Standing, is_away, pulls}
