@@ -103,12 +103,16 @@ byte_numbers p eoi =
 
 -- an item has its numbers
 item-has : (before xs : List Item) (x : Item) (p : Party) (q : TimedPrinter) → Has before (x ∷ xs) p q → StandsFor before x p q
-item-has before xs (item.Attention byte second) p q s =
-    (s.device_is, subst (λ ns. MakeCall second (is_listener p.device (before ++ item.Attention byte second ∷ [])) p ns) (sym s.numbers_is)
-    (calls-have p second (is_listener p.device (before ++ item.Attention byte second ∷ [])) (numbers_for p (before ++ item.Attention byte second ∷ []) xs) s.timing))
-item-has before xs (item.Sent byte eoi) p q s =
-    (s.device_is, λ k. subst (λ ns. MakeByte eoi p ns) (sym (s.numbers_is ∙ ap (λ b. (if b then byte_numbers p eoi else []) ++ numbers_for p (before ++ item.Sent byte eoi ∷ []) xs) k))
-    (bytes-have p eoi (numbers_for p (before ++ item.Sent byte eoi ∷ []) xs) s.timing))
+item-has before xs (item.Attention byte second) p q s = (
+  s.device_is,
+  subst (λ ns. MakeCall second (is_listener p.device (before ++ item.Attention byte second ∷ [])) p ns) (sym s.numbers_is)
+      (calls-have p second (is_listener p.device (before ++ item.Attention byte second ∷ [])) (numbers_for p (before ++ item.Attention byte second ∷ []) xs) s.timing),
+)
+item-has before xs (item.Sent byte eoi) p q s = (
+  s.device_is,
+  λ k. subst (λ ns. MakeByte eoi p ns) (sym (s.numbers_is ∙ ap (λ b. (if b then byte_numbers p eoi else []) ++ numbers_for p (before ++ item.Sent byte eoi ∷ []) xs) k))
+      (bytes-have p eoi (numbers_for p (before ++ item.Sent byte eoi ∷ []) xs) s.timing),
+)
 
 -- devices and printers after something is done to the printers
 both-after : (P Q : Party → TimedPrinter → Type 0) (g : TimedPrinter → TimedPrinter) (ps : List Party) (qs : List TimedPrinter) → ((p : Party) (q : TimedPrinter) → P p q → Q p (g q)) → Both P ps qs → Both Q ps (map g qs)
@@ -235,10 +239,11 @@ after-item before now l computer qs ps (item.Sent byte eoi) xs w = by (listening
 all-have : (ps : List Party) (w : TimedBus) (xs : List Item) → Both (Has w.before xs) ps w.printers → StandFor ps w xs
 all-have ps w [] s = tt
 all-have ps w (x ∷ xs) s =
-    let v : TimedBus = (done w x).wires in
-    (both-as (Has w.before (x ∷ xs)) (StandsFor w.before x) ps w.printers (item-has w.before xs x) s,
-    all-have ps v xs (subst (λ b. Both (Has b xs) ps v.printers) (sym (before-next w.before w.now w.lines w.computer w.printers x))
-    (after-item w.before w.now w.lines w.computer w.printers ps x xs s)))
+    let v : TimedBus = (done w x).wires in (
+      both-as (Has w.before (x ∷ xs)) (StandsFor w.before x) ps w.printers (item-has w.before xs x) s,
+      all-have ps v xs (subst (λ b. Both (Has b xs) ps v.printers) (sym (before-next w.before w.now w.lines w.computer w.printers x))
+          (after-item w.before w.now w.lines w.computer w.printers ps x xs s)),
+    )
 
 -- printers 4 and 5 have their numbers at first
 four-has : (four : Timing) (items : List Item) → IsTiming four → Has [] items (device_four four) (record { device = 4; numbers = numbers_for (device_four four) [] items })
