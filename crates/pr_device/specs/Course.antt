@@ -1,5 +1,5 @@
--- Trusted: a talker and devices on one line. A device that is called at its wakes does at each moment what its rule says
--- of that moment (`WakesAreActs`), so the edges before a moment say what each device does then.
+-- Trusted: a talker and devices on one line. The edges before a moment say what each device does then: `WakesSuffice`
+-- says that this is what a device does that `Device::step` shows each edge, and that is called at its wakes.
 use Rattle.std.specs.Prelude.{◌≡◌, ℕ, ◌+◌, ◌<◌, ◌≤◌, nat_lt, Bool, true, false, not, ◌&&◌, ◌||◌, ◌==◌, if◌then◌else◌, cond, List, [], ◌∷◌, ◌++◌, map, drop, Option, Some, None}
 use Rattle.pr_wire.specs.declared.Edge.{Edge}
 use Rattle.pr_wire.specs.Levels.{edge_at}
@@ -49,7 +49,8 @@ pub record Move : Type 0 where
 -- seen before; and it stays so until the next edge
 pub record IsMade (parties : List Party) (history : List Edge) (m : Move) (next : ℕ) : Type 0 where
   pub comes : m.edge.levels.line ≡ shared m.level parties history m.edge.time
-  pub stays : (now : ℕ) → m.edge.time ≤ now → now < next → m.edge.levels.line ≡ shared m.level parties (m.edge ∷ history) now
+  pub stays : (now : ℕ) → m.edge.time ≤ now → now < next
+      → m.edge.levels.line ≡ shared m.level parties (m.edge ∷ history) now
 
 -- the moment of the first of some moves; an end, if there is none
 abbrev pub next_moment : List Move → ℕ → ℕ
@@ -78,7 +79,8 @@ set e = record { edge = e; level = e.levels.line }
 abbrev pub frame_moves : Bool → FrameTimes → List Move
 frame_moves x f =
     released (edge_at f.free x true true)
-    ∷ map released (pulse_edges f.pulse) ++ map set (bit_edges x f.pull f.bits) ++ released (edge_at f.ack x false false) ∷ []
+    ∷ map released (pulse_edges f.pulse) ++ map set (bit_edges x f.pull f.bits)
+    ++ released (edge_at f.ack x false false) ∷ []
 
 -- the devices to which somebody speaks, after a history
 abbrev pub heeding : List Edge → List Party → List Party

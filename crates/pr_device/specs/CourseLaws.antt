@@ -1,4 +1,5 @@
--- Laws: what a talker and devices on one line make. The functions of src/laws.rt prove them, and callers take them from there.
+-- Laws: what a talker and devices on one line make. The functions of src/laws.rt prove them, and callers take them
+-- from there.
 use Rattle.std.specs.Prelude.{◌≡◌, ℕ, ◌+◌, ◌≤◌, Bool, true, false, not, if◌then◌else◌, List, [], ◌∷◌, map, Option, Some, None}
 use Rattle.pr_wire.specs.declared.Edge.{Edge}
 use Rattle.pr_wire.specs.Pieces.{FrameTimes, SecondFrame, last_ack}
