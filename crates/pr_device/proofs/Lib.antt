@@ -10,6 +10,7 @@ pub mod Sharing
 pub mod Making
 pub mod Calling
 pub mod Shown
+pub mod Called
 pub mod Items
 pub mod Traces
 pub mod Numbering

@@ -1,5 +1,5 @@
 -- Laws: what a device hears of talkers and traces. The functions of src/laws.rt prove them, and callers take them from there.
-use Rattle.std.specs.Prelude.{◌≡◌, ℕ, ◌+◌, ◌<◌, ◌≤◌, Bool, true, false, List, Some, None, not, reverse}
+use Rattle.std.specs.Prelude.{◌≡◌, ℕ, ◌+◌, ◌<◌, ◌≤◌, Bool, true, false, List, Some, None, not, reverse, []}
 use Rattle.pr_wire.specs.declared.Edge.{Edge}
 use Rattle.pr_wire.specs.declared.Frame.{Frame}
 use Rattle.pr_wire.specs.Pieces.{Spells}
@@ -11,8 +11,8 @@ use Rattle.pr_device.specs.Data.{Standing, is_away, pulls, wake}
 use Rattle.pr_device.specs.Events.{events_of, inputs_of_events}
 use Rattle.pr_device.specs.Following.{said}
 use Rattle.pr_device.specs.Seen.{events_with}
-use Rattle.pr_device.specs.Course.{Party, pulling}
-use Rattle.pr_device.specs.Shown.{Moment, AreInTime, IsBefore, changes_shown, moments_shown, does_after, wake_after, time_after}
+use Rattle.pr_device.specs.Course.{Party, Each, Move, AreMade, after_moves, pulling}
+use Rattle.pr_device.specs.Shown.{Ascend, CanBeCalled, Moment, AreInTime, IsBefore, changes_shown, moments_shown, does_after, wake_after, time_after}
 use Rattle.pr_device.specs.Pairs.{SharesTheLine}
 use Rattle.pr_device.specs.Timing.{IsTiming}
 use Rattle.pr_device.specs.Talkers.{Turn, AreTurns, moments_of, frames_sent}
@@ -92,3 +92,10 @@ WakesSuffice =
     (p : Party) (ms : List Moment) → IsTiming p.timing → AreInTime p ms
     → (now : ℕ) → time_after (moments_shown ms) ≤ now → IsBefore now (wake_after p (moments_shown ms))
     → pulling p (changes_shown ms) now ≡ does_after p (moments_shown ms)
+
+-- where a talker and devices make edges, each device can be called at its wakes between them, so that it does what
+-- `pulling` says
+abbrev pub DevicesCanBeCalled : Type 0
+DevicesCanBeCalled =
+    (parties : List Party) (ms : List Move) (end : ℕ) → Each (λ (p : Party). IsTiming p.timing) parties → Ascend 0 ms
+    → AreMade parties [] ms end → Each (λ (p : Party). CanBeCalled p (after_moves [] ms)) parties

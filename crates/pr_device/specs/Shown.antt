@@ -3,7 +3,7 @@ use Rattle.std.specs.Prelude.{◌≡◌, ℕ, ◌<◌, ◌≤◌, Bool, true, fa
 use Rattle.pr_wire.specs.declared.Edge.{Edge}
 use Rattle.pr_wire.specs.declared.Levels.{Levels}
 use Rattle.pr_device.specs.Data.{pulls, wake, standing}
-use Rattle.pr_device.specs.Course.{Party}
+use Rattle.pr_device.specs.Course.{Party, Move}
 
 -- what a device is shown: a change of the lines, or a call at its wake, with the lines as they are
 pub data Moment : Type 0 where
@@ -55,3 +55,14 @@ AreInTime p (Change e ∷ ms) =
 AreInTime p (Wake now ∷ ms) =
     (wake_after p (moments_shown ms) ≡ Some now)
     × (does_after p (moments_shown ms) ≡ true → (levels_after (moments_shown ms)).line ≡ false) × AreInTime p ms
+
+-- a device can be called at its wakes between these edges, the latest first
+pub record CanBeCalled (p : Party) (edges : List Edge) : Type 0 where
+  pub moments : List Moment
+  pub changes : changes_shown moments ≡ edges
+  pub in_time : AreInTime p moments
+
+-- the moments of moves do not go back
+abbrev pub Ascend : ℕ → List Move → Type 0
+Ascend now [] = Unit {0}
+Ascend now (m ∷ ms) = (now ≤ m.edge.time) × Ascend m.edge.time ms

@@ -1,6 +1,6 @@
 //! Laws of the definitions, with nothing to run. A caller whose proof needs one calls the function.
 
-ghost use Rattle.pr_device.specs.Laws.{DelaysAreKept, HistoriesAreHeard, PairsShareTheLine, TalkersAreHeard, TracesAreHeard, TracesSayWhatTheySpell, WakesAreActs, WakesSuffice};
+ghost use Rattle.pr_device.specs.Laws.{DelaysAreKept, DevicesCanBeCalled, HistoriesAreHeard, PairsShareTheLine, TalkersAreHeard, TracesAreHeard, TracesSayWhatTheySpell, WakesAreActs, WakesSuffice};
 ghost use Rattle.pr_device.specs.CourseLaws.{CallsAreMade, FramesAreMade};
 ghost use Rattle.pr_device.specs.PairLaws.{PairsMakeTraces, TimedTracesAreMade};
 
@@ -56,6 +56,14 @@ pub fn wakes_are_acts()
 /// it pulls DATA, since it shares the line.
 pub fn wakes_suffice()
     ensures { WakesSuffice }
+{
+    frames_are_heard_in_turn();
+}
+
+/// The law of wakes on a line: where a talker and devices make edges at moments that do not go back, each
+/// device can be called at its wakes between them; and [`wakes_suffice`] says what it then does.
+pub fn devices_can_be_called()
+    ensures { DevicesCanBeCalled }
 {
     frames_are_heard_in_turn();
 }
