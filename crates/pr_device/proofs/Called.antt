@@ -3,7 +3,7 @@ use Rattle.std.proofs.Common.{◌≡◌, ℕ, zero, suc, ◌+◌, ◌<◌, ◌�
 use Rattle.pr_wire.specs.declared.Edge.{Edge}
 use Rattle.pr_receiver.specs.Laws.{ListeningAfterOneMore}
 use Rattle.pr_device.specs.Data.{standing}
-use Rattle.pr_device.specs.Course.{Party, Each, Move, IsMade, AreMade, next_moment, after_moves, pulling, one_pulls}
+use Rattle.pr_device.specs.Course.{Party, Each, Move, AreMade, next_moment, after_moves, pulling, one_pulls}
 use Rattle.pr_device.specs.Shown.{Moment, levels_after, time_after, moments_shown, changes_shown, does_after, wake_after, IsBefore, AreInTime, CanBeCalled, Ascend}
 use Rattle.pr_device.specs.Shown.Moment.{Change, Wake}
 use Rattle.pr_device.specs.Laws.{DevicesCanBeCalled}

@@ -1,5 +1,5 @@
 -- A device that is called at its wakes does what the changes of the lines alone say.
-use Rattle.std.proofs.Common.{◌≡◌, ℕ, ◌+◌, ◌<◌, ◌≤◌, ◌==◌, nat_lt, max, Bool, true, false, not, ◌&&◌, ◌||◌, List, [], ◌∷◌, ◌++◌, Option, Some, None, IfSome, if◌then◌else◌, refl, sym, ap, subst, ◌∙◌, append-nil, arith, lt-ltb, le-ltb, ltb-true, ltb-false}
+use Rattle.std.proofs.Common.{◌≡◌, ℕ, ◌+◌, ◌<◌, ◌≤◌, ◌==◌, nat_lt, max, Bool, true, false, not, ◌&&◌, ◌||◌, List, [], ◌∷◌, ◌++◌, Option, Some, None, IfSome, if◌then◌else◌, refl, sym, ap, subst, ◌∙◌, append-nil, arith, le-ltb, ltb-false}
 use Rattle.std.specs.Option.{option_to_list}
 use Rattle.pr_wire.specs.declared.Edge.{Edge}
 use Rattle.pr_wire.specs.declared.Frame.{Frame}
@@ -16,8 +16,7 @@ use Rattle.pr_device.specs.Shown.{Moment, levels_after, time_after, moments_show
 use Rattle.pr_device.specs.Shown.Moment.{Change, Wake}
 use Rattle.pr_device.specs.Laws.{IsPast, WakesSuffice}
 use Rattle.pr_device.specs.Timing.{IsTiming}
-use Rattle.pr_device.proofs.Delays.{near}
-use Rattle.pr_device.proofs.Walking.{chosen, refused, same-self}
+use Rattle.pr_device.proofs.Walking.{chosen, same-self}
 use Rattle.pr_device.proofs.Stepping.{wake-later}
 use Rattle.pr_device.proofs.Waking.{wakes-act}
 

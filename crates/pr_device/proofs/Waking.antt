@@ -1,12 +1,11 @@
 -- Each wake is the moment of the device's next act.
-use Rattle.std.proofs.Common.{◌≡◌, ℕ, ◌+◌, ◌<◌, ◌≤◌, ◌==◌, nat_lt, max, Bool, true, false, not, ◌&&◌, ◌||◌, Option, Some, None, if◌then◌else◌, refl, sym, ap, ◌∙◌, arith, ltb-true, ltb-false, le-ltb, lt-ltb, eqb-true, eq-eqb, subst}
+use Rattle.std.proofs.Common.{◌≡◌, ℕ, ◌+◌, ◌<◌, ◌≤◌, ◌==◌, nat_lt, max, Bool, true, false, not, ◌&&◌, ◌||◌, Option, Some, None, if◌then◌else◌, refl, sym, ap, ◌∙◌, arith, ltb-false, le-ltb, lt-ltb, eqb-true, eq-eqb, subst}
 use Rattle.pr_device.specs.declared.place.Place.{Place}
 use Rattle.pr_device.specs.declared.place.Place.TheVariants.{Between, Sent, Opening, Bits}
 use Rattle.pr_device.specs.declared.timing.Timing.{Timing}
-use Rattle.pr_device.specs.Data.{Standing, pulls, pulls_at, calls, leaves, is_away, wake, wake_at, where_true, after_where}
+use Rattle.pr_device.specs.Data.{Standing, pulls_at, calls, leaves, is_away, wake_at, where_true, after_where}
 use Rattle.pr_device.specs.Shown.{IsBefore}
 use Rattle.pr_device.specs.Laws.{IsPast, WakesAreActs}
-use Rattle.pr_device.specs.Timing.{IsTiming}
 
 -- pulled from a moment on
 stays-up : (h : Bool) (later m : ℕ) → (h ≡ false → later < m) → (h || not (nat_lt later m)) ≡ h
