@@ -1,0 +1,16 @@
+pub mod Walking
+pub mod Bits
+pub mod Talking
+pub mod Hearing
+pub mod Stepping
+pub mod Delays
+pub mod Pairs
+pub mod Waking
+pub mod Sharing
+pub mod Making
+pub mod Calling
+pub mod Shown
+pub mod Called
+pub mod Items
+pub mod Traces
+pub mod Numbering

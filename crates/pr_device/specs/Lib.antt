@@ -1,0 +1,16 @@
+pub mod Timing
+pub mod Events
+pub mod Following
+pub mod Data
+pub mod Spoken
+pub mod Pairs
+pub mod Sound
+pub mod Seen
+pub mod Talkers
+pub mod Course
+pub mod Shown
+pub mod Laws
+pub mod CourseLaws
+pub mod Paired
+pub mod Numbers
+pub mod PairLaws
