@@ -14,4 +14,5 @@ pub mod RangeLemmas
 pub mod SignLemmas
 pub mod SpanLemmas
 pub mod SumLemmas
+pub mod SymbolLemmas
 pub mod WholeLemmas

@@ -25,6 +25,10 @@ first_token token zero text = None
 first_token token (suc more) text =
     if begins (keyword_of token) text then Some token else first_token (token + 1) more text
 
+-- the first token, from 128 to 203, whose keyword is at the front of a text
+unfoldable pub typed_token : List ℕ → Option ℕ
+typed_token text = first_token 128 76 text
+
 -- the keyword of a token, spelled
 abbrev pub spelled : Option ℕ → Option Keyword
 spelled None = None
@@ -34,12 +38,16 @@ spelled (Some token) = Some (record { token = token; size = length (keyword_of t
 unfoldable pub keyword_at : Writing → List ℕ → Option Keyword
 keyword_at writing [] = None
 keyword_at Typed (b ∷ bs) =
-    if b == 63 then Some (record { token = 153; size = 1 }) else spelled (first_token 128 76 (b ∷ bs))
+    if b == 63 then Some (record { token = 153; size = 1 }) else spelled (typed_token (b ∷ bs))
 keyword_at Saved (b ∷ bs) = if is_token b then Some (record { token = b; size = 1 }) else None
+
+-- a quote
+abbrev pub is_quote : ℕ → Bool
+is_quote b = b == 34
 
 -- the byte after this one is in a string
 abbrev pub quoted_after : Bool → ℕ → Bool
-quoted_after quoted b = if b == 34 then not quoted else quoted
+quoted_after quoted b = if is_quote b then not quoted else quoted
 
 -- how many bytes the items of DATA have: they end before a colon that is in no string
 abbrev pub items_size : Bool → List ℕ → ℕ
@@ -60,7 +68,7 @@ keyword_front place text k =
 
 -- a string whose first quote is at a place: it ends with its last quote, or with the line
 unfoldable pub string_front : ℕ → List ℕ → Front
-string_front place text = let n = position_or_len (λ b. b == 34) text in
+string_front place text = let n = position_or_len is_quote text in
     stored (Text (place + 1) (place + 1 + n)) (if nat_lt n (length text) then n + 2 else n + 1)
 
 -- another byte as it is kept: a small letter of a line as typed is a capital, and no text has bytes from 128 on
@@ -77,7 +85,7 @@ unfoldable pub front : Writing → ℕ → List ℕ → Front
 front writing place [] = record { stored = None; size = 0 }
 front writing place (b ∷ bs) =
     if b == 32 then record { stored = None; size = 1 }
-    else if b == 34 then string_front place bs
+    else if is_quote b then string_front place bs
     else keyword_or_byte writing place (b ∷ bs) b (keyword_at writing (b ∷ bs))
 
 -- the code of what is stored; 0 for what has none

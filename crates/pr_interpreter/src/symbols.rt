@@ -1,9 +1,9 @@
 //! The symbols of a line, as the machine keeps them.
 
-ghost use Rattle.std.specs.Prelude.{◌≡◌, ◌+◌, ◌++◌, ◌^◌, ◌<◌, ◌≤◌, length, drop, IfOk, IfSome, IsTrue};
+ghost use Rattle.std.specs.Prelude.{◌≡◌, ◌+◌, ◌++◌, ◌^◌, ◌<◌, ◌≤◌, length, drop, false, IfOk, IfSome, IsTrue};
 ghost use Rattle.std.specs.List.{position_or_len};
 ghost use Rattle.pr_listing.specs.Keywords.{is_token};
-ghost use Rattle.pr_interpreter.specs.Symbols.{begins, code_of, first_code, first_token, front, items_size, kept, keyword_at, keyword_front, keyword_or_byte, quoted_after, string_front, symbols};
+ghost use Rattle.pr_interpreter.specs.Symbols.{begins, code_of, first_code, front, is_quote, items_size, kept, keyword_at, keyword_front, keyword_or_byte, quoted_after, spelled, string_front, symbols, typed_token};
 
 use pr_listing::token_name;
 use std::alloc::{AllocError, Global};
@@ -99,13 +99,19 @@ fn begins(word: &[u8], text: &[u8]) -> bool
     true
 }
 
-/// Returns the first token whose keyword is at the front of a text.
-fn first_token(text: &[u8]) -> Option<u8>
-    ensures { result ≡ first_token 128 76 text.now }
+/// Returns the keyword at the front of a text as typed: the first in the order of tokens.
+fn typed_keyword(text: &[u8]) -> Option<Keyword>
+    ensures value { result ≡ spelled (typed_token text.now) }
+    ensures some { IfSome result (λ k. 0 < k.size) }
+    ensures within { IfSome result (λ k. k.size ≤ length text.now) }
 {
     for token in 128..204 {
-        if begins(token_name(token), text) {
-            return Some(token);
+        let word = token_name(token);
+        if begins(word, text) {
+            return Some(Keyword {
+                token,
+                size: word.len(),
+            });
         }
     }
     None
@@ -124,13 +130,7 @@ fn keyword_at(writing: Writing, text: &[u8]) -> Option<Keyword>
             token: PRINT,
             size: 1,
         }),
-        Writing::Typed => {
-            let token = first_token(text)?;
-            Some(Keyword {
-                token,
-                size: token_name(token).len(),
-            })
-        }
+        Writing::Typed => typed_keyword(text),
         Writing::Saved if is_token(text[0]) => Some(Keyword {
             token: text[0],
             size: 1,
@@ -148,7 +148,7 @@ fn is_token(b: u8) -> bool
 
 /// Returns how many bytes the items of DATA have: they end before a colon that is in no string.
 fn items_size(text: &[u8]) -> usize
-    ensures value { result ≡ items_size Bool.false text.now }
+    ensures value { result ≡ items_size false text.now }
     ensures within { result ≤ length text.now }
 {
     let mut quoted = false;
@@ -197,7 +197,7 @@ fn keyword_front(place: usize, text: &[u8], keyword: Keyword) -> Front
 
 /// Returns how many bytes come before a quote.
 fn before_quote(text: &[u8]) -> usize
-    ensures value { result ≡ position_or_len (λ b. b == 34) text.now }
+    ensures value { result ≡ position_or_len is_quote text.now }
     ensures within { result ≤ length text.now }
 {
     for (i, b) in text.iter().enumerate() {
