@@ -1,4 +1,5 @@
-use Rattle.std.proofs.Common.{◌≡◌, ℕ, zero, suc, ◌+◌, ◌-◌, ◌<◌, ◌≤◌, ◌==◌, ◌&&◌, Bool, true, false, List, [], ◌∷◌, ◌++◌, length, drop, get_or, arith, sym, refl, ap, ◌∙◌, drop-cons, add-one, append_assoc, eq-eqb, Option, Some, None}
+use Rattle.std.proofs.Common.{◌≡◌, ℕ, zero, suc, ◌+◌, ◌-◌, ◌<◌, ◌≤◌, ◌==◌, ◌&&◌, Bool, true, false, List, [], ◌∷◌, ◌++◌, length, drop, get_or, arith, sym, refl, ap, ◌∙◌, drop-cons, add-one, append_assoc, append-nil, eq-eqb, Option, Some, None}
+use Rattle.std.proofs.lemmas.List.{drop-drop, drop_all}
 use Rattle.std.proofs.lemmas.Bool.{false≢true, le-leb, ne_eqb}
 use Rattle.std.specs.Char.{to_ascii_uppercase}
 use Rattle.std.specs.List.{list_all}
@@ -11,7 +12,6 @@ use Rattle.pr_interpreter.specs.declared.symbols.Keyword.{Keyword}
 use Rattle.pr_interpreter.specs.declared.symbols.Stored.{Stored}
 use Rattle.pr_interpreter.specs.declared.symbols.Symbol.{Symbol}
 use Rattle.pr_interpreter.specs.declared.symbols.Writing.{Writing}
-use Rattle.pr_interpreter.proofs.LineLemmas.{dropped_all}
 
 -- ---- words at the front
 
@@ -42,7 +42,7 @@ begins_more ws bs i r h k e same =
     rw (drop-cons ws i 0 h, drop-cons bs i 0 k, yes, add-one i) refl
 
 pub begins_all : (ws bs : List ℕ) (i : ℕ) → length ws ≤ i → begins (drop i ws) (drop i bs) ≡ true
-begins_all ws bs i h = rw (dropped_all ws i h) refl
+begins_all ws bs i h = rw (drop_all i ws h) refl
 
 -- ---- tokens
 
@@ -138,10 +138,30 @@ symbols_front w p [] f h e some = absurd (omega arith)
 symbols_front w p (b ∷ bs) f h e some =
     rw (sym e) (ap (λ (ss : List Symbol). placed p f.stored ++ ss) (step w p b bs f.size some))
 
--- and so with symbols before them
-pub front_taken : (w : Writing) (p : ℕ) (bs : List ℕ) (f : Front) (old : List Symbol)
-    → 0 < length bs → f ≡ front w p bs → 0 < f.size
-    → old ++ placed p f.stored ++ symbols w (p + f.size) 0 (drop f.size bs) ≡ old ++ symbols w p 0 bs
-front_taken w p bs f old h e some =
-    append_assoc old (placed p f.stored) (symbols w (p + f.size) 0 (drop f.size bs))
-    ∙ ap (λ (ss : List Symbol). old ++ ss) (sym (symbols_front w p bs f h e some))
+-- the front of a rest is taken, and its symbol is added to others
+pub front_taken : (w : Writing) (p : ℕ) (bs : List ℕ) (f : Front) (s : Option Stored) (old new : List Symbol)
+    → 0 < length bs → f ≡ front w p bs → 0 < f.size → f.stored ≡ s → new ≡ old ++ placed p s
+    → new ++ symbols w (p + f.size) 0 (drop f.size bs) ≡ old ++ symbols w p 0 bs
+front_taken w p bs f s old new h e some is added =
+    let rest = symbols w (p + f.size) 0 (drop f.size bs) in
+    ap (λ (ss : List Symbol). ss ++ rest) (added ∙ ap (λ (t : Option Stored). old ++ placed p t) (sym is))
+    ∙ (append_assoc old (placed p f.stored) rest
+    ∙ ap (λ (ss : List Symbol). old ++ ss) (sym (symbols_front w p bs f h e some)))
+
+-- a loop over the fronts of a line goes on
+pub symbols_more : (w : Writing) (p k n : ℕ) (line : List ℕ) (old new whole : List Symbol)
+    → new ++ symbols w (p + k + n) 0 (drop n (drop k line)) ≡ old ++ symbols w (p + k) 0 (drop k line)
+    → old ++ symbols w (p + k) 0 (drop k line) ≡ whole
+    → new ++ symbols w (p + (k + n)) 0 (drop (k + n) line) ≡ whole
+symbols_more w p k n line old new whole e all =
+    let at : p + (k + n) ≡ p + k + n = omega arith in
+    ap (λ (bs : List ℕ). new ++ symbols w (p + (k + n)) 0 bs) (sym (drop-drop n k line))
+    ∙ (ap (λ (q : ℕ). new ++ symbols w q 0 (drop n (drop k line))) at ∙ (e ∙ all))
+
+-- and ends with the line
+pub symbols_all : (w : Writing) (p k : ℕ) (line : List ℕ) (found whole : List Symbol) → length line ≤ k
+    → found ++ symbols w (p + k) 0 (drop k line) ≡ whole → found ≡ whole
+unfolding symbols
+symbols_all w p k line found whole h e =
+    let left = drop_all k line h in
+    sym (append-nil found) ∙ (ap (λ (bs : List ℕ). found ++ symbols w (p + k) 0 bs) (sym left) ∙ e)
