@@ -3,10 +3,12 @@ pub mod BitLemmas
 pub mod ConstantLemmas
 pub mod DecimalLemmas
 pub mod ExactLemmas
+pub mod LexemeLemmas
 pub mod LineLawLemmas
 pub mod LineLemmas
 pub mod MadeLemmas
 pub mod NumberLemmas
+pub mod NumeralLemmas
 pub mod OrderLemmas
 pub mod PrintingLawLemmas
 pub mod PrintingLemmas

@@ -104,7 +104,7 @@ pub token_is_not : (token : ℕ) (word text : List ℕ) (b : Bool) (whole : Opti
     → first_token (token + 1) (204 - (token + 1)) text ≡ whole
 token_is_not token word text b whole h e test other all =
     let front : begins (keyword_of token) text ≡ false =
-        ap (λ (ws : List ℕ). begins ws text) (sym (in_table token word h e)) ∙ (sym test ∙ other) in
+    ap (λ (ws : List ℕ). begins ws text) (sym (in_table token word h e)) ∙ (sym test ∙ other) in
     sym (token_passed token text h front) ∙ all
 
 -- or to the end

@@ -1,6 +1,7 @@
 //! The lexemes of a line: its names and constants, and each other symbol.
 
-ghost use Rattle.std.specs.Prelude.{◌≡◌, ◌+◌, ◌++◌, ◌^◌, ◌<◌, ◌≤◌, length, drop, IfOk};
+ghost use Rattle.std.specs.Prelude.{◌≡◌, ◌+◌, ◌++◌, ◌^◌, ◌<◌, ◌≤◌, length, drop, true, IfOk};
+ghost use Rattle.pr_interpreter.specs.Symbols.{first_code};
 ghost use Rattle.pr_interpreter.specs.Lexemes.{begins_constant, constant_front, lexemes, line_lexemes, other_word, word_at};
 
 use crate::constants::Constant;
@@ -43,9 +44,11 @@ fn begins_constant(code: u8) -> bool
 }
 
 /// Returns the constant at the front of symbols, and how many symbols it has.
-#[tactic(auto, unfolding(crate::specs::Lexemes::constant_front))]
+#[tactic(auto, using(crate::proofs::NumeralLemmas::numeral_some), unfolding(crate::specs::Lexemes::constant_front))]
 fn constant_front(symbols: &[Symbol]) -> (Word, usize)
+    requires { begins_constant (first_code symbols.now) ≡ true }
     ensures value { result ≡ constant_front symbols.now }
+    ensures some { 0 < result.1 }
     ensures within { result.1 ≤ length symbols.now }
 {
     let (numeral, size) = numeral_of(symbols);

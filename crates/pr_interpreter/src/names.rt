@@ -1,6 +1,6 @@
 //! Names of variables in a line.
 
-ghost use Rattle.std.specs.Prelude.{◌≡◌, ◌≤◌, length};
+ghost use Rattle.std.specs.Prelude.{◌≡◌, ◌+◌, ◌≤◌, length};
 ghost use Rattle.pr_interpreter.specs.Lexemes.{is_in_name, is_letter, kind_after, kind_of, kind_size, name_front, name_size, second_of, whole_name_size};
 
 use crate::symbols::{Symbol, first_code};

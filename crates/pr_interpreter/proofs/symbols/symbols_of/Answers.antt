@@ -6,8 +6,8 @@ use Rattle.pr_interpreter.proofs.symbols.symbols_of.Goals as goal
 pub loop-passed-preserved : goal.loop-passed-preserved
 loop-passed-preserved c = record {
   found =
-    symbols_more c.args.writing c.args.place c.loop-passed.passed _ c.args.line.now _ _ _
-    (rw (take_rest c.args.line.now c.loop-passed.passed) at c.in_ok-passed.ensures.symbols) c.loop-passed.invariant.found;
+      symbols_more c.args.writing c.args.place c.loop-passed.passed _ c.args.line.now _ _ _
+      (rw (take_rest c.args.line.now c.loop-passed.passed) at c.in_ok-passed.ensures.symbols) c.loop-passed.invariant.found;
   within = search rules;
 }
 
