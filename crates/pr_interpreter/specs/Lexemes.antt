@@ -1,5 +1,5 @@
--- Trusted: the lexemes of a line: names and constants of its symbols, and each other symbol.
-use Rattle.std.specs.Prelude.{ℕ, zero, suc, ◌+◌, ◌-◌, ◌==◌, ◌||◌, ◌&&◌, Bool, List, [], ◌∷◌, drop, nat_le, nat_lt, if◌then◌else◌, Option, Some, None}
+-- Trusted: the lexemes of a line: the names, constants and comparisons of its symbols, and each other symbol.
+use Rattle.std.specs.Prelude.{ℕ, zero, suc, ◌+◌, ◌-◌, ◌==◌, ◌||◌, ◌&&◌, Bool, true, false, not, List, [], ◌∷◌, drop, nat_le, nat_lt, if◌then◌else◌, Option, Some, None}
 use Rattle.std.specs.List.{prefix_len}
 use Rattle.pr_base.specs.Digits.{is_digit}
 use Rattle.pr_interpreter.specs.declared.names.Kind.{Kind}
@@ -7,13 +7,14 @@ use Rattle.pr_interpreter.specs.declared.names.Kind.TheVariants.{Number, Text as
 use Rattle.pr_interpreter.specs.declared.names.Name.{Name}
 use Rattle.pr_interpreter.specs.declared.numerals.Exponent.{Exponent}
 use Rattle.pr_interpreter.specs.declared.numerals.Numeral.{Numeral}
+use Rattle.pr_interpreter.specs.declared.orders.Order.{Order}
 use Rattle.pr_interpreter.specs.declared.symbols.Stored.{Stored}
 use Rattle.pr_interpreter.specs.declared.symbols.Stored.TheVariants.{Code as CodeOf, Items as ItemsOf, Remark as RemarkOf, Text as TextOf}
 use Rattle.pr_interpreter.specs.declared.symbols.Symbol.{Symbol}
 use Rattle.pr_interpreter.specs.declared.symbols.Writing.{Writing}
 use Rattle.pr_interpreter.specs.declared.lexemes.Lexeme.{Lexeme}
 use Rattle.pr_interpreter.specs.declared.lexemes.Word.{Word}
-use Rattle.pr_interpreter.specs.declared.lexemes.Word.TheVariants.{Code, Constant, Items, Named, Remark, Text}
+use Rattle.pr_interpreter.specs.declared.lexemes.Word.TheVariants.{Code, Comparison, Constant, Items, Named, Remark, Text}
 use Rattle.pr_interpreter.specs.Numerals.{constant_of, exponent_of, no_digits, numeral, numeral_size}
 use Rattle.pr_interpreter.specs.Symbols.{code_of, first_code, symbols}
 
@@ -69,7 +70,37 @@ unfoldable pub constant_front : List Symbol → Word × ℕ
 constant_front ss = let size = numeral_size no_digits ss in
     constant_or_none (numeral no_digits ss) (exponent_of (drop size ss)) size
 
--- the word of a symbol that begins no name and no constant
+-- what a comparison accepts with the sign of a code too: the tokens of >, = and <, each once
+unfoldable pub with_sign : Order → ℕ → Option Order
+with_sign o c =
+    if (c == 177) && not o.greater then Some (record o { greater = true })
+    else if (c == 178) && not o.equal then Some (record o { equal = true })
+    else if (c == 179) && not o.less then Some (record o { less = true })
+    else None
+
+abbrev pub or_done : {A : Type 0} → Option Order → A → (Order → A) → A
+or_done None done more = done
+or_done (Some o) done more = more o
+
+-- what the comparison at the front accepts
+abbrev pub comparison : Order → List Symbol → Order
+comparison o [] = o
+comparison o (s ∷ ss) = or_done (with_sign o (code_of s)) o (λ more. comparison more ss)
+
+-- how many symbols it has
+abbrev pub comparison_size : Order → List Symbol → ℕ
+comparison_size o [] = 0
+comparison_size o (s ∷ ss) = or_done (with_sign o (code_of s)) 0 (λ more. comparison_size more ss + 1)
+
+-- no sign yet
+abbrev pub no_sign : Order
+no_sign = record { less = false; equal = false; greater = false }
+
+-- a sign of a comparison
+abbrev pub is_sign : ℕ → Bool
+is_sign c = nat_le 177 c && nat_le c 179
+
+-- the word of a symbol that begins nothing longer
 abbrev pub other_word : Stored → Word
 other_word (CodeOf c) = Code c
 other_word (TextOf start end) = Text start end
@@ -81,6 +112,7 @@ unfoldable pub word_front : Symbol → List Symbol → Word × ℕ
 word_front s ss =
     if is_letter (code_of s) then (Named (name_front (code_of s) ss), whole_name_size ss)
     else if begins_constant (code_of s) then constant_front (s ∷ ss)
+    else if is_sign (code_of s) then (Comparison (comparison no_sign (s ∷ ss)), comparison_size no_sign (s ∷ ss))
     else (other_word s.stored, 1)
 
 -- the same, of symbols that are not none

@@ -1,12 +1,14 @@
-//! The lexemes of a line: its names and constants, and each other symbol.
+//! The lexemes of a line: its names, constants and comparisons, and each other symbol.
 
 ghost use Rattle.std.specs.Prelude.{◌≡◌, ◌+◌, ◌++◌, ◌^◌, ◌<◌, ◌≤◌, length, drop, true, IfOk};
 ghost use Rattle.pr_interpreter.specs.Symbols.{first_code};
 ghost use Rattle.pr_interpreter.specs.Lexemes.{begins_constant, constant_front, lexemes, line_lexemes, other_word, word_at};
 
+use crate::comparisons::{comparison_of, is_sign};
 use crate::constants::Constant;
 use crate::names::{Name, is_letter, name_front};
 use crate::numerals::{constant_of, exponent_of, numeral_of};
+use crate::orders::Order;
 use crate::symbols::{Stored, Symbol, Writing, symbols_of};
 use pr_base::is_digit;
 use std::alloc::{AllocError, Global};
@@ -21,6 +23,8 @@ pub enum Word {
     Named(Name),
     /// A decimal constant.
     Constant(Constant),
+    /// A comparison, by what it accepts: the signs of less, equal and greater that it has, each at most once.
+    Comparison(Order),
     /// A string, by the places of its first byte and of the byte after its last.
     Text { start: usize, end: usize },
     /// DATA, by the places where its items begin and end.
@@ -61,7 +65,7 @@ fn constant_front(symbols: &[Symbol]) -> (Word, usize)
     (word, size + exponent.size)
 }
 
-/// Returns the word of a symbol that begins no name and no constant.
+/// Returns the word of a symbol that begins nothing longer.
 fn other_word(stored: Stored) -> Word
     ensures { result ≡ other_word stored }
 {
@@ -88,6 +92,10 @@ fn word_of(symbols: &[Symbol]) -> (Word, usize)
     }
     if begins_constant(code) {
         return constant_front(symbols);
+    }
+    if is_sign(code) {
+        let (order, size) = comparison_of(symbols);
+        return (Word::Comparison(order), size);
     }
     (other_word(symbols[0].stored), 1)
 }

@@ -46,6 +46,7 @@
 //! performs the same list, which follows by induction from the laws of numbers here.
 #![tactic(auto)]
 
+mod comparisons;
 mod constants;
 mod decimals;
 mod fault;

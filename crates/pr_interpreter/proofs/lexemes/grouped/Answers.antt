@@ -6,8 +6,8 @@ use Rattle.pr_interpreter.proofs.lexemes.grouped.Goals as goal
 pub loop-passed-preserved : goal.loop-passed-preserved
 loop-passed-preserved c = record {
   found =
-    lexemes_more c.loop-passed.passed _ c.args.symbols.now _ _ _
-    (rw (take_rest c.args.symbols.now c.loop-passed.passed) at c.in_ok-passed.ensures.lexemes) c.loop-passed.invariant.found;
+      lexemes_more c.loop-passed.passed _ c.args.symbols.now _ _ _
+      (rw (take_rest c.args.symbols.now c.loop-passed.passed) at c.in_ok-passed.ensures.lexemes) c.loop-passed.invariant.found;
   within = search rules;
 }
 
