@@ -1,5 +1,6 @@
 pub mod Constants
 pub mod Decimals
+pub mod LexemeLaws
 pub mod Lexemes
 pub mod LineLaws
 pub mod Lines
