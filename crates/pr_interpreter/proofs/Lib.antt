@@ -14,6 +14,7 @@ pub mod OrderLemmas
 pub mod PrintingLawLemmas
 pub mod PrintingLemmas
 pub mod RangeLemmas
+pub mod ReaderLemmas
 pub mod SignLemmas
 pub mod SpanLemmas
 pub mod SumLemmas

@@ -1,5 +1,6 @@
 pub mod Constants
 pub mod Decimals
+pub mod Expressions
 pub mod LexemeLaws
 pub mod Lexemes
 pub mod LineLaws
@@ -10,5 +11,6 @@ pub mod Numbers
 pub mod Numerals
 pub mod Printing
 pub mod PrintingLaws
+pub mod Reader
 pub mod Spans
 pub mod Symbols
