@@ -1,6 +1,6 @@
-use Rattle.std.proofs.Common.{◌≡◌, ℕ, ◌+◌, ◌<◌, ◌≤◌, List, [], ◌∷◌, ◌++◌, reverse, length, arith, sym, refl, ap, ◌∙◌, Option, Some, None}
-use Rattle.std.proofs.lemmas.List.{reverse-append}
-use Rattle.pr_interpreter.specs.Expressions.{Stacks, bound, settle, settled, with_node, with_waiting}
+use Rattle.std.proofs.Common.{◌≡◌, ℕ, ◌+◌, ◌-◌, ◌<◌, ◌≤◌, List, [], ◌∷◌, ◌++◌, reverse, length, take, drop, get_or, suc, arith, sym, refl, ap, ◌∙◌, drop-cons, add-one, append-nil, Option, Some, None, Result, Ok, Err, ◌⊎◌, inl, inr}
+use Rattle.std.proofs.lemmas.List.{drop_all, reverse-append}
+use Rattle.pr_interpreter.specs.Expressions.{Done, Next, Refused, Stacks, Turn, after_turn, bound, close_pending, close_turn, comma_pending, comma_turn, end_turn, reading, settle, settled, turn, with_node, with_waiting}
 use Rattle.pr_interpreter.specs.declared.expressions.Node.TheVariants.{Apply}
 use Rattle.pr_interpreter.specs.declared.expressions.Operator.{Operator}
 use Rattle.pr_interpreter.specs.declared.expressions.Placed.{Placed}
@@ -12,56 +12,87 @@ some_of op = Some op
 abbrev pub none_of : Option Operator
 none_of = None
 
-abbrev pub stacks_of : List Placed → List Waiting → Stacks
-stacks_of nodes waiting = record { nodes = nodes; waiting = reverse waiting }
-
--- what waits last is the first of what waits, the last first
+-- what is taken from the end of a list is the first of the list from behind
 pub popped : (xs ys : List Waiting) (w : Waiting) → xs ≡ ys ++ w ∷ [] → reverse xs ≡ w ∷ reverse ys
 popped xs ys w e = ap (λ (ws : List Waiting). reverse ws) e ∙ reverse-append ys (w ∷ [])
 
+-- and if nothing is, both are none
+pub none_popped : (xs ys : List Waiting) (n : ℕ) → xs ≡ ys ++ [] → ys ≡ take (n - 1) xs → n ≡ 0
+    → (reverse xs ≡ []) × (reverse ys ≡ [])
+none_popped xs ys n same rest none =
+    let after : ys ≡ [] = rest ∙ ap (λ (m : ℕ). take (m - 1) xs) none in
+    let before : xs ≡ [] = same ∙ (append-nil ys ∙ after) in
+    (ap (λ (ws : List Waiting). reverse ws) before, ap (λ (ws : List Waiting). reverse ws) after)
+
+abbrev pub stacks_of : List Placed → List Waiting → Stacks
+stacks_of nodes waiting = record { nodes = nodes; waiting = waiting }
+
 -- the operator that waits last is applied
-pub applied : (least : ℕ) (nodes : List Placed) (xs ys : List Waiting) (w : Waiting) (op : Operator) (next whole : Stacks)
-    → settled least nodes (reverse xs) ≡ whole → xs ≡ ys ++ w ∷ [] → some_of op ≡ bound least w.pending
-    → next ≡ with_node (record { nodes = nodes; waiting = reverse ys }) (Apply op) w.place
-    → settled least next.nodes next.waiting ≡ whole
-applied least nodes xs ys w op next whole all pop some e =
-    ap (λ (s : Stacks). settled least s.nodes s.waiting) e
-    ∙ (back ∙ (ap (λ (ws : List Waiting). settled least nodes ws) (sym (popped xs ys w pop)) ∙ all))
+pub settle_goes : (least : ℕ) (s t next : Stacks) (w : Waiting) (op : Operator) → t.nodes ≡ s.nodes
+    → s.waiting ≡ w ∷ t.waiting → some_of op ≡ bound least w.pending → next ≡ with_node t (Apply op) w.place
+    → settle least next ≡ settle least s
+unfolding settle
+settle_goes least s t next w op nodes waiting some e =
+    ap (λ (u : Stacks). settled least u.nodes u.waiting) e
+    ∙ (ap (λ (ps : List Placed). settled least (ps ++ record { node = Apply op; place = w.place } ∷ []) t.waiting) nodes
+    ∙ (back ∙ ap (λ (ws : List Waiting). settled least s.nodes ws) (sym waiting)))
   where
-    back : settled least (nodes ++ record { node = Apply op; place = w.place } ∷ []) (reverse ys)
-        ≡ settled least nodes (w ∷ reverse ys)
+    back : settled least (s.nodes ++ record { node = Apply op; place = w.place } ∷ []) t.waiting
+        ≡ settled least s.nodes (w ∷ t.waiting)
     back = rw (sym some) refl
 
 -- then less waits
-pub less_waits : (nodes : List Placed) (xs ys : List Waiting) (w : Waiting) (op : Operator) (next : Stacks)
-    → xs ≡ ys ++ w ∷ [] → next ≡ with_node (record { nodes = nodes; waiting = reverse ys }) (Apply op) w.place
-    → length next.waiting < length (reverse xs)
-less_waits nodes xs ys w op next pop e =
-    let before = ap (λ (ws : List Waiting). length ws) (popped xs ys w pop) in
-    let after = ap (λ (s : Stacks). length s.waiting) e in
+pub less_waits : (s t next : Stacks) (w : Waiting) (op : Operator) → s.waiting ≡ w ∷ t.waiting
+    → next ≡ with_node t (Apply op) w.place → length next.waiting < length s.waiting
+less_waits s t next w op waiting e =
+    let before = ap (λ (ws : List Waiting). length ws) waiting in
+    let after = ap (λ (u : Stacks). length u.waiting) e in
     omega (arith, before, after)
 
 -- what waits last stays
-pub stays : (least : ℕ) (nodes : List Placed) (xs ys : List Waiting) (w : Waiting) (next : Stacks) (first : Stacks)
-    → settled least nodes (reverse xs) ≡ settle least first → xs ≡ ys ++ w ∷ [] → none_of ≡ bound least w.pending
-    → next ≡ with_waiting (record { nodes = nodes; waiting = reverse ys }) w.pending w.place → next ≡ settle least first
-stays least nodes xs ys w next first all pop none e =
-    e ∙ (back ∙ (ap (λ (ws : List Waiting). settled least nodes ws) (sym (popped xs ys w pop)) ∙ all))
+pub settle_stays : (least : ℕ) (s t next : Stacks) (w : Waiting) → t.nodes ≡ s.nodes → s.waiting ≡ w ∷ t.waiting
+    → none_of ≡ bound least w.pending → next ≡ with_waiting t w.pending w.place → next ≡ settle least s
+unfolding settle
+settle_stays least s t next w nodes waiting none e =
+    e ∙ (ap (λ (ps : List Placed). stacks_of ps (w ∷ t.waiting)) nodes
+    ∙ (back ∙ ap (λ (ws : List Waiting). settled least s.nodes ws) (sym waiting)))
   where
-    back : with_waiting (record { nodes = nodes; waiting = reverse ys }) w.pending w.place
-        ≡ settled least nodes (w ∷ reverse ys)
+    back : stacks_of s.nodes (w ∷ t.waiting) ≡ settled least s.nodes (w ∷ t.waiting)
     back = rw (sym none) refl
 
 -- nothing waits
-pub nothing_waits : (least : ℕ) (nodes : List Placed) (xs ys : List Waiting) (first : Stacks)
-    → settled least nodes (reverse xs) ≡ settle least first → xs ≡ ys ++ [] → length xs ≡ 0 → length ys ≡ 0
-    → stacks_of nodes ys ≡ settle least first
-nothing_waits least nodes [] [] first all same before after = all
-nothing_waits least nodes (x ∷ xs) ys first all same before after = absurd (omega arith)
-nothing_waits least nodes [] (y ∷ ys) first all same before after = absurd (omega arith)
-
--- the start of the loop
-pub settle_start : (least : ℕ) (nodes : List Placed) (xs : List Waiting)
-    → settled least nodes (reverse xs) ≡ settle least (stacks_of nodes xs)
+pub settle_none : (least : ℕ) (s t : Stacks) → t.nodes ≡ s.nodes → s.waiting ≡ [] → t.waiting ≡ [] → t ≡ settle least s
 unfolding settle
-settle_start least nodes xs = refl
+settle_none least s t nodes before after =
+    ap (λ (ps : List Placed). stacks_of ps t.waiting) nodes
+    ∙ (ap (λ (ws : List Waiting). stacks_of s.nodes ws) after
+    ∙ ap (λ (ws : List Waiting). settled least s.nodes ws) (sym before))
+
+-- ---- what follows an operand
+
+pub comma_on : (s t : Stacks) (w : Waiting) (r : Turn) → t.nodes ≡ s.nodes → s.waiting ≡ w ∷ t.waiting
+    → r ≡ comma_pending t w.pending w.place → r ≡ comma_turn s.nodes s.waiting
+comma_on s t w r nodes waiting e =
+    e ∙ (ap (λ (ps : List Placed). comma_pending (stacks_of ps t.waiting) w.pending w.place) nodes
+    ∙ ap (λ (ws : List Waiting). comma_turn s.nodes ws) (sym waiting))
+
+pub comma_none : (s t : Stacks) → t.nodes ≡ s.nodes → s.waiting ≡ [] → Done t.nodes ≡ comma_turn s.nodes s.waiting
+comma_none s t nodes waiting =
+    ap (λ (ps : List Placed). Done ps) nodes ∙ ap (λ (ws : List Waiting). comma_turn s.nodes ws) (sym waiting)
+
+pub close_on : (s t : Stacks) (w : Waiting) (r : Turn) → t.nodes ≡ s.nodes → s.waiting ≡ w ∷ t.waiting
+    → r ≡ close_pending t w.pending w.place → r ≡ close_turn s.nodes s.waiting
+close_on s t w r nodes waiting e =
+    e ∙ (ap (λ (ps : List Placed). close_pending (stacks_of ps t.waiting) w.pending w.place) nodes
+    ∙ ap (λ (ws : List Waiting). close_turn s.nodes ws) (sym waiting))
+
+pub close_none : (s t : Stacks) → t.nodes ≡ s.nodes → s.waiting ≡ [] → Done t.nodes ≡ close_turn s.nodes s.waiting
+close_none s t nodes waiting =
+    ap (λ (ps : List Placed). Done ps) nodes ∙ ap (λ (ws : List Waiting). close_turn s.nodes ws) (sym waiting)
+
+pub end_on : (s t : Stacks) (w : Waiting) → s.waiting ≡ w ∷ t.waiting → Refused ≡ end_turn s.nodes s.waiting
+end_on s t w waiting = ap (λ (ws : List Waiting). end_turn s.nodes ws) (sym waiting)
+
+pub end_none : (s t : Stacks) → t.nodes ≡ s.nodes → s.waiting ≡ [] → Done t.nodes ≡ end_turn s.nodes s.waiting
+end_none s t nodes waiting =
+    ap (λ (ps : List Placed). Done ps) nodes ∙ ap (λ (ws : List Waiting). end_turn s.nodes ws) (sym waiting)

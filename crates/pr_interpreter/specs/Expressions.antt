@@ -96,6 +96,10 @@ pub data Turn : Type 0 where
 abbrev pub is_function : ℕ → Bool
 is_function c = nat_le 180 c && nat_le c 202
 
+-- the token of a function where an operand begins
+abbrev pub function_turn : Stacks → ℕ → ℕ → Turn
+function_turn s c place = if is_function c then Next s (Opening (Function c) place) else Refused
+
 -- a sign or a keyword where an operand begins: + is skipped
 unfoldable pub operand_code : Stacks → ℕ → ℕ → Turn
 operand_code s c place =
@@ -104,8 +108,7 @@ operand_code s c place =
     else if c == 171 then Next (with_waiting s (Applies Negate) place) Operand
     else if c == 168 then Next (with_waiting s (Applies Not) place) Operand
     else if c == 165 then Next s (OwnName place)
-    else if is_function c then Next s (Opening (Function c) place)
-    else Refused
+    else function_turn s c place
 
 -- a word where an operand begins
 abbrev pub operand_turn : Stacks → Word → ℕ → Turn

@@ -1,9 +1,10 @@
 //! Reads an expression from lexemes, as the machine does: operators, parentheses and calls wait on a stack until their
 //! operands end.
 
-ghost use Rattle.std.specs.Prelude.{◌≡◌, ◌≤◌, length, IfErr, IfOk, Ok, OnOk};
-ghost use Rattle.pr_interpreter.specs.Expressions.{bound, close_turn, closing_code, comma_turn, end_of_operand, end_turn, expression, name_end, opening_turn, opens, operand_code, operand_turn, operator_turn, own_turn, reading, settle, Stacks, turn, with_node, with_waiting};
-ghost use Rattle.pr_interpreter.specs.Reader.{FaultsAs, seen, turned};
+ghost use Rattle.std.specs.Prelude.{◌≡◌, ◌≤◌, ◌∷◌, length, IfErr, IfOk, MatchOption, Ok, OnOk};
+ghost use Rattle.pr_interpreter.specs.Expressions.{Stacks, bound, close_pending, close_turn, closing_code, comma_pending, comma_turn, end_of_operand, end_turn, expression, function_turn, name_end, opening_turn, opens, operand_code, operand_turn, operator_of, operator_or, operator_turn, own_turn, reading, settle, turn, with_node, with_waiting};
+ghost use Rattle.pr_interpreter.specs.declared.reader.Expected.TheVariants.{Operand};
+ghost use Rattle.pr_interpreter.specs.Reader.{FaultsAs, NothingWaits, seen, turned};
 
 use crate::expressions::{Callee, Node, Operator, Placed, operator_of};
 use crate::fault::ProgramFault;
@@ -77,12 +78,19 @@ impl Reader {
         Ok(())
     }
 
+    /// Takes away what waits last.
+    fn take_last(&mut self) -> Option<Waiting>
+        ensures nodes { (seen self.new).nodes ≡ (seen self.old).nodes }
+        ensures waiting { MatchOption result (NothingWaits (seen self.old) (seen self.new)) (λ w. (seen self.old).waiting ≡ w ∷ (seen self.new).waiting) }
+    {
+        self.waiting.pop()
+    }
+
     /// Applies the operators that wait last, as far as they bind at least so tightly.
-    #[tactic(none)]
     fn settle(&mut self, least: u8) -> Result<(), AllocError>
         ensures { OnOk result (seen self.new ≡ settle least (seen self.old)) }
     {
-        while let Some(last) = self.waiting.pop() {
+        while let Some(last) = self.take_last() {
             match bound(least, last.pending) {
                 Some(operator) => self.put(Node::Apply(operator), last.place)?,
                 None => {
@@ -100,17 +108,22 @@ impl Reader {
         ensures { IfOk result (λ t. turned t (seen self.new) ≡ operand_code (seen self.old) code place) }
     {
         match code {
-            b'(' => self.wait(Pending::Group, place)?,
-            170 => (),
-            171 => self.wait(Pending::Applies(Operator::Negate), place)?,
-            168 => self.wait(Pending::Applies(Operator::Not), place)?,
-            165 => return Ok(Turn::Next(Expected::OwnName(place))),
-            180..=202 => {
-                return Ok(Turn::Next(Expected::Opening(Callee::Function(code), place)));
+            b'(' => {
+                self.wait(Pending::Group, place)?;
+                Ok(Turn::Next(Expected::Operand))
             }
-            _ => return Ok(Turn::Refused),
+            170 => Ok(Turn::Next(Expected::Operand)),
+            171 => {
+                self.wait(Pending::Applies(Operator::Negate), place)?;
+                Ok(Turn::Next(Expected::Operand))
+            }
+            168 => {
+                self.wait(Pending::Applies(Operator::Not), place)?;
+                Ok(Turn::Next(Expected::Operand))
+            }
+            165 => Ok(Turn::Next(Expected::OwnName(place))),
+            _ => Ok(function_turn(code, place)),
         }
-        Ok(Turn::Next(Expected::Operand))
     }
 
     /// Takes a word where an operand begins.
@@ -118,13 +131,23 @@ impl Reader {
         ensures { IfOk result (λ t. turned t (seen self.new) ≡ operand_turn (seen self.old) word place) }
     {
         match word {
-            Word::Constant(constant) => self.put(Node::Number(constant), place)?,
-            Word::Text { start, end } => self.put(Node::Text { start, end }, place)?,
-            Word::Named(name) => return Ok(Turn::Next(Expected::NameEnd(name, place))),
-            Word::Code(code) => return self.operand_code(code, place),
-            Word::Comparison(_) | Word::Items { .. } | Word::Remark => return Ok(Turn::Refused),
+            Word::Constant(constant) => {
+                self.put(Node::Number(constant), place)?;
+                Ok(Turn::Next(Expected::OperandEnd))
+            }
+            Word::Text { start, end } => {
+                self.put(Node::Text { start, end }, place)?;
+                Ok(Turn::Next(Expected::OperandEnd))
+            }
+            Word::Named(name) => Ok(Turn::Next(Expected::NameEnd(name, place))),
+            Word::Code(code) => {
+                let turn = self.operand_code(code, place)?;
+                Ok(turn)
+            }
+            Word::Comparison(_) => Ok(Turn::Refused),
+            Word::Items { .. } => Ok(Turn::Refused),
+            Word::Remark => Ok(Turn::Refused),
         }
-        Ok(Turn::Next(Expected::OperandEnd))
     }
 
     /// Takes the word that has to open the arguments of a call at a place.
@@ -147,15 +170,17 @@ impl Reader {
         Ok(Turn::Next(Expected::Operand))
     }
 
-    /// Takes a comma after all operators are applied.
-    fn comma_turn(&mut self) -> Result<Turn, AllocError>
-        ensures { IfOk result (λ t. turned t (seen self.new) ≡ comma_turn (seen self.old).nodes (seen self.old).waiting) }
+    /// Takes a comma where something waits.
+    fn comma_pending(&mut self, last: Waiting) -> Result<Turn, AllocError>
+        ensures { IfOk result (λ t. turned t (seen self.new) ≡ comma_pending (seen self.old) last.pending last.place) }
     {
-        let Some(last) = self.waiting.pop() else {
-            return Ok(Turn::Done);
-        };
         match last.pending {
-            Pending::Calls { callee, count } if count < callee.greatest_count() => {
+            Pending::Group => Ok(Turn::Refused),
+            Pending::Applies(_) => Ok(Turn::Refused),
+            Pending::Calls { callee, count } => {
+                if count >= callee.greatest_count() {
+                    return Ok(Turn::Refused);
+                }
                 let pending = Pending::Calls {
                     callee,
                     count: count + 1,
@@ -163,35 +188,62 @@ impl Reader {
                 self.wait(pending, last.place)?;
                 Ok(Turn::Next(Expected::Operand))
             }
-            _ => Ok(Turn::Refused),
+        }
+    }
+
+    /// Takes a comma after all operators are applied.
+    #[tactic(auto, using(crate::proofs::ReaderLemmas::comma_on, crate::proofs::ReaderLemmas::comma_none))]
+    fn comma_turn(&mut self) -> Result<Turn, AllocError>
+        ensures { IfOk result (λ t. turned t (seen self.new) ≡ comma_turn (seen self.old).nodes (seen self.old).waiting) }
+    {
+        match self.take_last() {
+            Some(last) => {
+                let turn = self.comma_pending(last)?;
+                Ok(turn)
+            }
+            None => Ok(Turn::Done),
+        }
+    }
+
+    /// Takes a parenthesis that closes where something waits.
+    fn close_pending(&mut self, last: Waiting) -> Result<Turn, AllocError>
+        ensures { IfOk result (λ t. turned t (seen self.new) ≡ close_pending (seen self.old) last.pending last.place) }
+    {
+        match last.pending {
+            Pending::Group => Ok(Turn::Next(Expected::OperandEnd)),
+            Pending::Applies(_) => Ok(Turn::Refused),
+            Pending::Calls { callee, count } => {
+                if count < callee.least_count() {
+                    return Ok(Turn::Refused);
+                }
+                self.put(Node::Call { callee, count }, last.place)?;
+                Ok(Turn::Next(Expected::OperandEnd))
+            }
         }
     }
 
     /// Takes a parenthesis that closes after all operators are applied.
+    #[tactic(auto, using(crate::proofs::ReaderLemmas::close_on, crate::proofs::ReaderLemmas::close_none))]
     fn close_turn(&mut self) -> Result<Turn, AllocError>
         ensures { IfOk result (λ t. turned t (seen self.new) ≡ close_turn (seen self.old).nodes (seen self.old).waiting) }
     {
-        let Some(last) = self.waiting.pop() else {
-            return Ok(Turn::Done);
-        };
-        match last.pending {
-            Pending::Group => Ok(Turn::Next(Expected::OperandEnd)),
-            Pending::Calls { callee, count } if callee.least_count() <= count => {
-                self.put(Node::Call { callee, count }, last.place)?;
-                Ok(Turn::Next(Expected::OperandEnd))
+        match self.take_last() {
+            Some(last) => {
+                let turn = self.close_pending(last)?;
+                Ok(turn)
             }
-            _ => Ok(Turn::Refused),
+            None => Ok(Turn::Done),
         }
     }
 
     /// Takes a word of no expression after all operators are applied.
-    fn end_turn(&self) -> Turn
-        ensures { turned result (seen self.now) ≡ end_turn (seen self.now).nodes (seen self.now).waiting }
+    #[tactic(auto, using(crate::proofs::ReaderLemmas::end_on, crate::proofs::ReaderLemmas::end_none))]
+    fn end_turn(&mut self) -> Turn
+        ensures { turned result (seen self.new) ≡ end_turn (seen self.old).nodes (seen self.old).waiting }
     {
-        if self.waiting.is_empty() {
-            Turn::Done
-        } else {
-            Turn::Refused
+        match self.take_last() {
+            Some(_) => Turn::Refused,
+            None => Turn::Done,
         }
     }
 
@@ -202,9 +254,31 @@ impl Reader {
     {
         self.settle(0)?;
         match code {
-            b',' => self.comma_turn(),
-            b')' => self.close_turn(),
+            b',' => {
+                let turn = self.comma_turn()?;
+                Ok(turn)
+            }
+            b')' => {
+                let turn = self.close_turn()?;
+                Ok(turn)
+            }
             _ => Ok(self.end_turn()),
+        }
+    }
+
+    /// Takes a sign or a keyword after an operand.
+    fn code_end(&mut self, code: u8, place: usize) -> Result<Turn, AllocError>
+        ensures { IfOk result (λ t. turned t (seen self.new) ≡ operator_or (operator_of code) (seen self.old) code place) }
+    {
+        match operator_of(code) {
+            Some(operator) => {
+                let turn = self.operator_turn(operator, place)?;
+                Ok(turn)
+            }
+            None => {
+                let turn = self.closing_code(code)?;
+                Ok(turn)
+            }
         }
     }
 
@@ -212,14 +286,20 @@ impl Reader {
     fn end_of_operand(&mut self, word: Word, place: usize) -> Result<Turn, AllocError>
         ensures { IfOk result (λ t. turned t (seen self.new) ≡ end_of_operand (seen self.old) word place) }
     {
-        match word {
-            Word::Comparison(accepts) => self.operator_turn(Operator::Compare(accepts), place),
-            Word::Code(code) => match operator_of(code) {
-                Some(operator) => self.operator_turn(operator, place),
-                None => self.closing_code(code),
-            },
-            _ => self.closing_code(0),
-        }
+        let code = match word {
+            Word::Comparison(accepts) => {
+                let turn = self.operator_turn(Operator::Compare(accepts), place)?;
+                return Ok(turn);
+            }
+            Word::Code(code) => code,
+            Word::Constant(_)
+            | Word::Named(_)
+            | Word::Text { .. }
+            | Word::Items { .. }
+            | Word::Remark => 0,
+        };
+        let turn = self.code_end(code, place)?;
+        Ok(turn)
     }
 
     /// Takes the word after a name at a place.
@@ -233,10 +313,12 @@ impl Reader {
         ensures { IfOk result (λ t. turned t (seen self.new) ≡ name_end (seen self.old) name at word place) }
     {
         if opens(word) {
-            return self.opening_turn(Callee::Array(name), at, word);
+            let turn = self.opening_turn(Callee::Array(name), at, word)?;
+            return Ok(turn);
         }
         self.put(Node::Variable(name), at)?;
-        self.end_of_operand(word, place)
+        let turn = self.end_of_operand(word, place)?;
+        Ok(turn)
     }
 
     /// Takes a word at a place.
@@ -245,18 +327,30 @@ impl Reader {
         ensures { IfOk result (λ t. turned t (seen self.new) ≡ turn (seen self.old) expected word place) }
     {
         match expected {
-            Expected::Operand => self.operand_turn(word, place),
-            Expected::OperandEnd => self.end_of_operand(word, place),
+            Expected::Operand => {
+                let turn = self.operand_turn(word, place)?;
+                Ok(turn)
+            }
+            Expected::OperandEnd => {
+                let turn = self.end_of_operand(word, place)?;
+                Ok(turn)
+            }
             Expected::OwnName(at) => Ok(own_turn(at, word)),
-            Expected::Opening(callee, at) => self.opening_turn(callee, at, word),
-            Expected::NameEnd(name, at) => self.name_end(name, at, word, place),
+            Expected::Opening(callee, at) => {
+                let turn = self.opening_turn(callee, at, word)?;
+                Ok(turn)
+            }
+            Expected::NameEnd(name, at) => {
+                let turn = self.name_end(name, at, word, place)?;
+                Ok(turn)
+            }
         }
     }
 
     /// Reads an expression. Returns how many lexemes it has.
     fn read(&mut self, lexemes: &[Lexeme], end: usize) -> Result<usize, ProgramFault>
-        ensures ok { IfOk result (λ n. reading (seen self.old) Expected.Operand 0 end lexemes.now ≡ Ok (self.new.nodes.items, n)) }
-        ensures err { IfErr result (λ fault. FaultsAs fault (reading (seen self.old) Expected.Operand 0 end lexemes.now)) }
+        ensures ok { IfOk result (λ n. reading (seen self.old) Operand 0 end lexemes.now ≡ Ok (self.new.nodes.items, n)) }
+        ensures err { IfErr result (λ fault. FaultsAs fault (reading (seen self.old) Operand 0 end lexemes.now)) }
         ensures within { IfOk result (λ n. n ≤ length lexemes.now) }
     {
         let mut expected = Expected::Operand;
@@ -273,6 +367,17 @@ impl Reader {
             Ok(_) => Err(ProgramFault::NoExpression(end)),
             Err(_) => Err(ProgramFault::OutOfMemory),
         }
+    }
+}
+
+/// Takes the token of a function at a place.
+fn function_turn(code: u8, place: usize) -> Turn
+    ensures { (s : Stacks) → turned result s ≡ function_turn s code place }
+{
+    if 180 <= code && code <= 202 {
+        Turn::Next(Expected::Opening(Callee::Function(code), place))
+    } else {
+        Turn::Refused
     }
 }
 
