@@ -1,4 +1,4 @@
-use Rattle.std.proofs.Common.{◌≡◌, ℕ, ◌+◌, ◌<◌, ◌≤◌, ◌==◌, ◌||◌, ◌&&◌, Bool, true, false, List, [], ◌∷◌, arith, refl}
+use Rattle.std.proofs.Common.{◌≡◌, ◌<◌, ◌≤◌, ◌==◌, ◌||◌, ◌&&◌, Bool, true, false, List, [], ◌∷◌, arith, refl}
 use Rattle.std.proofs.lemmas.Bool.{eqb-false, false≢true, leb-true}
 use Rattle.std.specs.Prelude.{nat_le}
 use Rattle.pr_base.specs.Digits.{is_digit}

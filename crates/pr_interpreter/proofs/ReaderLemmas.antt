@@ -1,6 +1,5 @@
-use Rattle.std.proofs.Common.{◌≡◌, ℕ, ◌+◌, ◌-◌, ◌<◌, ◌≤◌, List, [], ◌∷◌, ◌++◌, reverse, length, take, drop, get_or, suc, arith, sym, refl, ap, ◌∙◌, drop-cons, add-one, append-nil, Option, Some, None, Result, Ok, Err, ◌⊎◌, inl, inr}
-use Rattle.std.proofs.lemmas.List.{drop_all, reverse-append}
-use Rattle.pr_interpreter.specs.Expressions.{Done, Next, Refused, Stacks, Turn, after_turn, bound, close_pending, close_turn, comma_pending, comma_turn, end_turn, reading, settle, settled, turn, with_node, with_waiting}
+use Rattle.std.proofs.Common.{◌≡◌, ℕ, ◌<◌, List, [], ◌∷◌, ◌++◌, length, arith, sym, refl, ap, ◌∙◌, Option, Some, None}
+use Rattle.pr_interpreter.specs.Expressions.{Done, Refused, Stacks, Turn, bound, close_pending, close_turn, comma_pending, comma_turn, end_turn, settle, settled, with_node, with_waiting}
 use Rattle.pr_interpreter.specs.declared.expressions.Node.TheVariants.{Apply}
 use Rattle.pr_interpreter.specs.declared.expressions.Operator.{Operator}
 use Rattle.pr_interpreter.specs.declared.expressions.Placed.{Placed}
@@ -11,18 +10,6 @@ some_of op = Some op
 
 abbrev pub none_of : Option Operator
 none_of = None
-
--- what is taken from the end of a list is the first of the list from behind
-pub popped : (xs ys : List Waiting) (w : Waiting) → xs ≡ ys ++ w ∷ [] → reverse xs ≡ w ∷ reverse ys
-popped xs ys w e = ap (λ (ws : List Waiting). reverse ws) e ∙ reverse-append ys (w ∷ [])
-
--- and if nothing is, both are none
-pub none_popped : (xs ys : List Waiting) (n : ℕ) → xs ≡ ys ++ [] → ys ≡ take (n - 1) xs → n ≡ 0
-    → (reverse xs ≡ []) × (reverse ys ≡ [])
-none_popped xs ys n same rest none =
-    let after : ys ≡ [] = rest ∙ ap (λ (m : ℕ). take (m - 1) xs) none in
-    let before : xs ≡ [] = same ∙ (append-nil ys ∙ after) in
-    (ap (λ (ws : List Waiting). reverse ws) before, ap (λ (ws : List Waiting). reverse ws) after)
 
 abbrev pub stacks_of : List Placed → List Waiting → Stacks
 stacks_of nodes waiting = record { nodes = nodes; waiting = waiting }

@@ -3,10 +3,10 @@ use Rattle.std.proofs.lemmas.List.{drop-drop, drop_all}
 use Rattle.std.proofs.lemmas.Bool.{false≢true, le-leb, ne_eqb}
 use Rattle.std.specs.Char.{to_ascii_uppercase}
 use Rattle.std.specs.List.{list_all}
-use Rattle.std.specs.Prelude.{nat_le, nat_lt}
+use Rattle.std.specs.Prelude.{nat_le}
 use Rattle.pr_listing.specs.Keywords.{keyword_of, keywords}
 use Rattle.pr_listing.specs.TokenNames.{token_name}
-use Rattle.pr_interpreter.specs.Symbols.{begins, first_token, front, items_size, placed, quoted_after, spelled, symbols, typed_token}
+use Rattle.pr_interpreter.specs.Symbols.{begins, first_token, front, placed, spelled, symbols, typed_token}
 use Rattle.pr_interpreter.specs.declared.symbols.Front.{Front}
 use Rattle.pr_interpreter.specs.declared.symbols.Keyword.{Keyword}
 use Rattle.pr_interpreter.specs.declared.symbols.Stored.{Stored}

@@ -13,7 +13,7 @@ use crate::names::Name;
 use std::alloc::{AllocError, Global};
 
 /// What waits until its operands end.
-#[derive(Clone, Copy, Debug)]
+#[derive(Clone, Copy)]
 pub enum Pending {
     /// A parenthesis.
     Group,
@@ -23,14 +23,14 @@ pub enum Pending {
 }
 
 /// What waits, and its place.
-#[derive(Clone, Copy, Debug)]
+#[derive(Clone, Copy)]
 pub struct Waiting {
     pub pending: Pending,
     pub place: usize,
 }
 
 /// What is expected next.
-#[derive(Clone, Copy, Debug)]
+#[derive(Clone, Copy)]
 pub enum Expected {
     /// An operand.
     Operand,
@@ -45,7 +45,7 @@ pub enum Expected {
 }
 
 /// What a lexeme does to the reading.
-#[derive(Clone, Copy, Debug)]
+#[derive(Clone, Copy)]
 pub enum Turn {
     Next(Expected),
     /// The expression has ended before the lexeme.

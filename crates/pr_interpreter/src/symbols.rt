@@ -27,7 +27,7 @@ pub enum Writing {
 }
 
 /// What the machine keeps of a part of a line.
-#[derive(Clone, Copy, Debug, PartialEq, Eq)]
+#[derive(Clone, Copy)]
 pub enum Stored {
     /// A keyword, by its token (128 to 203); or another byte, a letter as a capital (65 to 90). 0 stands for a byte
     /// that no line as typed has outside strings.
@@ -41,7 +41,7 @@ pub enum Stored {
 }
 
 /// A symbol of a line, and its place: the number of bytes before it in the text.
-#[derive(Clone, Copy, Debug, PartialEq, Eq)]
+#[derive(Clone, Copy)]
 pub struct Symbol {
     pub stored: Stored,
     pub place: usize,

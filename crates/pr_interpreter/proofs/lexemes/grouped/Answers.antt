@@ -1,4 +1,4 @@
-use Rattle.std.proofs.Common.{arith, rules}
+use Rattle.std.proofs.Common.{rules}
 use Rattle.std.proofs.lemmas.List.{take_rest}
 use Rattle.pr_interpreter.proofs.LexemeLemmas.{lexemes_all, lexemes_more}
 use Rattle.pr_interpreter.proofs.lexemes.grouped.Goals as goal

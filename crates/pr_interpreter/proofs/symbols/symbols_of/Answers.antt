@@ -1,4 +1,4 @@
-use Rattle.std.proofs.Common.{◌+◌, ◌≤◌, length, arith, rules}
+use Rattle.std.proofs.Common.{rules}
 use Rattle.std.proofs.lemmas.List.{take_rest}
 use Rattle.pr_interpreter.proofs.SymbolLemmas.{symbols_all, symbols_more}
 use Rattle.pr_interpreter.proofs.symbols.symbols_of.Goals as goal

@@ -1,4 +1,3 @@
-use Rattle.std.proofs.Common.{arith}
 use Rattle.pr_interpreter.proofs.SymbolLemmas.{keyword_some, no_token, token_is, token_is_not, token_start}
 use Rattle.pr_interpreter.proofs.symbols.typed_keyword.Goals as goal
 
