@@ -57,7 +57,7 @@ pub struct Placed {
 
 impl Operator {
     /// Returns how tightly it binds, from 1 for OR to 8 for a power.
-    pub fn precedence(self) -> u8
+    pub(crate) fn precedence(self) -> u8
         ensures { result ≡ precedence self }
     {
         match self {
@@ -91,7 +91,7 @@ pub fn operator_of(code: u8) -> Option<Operator>
 
 impl Callee {
     /// Returns how many arguments a call has at least.
-    pub fn least_count(self) -> u8
+    pub(crate) fn least_count(self) -> u8
         ensures { result ≡ least_count self }
     {
         match self {
@@ -101,7 +101,7 @@ impl Callee {
     }
 
     /// Returns how many arguments a call has at most.
-    pub fn greatest_count(self) -> u8
+    pub(crate) fn greatest_count(self) -> u8
         ensures { result ≡ greatest_count self }
     {
         match self {
