@@ -3,6 +3,7 @@ pub mod BitLemmas
 pub mod ConstantLemmas
 pub mod DecimalLemmas
 pub mod ExactLemmas
+pub mod ExpressionLawLemmas
 pub mod KeywordLemmas
 pub mod LexemeLemmas
 pub mod LineLawLemmas

@@ -1,5 +1,6 @@
 pub mod Constants
 pub mod Decimals
+pub mod ExpressionLaws
 pub mod Expressions
 pub mod LexemeLaws
 pub mod Lexemes
