@@ -1,12 +1,12 @@
-use Rattle.std.proofs.Common.{◌≡◌, ℕ, ◌+◌, ◌-◌, ◌<◌, ◌≤◌, ◌==◌, Bool, true, false, List, [], ◌∷◌, ◌++◌, if◌then◌else◌, arith, sym, refl, ap, ◌∙◌, Option, Some, None, Result, Ok, Err}
+use Rattle.std.proofs.Common.{◌≡◌, ℕ, ◌+◌, ◌-◌, ◌≤◌, ◌==◌, Bool, true, false, List, [], ◌∷◌, ◌++◌, if◌then◌else◌, arith, sym, refl, ap, ◌∙◌, Option, Some, None, Result, Ok, Err}
 use Rattle.std.proofs.lemmas.Bool.{false≢true, le-leb}
 use Rattle.std.specs.Option.{is_some, unwrap_or}
 use Rattle.std.specs.Prelude.{nat_le, nat_lt}
 use Rattle.std.specs.Result.{is_ok}
 use Rattle.pr_interpreter.specs.ExpressionLaws.{ExpressionsAreWhole, operands, takes, values_after}
-use Rattle.pr_interpreter.specs.Expressions.{Done, Next, Refused, Stacks, Turn, after_turn, bound, close_pending, close_turn, closing_code, comma_pending, comma_turn, end_of_operand, end_turn, expression, function_turn, greatest_count, is_function, least_count, name_end, nothing, opening_turn, opens, operand_code, operand_turn, operator_of, operator_or, operator_turn, own_turn, precedence, reading, settle, settled, turn, with_node, with_waiting}
+use Rattle.pr_interpreter.specs.Expressions.{Done, Next, Refused, Stacks, Turn, after_turn, bound, close_pending, close_turn, closing_code, comma_pending, comma_turn, end_of_operand, end_turn, expression, function_turn, greatest_count, is_function, least_count, nothing, opening_turn, opens, operand_code, operand_turn, operator_of, operator_or, operator_turn, own_turn, precedence, reading, settle, settled, turn, with_node, with_waiting}
 use Rattle.pr_interpreter.specs.declared.expressions.Callee.{Callee}
-use Rattle.pr_interpreter.specs.declared.expressions.Callee.TheVariants.{Array, Function, Own}
+use Rattle.pr_interpreter.specs.declared.expressions.Callee.TheVariants.{Array, Function}
 use Rattle.pr_interpreter.specs.declared.expressions.Node.{Node}
 use Rattle.pr_interpreter.specs.declared.expressions.Node.TheVariants.{Apply, Call, Number, Text, Variable}
 use Rattle.pr_interpreter.specs.declared.expressions.Operator.{Operator}
