@@ -1,10 +1,17 @@
 pub mod Constants
 pub mod Decimals
+pub mod ExpressionLaws
+pub mod Expressions
+pub mod LexemeLaws
+pub mod Lexemes
 pub mod LineLaws
 pub mod Lines
 pub mod Machine
 pub mod NumberLaws
 pub mod Numbers
+pub mod Numerals
 pub mod Printing
 pub mod PrintingLaws
+pub mod Reader
 pub mod Spans
+pub mod Symbols

@@ -20,4 +20,6 @@ pub enum ProgramFault {
     NoLineNumber(usize),
     /// At this place is a line number above 63999.
     LargeLineNumber(usize),
+    /// At this place is what no expression can have there: the machine reports `?SYNTAX ERROR`.
+    NoExpression(usize),
 }

@@ -2,6 +2,8 @@
 
 ghost use Rattle.pr_interpreter.specs.NumberLaws.{FormsAreKept, MagnitudesAreCertain, NegationIsCertain, OrdersAreCertain, ProductsAreCertain, QuotientsAreCertain, SumsAreCertain, WholeNumbersAreExact, WholesAreCertain};
 ghost use Rattle.pr_interpreter.specs.Constants.{ConstantsAreCertain};
+ghost use Rattle.pr_interpreter.specs.ExpressionLaws.{ExpressionsAreWhole};
+ghost use Rattle.pr_interpreter.specs.LexemeLaws.{KeywordsAreFound};
 ghost use Rattle.pr_interpreter.specs.LineLaws.{LinesAscend, TypedLinesCount};
 ghost use Rattle.pr_interpreter.specs.PrintingLaws.{DigitsAreCertain, WholeNumbersReadBack};
 
@@ -38,4 +40,14 @@ pub fn constants_are_certain()
 pub fn lines_are_sorted()
     ensures sorted { LinesAscend }
     ensures last { TypedLinesCount }
+{}
+
+/// A law: each keyword that is typed is found as itself; none hides behind an earlier one that begins alike.
+pub fn keywords_are_found()
+    ensures { KeywordsAreFound }
+{}
+
+/// A law: worked out from left to right, the nodes of an expression find the values that they take, and leave one.
+pub fn expressions_are_whole()
+    ensures { ExpressionsAreWhole }
 {}

@@ -15,6 +15,10 @@
 //! - `decimals` has the nine digits that are printed of a number, where they are certain, and `printing` their text;
 //!   `constants` has the value of a decimal constant.
 //! - `lines` has the numbered lines of a program's text, sorted.
+//! - `symbols` has the symbols of a line, keywords among them, and `lexemes` its lexemes: `names`, `numerals` with
+//!   constants, and `comparisons`. `specs/Symbols.antt` and `specs/Lexemes.antt` define them.
+//! - `expressions` has the nodes of expressions, and `reader` reads them from lexemes; `specs/Expressions.antt` defines
+//!   how.
 //! - `laws` has what is proved of the definitions: what the machine may answer to a calculation
 //!   (`specs/Machine.antt`) is in the number that the calculation gives, for all values in its operands; what is
 //!   printed of a number is so for each of its values; the lines of a text are sorted.
@@ -24,13 +28,11 @@
 //! **Values.** A value is a number or a string of at most 255 bytes. A variable has a name of at most two
 //! significant characters and a kind: number, whole number (`%`) or string (`$`); arrays are apart.
 //!
-//! **Expressions.** An expression is a tree, each node with its place (the number of bytes before it).
-//! Its definition is a recursion over the tree: `value_of : State → Expression → Result Value Stop`, where
-//! a stop is a fault of BASIC (an error with its line, which ends the run) or a refusal (`not certain`, or
-//! what is refused by name) with its place. A node takes its operands' values from left to right, and the
-//! first stop counts. A number goes into an index, `TAB`, `CHR$` or `ON` by [`floor`], and into a text by
-//! [`decimal_of`] and [`text_of`], which answer only if the whole span gives one answer. A constant is read into a
-//! [`Constant`]: its digits, and how often the machine may round on the way.
+//! **Expressions.** An expression is a list of nodes, each with its place (the number of bytes before it), operands
+//! before what takes them. Its value is a fold over the nodes with a stack of values, where a stop is a fault of BASIC
+//! (an error with its line, which ends the run) or a refusal (`not certain`, or what is refused by name) with its
+//! place: the first stop counts. A number goes into an index, `TAB`, `CHR$` or `ON` by [`floor`], and into a text by
+//! [`decimal_of`] and [`text_of`], which answer only if the whole span gives one answer.
 //!
 //! **Statements.** A state is the variables, the arrays, the loops and returns that are open (a stack), the
 //! place in DATA, the files, the column of the screen (known or not), and the place of the next statement.
@@ -46,25 +48,37 @@
 //! performs the same list, which follows by induction from the laws of numbers here.
 #![tactic(auto)]
 
+mod comparisons;
 mod constants;
 mod decimals;
+mod expressions;
 mod fault;
 pub mod laws;
+mod lexemes;
 mod lines;
+mod names;
 mod number;
+mod numerals;
 mod orders;
 mod printing;
+mod reader;
 mod span;
 mod sums;
+mod symbols;
 mod whole_numbers;
 
 pub use constants::{Constant, Tens, value_of};
 pub use decimals::{Decimal, Digits, ONES, decimal_of};
+pub use expressions::{Callee, Node, Operator, Placed};
 pub use fault::{NumberFault, ProgramFault};
+pub use lexemes::{Lexeme, Word, lexemes_of};
 pub use lines::{Line, lines_of};
+pub use names::{Kind, Name};
 pub use number::{Number, Sign, product, quotient};
 pub use orders::{Order, order_of};
 pub use printing::text_of;
+pub use reader::{Expression, read_expression};
 pub use span::{Span, answer};
 pub use sums::sum;
+pub use symbols::Writing;
 pub use whole_numbers::{Whole, floor};
