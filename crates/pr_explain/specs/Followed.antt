@@ -5,11 +5,13 @@ use Rattle.pr_wire.specs.declared.Edge.{Edge}
 use Rattle.pr_wire.specs.declared.Frame.{Frame}
 use Rattle.pr_wire.specs.declared.follower.TraceFollower.{TraceFollower}
 use Rattle.pr_wire.specs.Following.{HasAccepted}
-use Rattle.pr_wire.specs.Table.{IsAllowed, fault_of}
+use Rattle.pr_wire.specs.declared.rows.Row as table
+use Rattle.pr_wire.specs.Table.{IsAllowed, fault_of, latest_of}
 use Rattle.pr_basic.specs.declared.statement.Statement.{Statement}
 use Rattle.pr_explain.specs.declared.edges.Followed.{Followed}
 use Rattle.pr_explain.specs.declared.edges.Refused.{Refused}
 use Rattle.pr_explain.specs.declared.rows.Row.{Row}
+use Rattle.pr_explain.specs.Rows.{lies}
 use Rattle.pr_explain.specs.StopPlaces.{device_of}
 
 -- a row leads where another one does, or is none
@@ -17,6 +19,17 @@ abbrev pub KeepsLevels : Option Row → Option Row → Type 0
 KeepsLevels None r = Unit {0}
 KeepsLevels (Some n) None = ⊥
 KeepsLevels (Some n) (Some r) = n.levels ≡ r.levels
+
+-- a row leads where a row of the table does, or is none
+abbrev pub LeadsAs : Option Row → Option table.Row → Type 0
+LeadsAs None r = Unit {0}
+LeadsAs (Some n) None = ⊥
+LeadsAs (Some n) (Some r) = n.levels ≡ r.levels
+
+-- a row of the table takes an edge
+abbrev pub is_allowed : Option table.Row → Edge → Bool
+is_allowed None e = false
+is_allowed (Some r) e = lies r.levels (r.since + r.least) (latest_of r.latest) e
 
 -- a follower has accepted the edges before these, and refused none
 pub record HasFront (edges rest : List Edge) (f : TraceFollower) : Type 0 where

@@ -2,8 +2,9 @@
 
 ghost use Rattle.std.specs.Prelude.{◌≡◌, ◌++◌, length, IfOk, OnOk};
 ghost use Rattle.pr_exports.specs.Asked.{TellsDelays};
-ghost use Rattle.pr_exports.specs.EdgeDelays.{delay_at, delay_numbers, edge_delays, kind_at, kind_freed, kind_number, numbers_from, place_after, resting, since_of};
+ghost use Rattle.pr_exports.specs.EdgeDelays.{delay_at, delay_numbers, delay_of, edge_delays, kind_number, numbers_from, place_after, resting};
 ghost use Rattle.pr_exports.specs.Giving.{GivesDelays};
+ghost use Rattle.pr_wire.specs.Table.{row};
 ghost use Rattle.pr_exports.specs.Settings.{source_of};
 
 use crate::answer::{Answer, TextGiven, give, made_of, numbered, refused};
@@ -11,7 +12,7 @@ use crate::settings::{input_for, source_for};
 use pr_capture::TraceInput;
 use pr_explain::read_input;
 use pr_jobs::CliFault;
-use pr_wire::{BusState, ByteRole, Edge, EdgeError, Kind, Levels, NoMemory};
+use pr_wire::{BusState, Edge, EdgeError, Kind, Levels, NoMemory};
 use std::alloc::Global;
 
 /// A delay that an edge ends.
@@ -40,59 +41,6 @@ struct Stepped {
     place: Option<Place>,
 }
 
-/// The kind of the delay that an edge to these levels ends at a place; `None` for a rest.
-fn kind_at(state: &BusState, levels: Levels) -> Option<Kind>
-    ensures { result ≡ kind_at state.now levels }
-{
-    match state {
-        BusState::Idle(_) => None,
-        BusState::Call(_, _) => Some(if levels.clock { Kind::Aw } else { Kind::At }),
-        BusState::Ready(_, _) => Some(Kind::H),
-        BusState::Free(_, _) => Some(if levels.clock { Kind::Ye } else { Kind::Ne }),
-        BusState::Pulse(_, _) => Some(Kind::Ei),
-        BusState::After(_) => Some(Kind::Ry),
-        BusState::Bit { .. } => Some(Kind::S),
-        BusState::High { .. } => Some(Kind::V),
-        BusState::Last(_, _, _, _) => Some(Kind::F),
-        BusState::Ack(_, ByteRole::First, _) => Some(if levels.atn { Kind::R } else { Kind::Aw }),
-        BusState::Ack(_, ByteRole::Second, _) => Some(Kind::R),
-        BusState::Ack(_, ByteRole::Data, _) => Some(Kind::Bb),
-        BusState::Freed { unlistened, .. } => Some(kind_freed(*unlistened, levels)),
-    }
-}
-
-/// The same where ATN is released after an attention.
-fn kind_freed(unlistened: bool, levels: Levels) -> Kind
-    ensures { result ≡ kind_freed unlistened levels }
-{
-    if levels.atn && !levels.clock {
-        Kind::Dr
-    } else if unlistened {
-        Kind::Cr
-    } else {
-        Kind::Bb
-    }
-}
-
-/// Since when the delay at a place counts.
-fn since_of(state: &BusState) -> u64
-    ensures { result ≡ since_of state.now }
-{
-    match state {
-        BusState::Idle(since) => *since,
-        BusState::Call(since, _) => *since,
-        BusState::Ready(since, _) => *since,
-        BusState::Free(since, _) => *since,
-        BusState::Pulse(since, _) => *since,
-        BusState::After(since) => *since,
-        BusState::Bit { since, .. } => *since,
-        BusState::High { since, .. } => *since,
-        BusState::Last(since, _, _, _) => *since,
-        BusState::Ack(since, _, _) => *since,
-        BusState::Freed { since, .. } => *since,
-    }
-}
-
 /// The place at which the table begins: after an edge with which all lines are released.
 fn resting(edge: Edge) -> Option<Place>
     ensures { result ≡ resting edge }
@@ -119,27 +67,34 @@ fn step(place: Option<Place>, edge: Edge) -> Stepped
             place: resting(edge),
         };
     };
-    let delay = Delay {
-        kind: kind_at(&place.state, edge.levels),
-        since: since_of(&place.state),
-    };
     match place.state.after(place.last, edge) {
         Ok(step) => Stepped {
-            delay: Some(delay),
+            delay: delay_of(&place.state, edge),
             place: Some(Place {
                 last: edge,
                 state: step.place,
             }),
         },
-        Err(EdgeError::TooEarly | EdgeError::TooLate) => Stepped {
-            delay: Some(delay),
-            place: resting(edge),
-        },
-        Err(EdgeError::Order | EdgeError::Shape) => Stepped {
+        Err(EdgeError::Order) => Stepped {
             delay: None,
             place: resting(edge),
         },
+        Err(_) => Stepped {
+            delay: delay_of(&place.state, edge),
+            place: resting(edge),
+        },
     }
+}
+
+/// The delay of an edge's row, if it has one.
+fn delay_of(state: &BusState, edge: Edge) -> Option<Delay>
+    ensures { result ≡ delay_of (row state.now edge.time edge.levels.atn edge.levels.clock edge.levels.line) }
+{
+    let row = state.row(edge)?;
+    Some(Delay {
+        kind: row.ends,
+        since: row.since,
+    })
 }
 
 /// A kind by its place among the bounds that [`crate::print1525_bounds`] gives; 14 for a rest.

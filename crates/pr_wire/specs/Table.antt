@@ -1,5 +1,5 @@
--- Trusted: the table of lawful traces: which edge may follow at each place, when, and the place
--- that it reaches; and the first fault of a list of edges. `Pieces` says what lawful means; the
+-- Trusted: the table of lawful traces: which edge may follow at each place, when, which delay it
+-- ends, and the place that it reaches; and the first fault of a list of edges. `Pieces` says what lawful means; the
 -- table only decides which fault is first. Both have the intervals as numbers, since each is read
 -- against the profile. The code has each as the bounds of its kind of delay, except that DATA may
 -- answer in the microsecond of the look, and the end of a pulse (450).
@@ -13,24 +13,23 @@ use Rattle.pr_wire.specs.declared.bus_state.ByteRole.TheVariants.{First, Second,
 use Rattle.pr_wire.specs.declared.WaveFault.{WaveFault}
 use Rattle.pr_wire.specs.declared.WaveFault.TheVariants as fault
 use Rattle.pr_wire.specs.declared.bus_state.Step.{Step}
+use Rattle.pr_wire.specs.declared.rows.Row.{Row}
+use Rattle.pr_wire.specs.declared.delay.Kind.{Kind}
+use Rattle.pr_wire.specs.declared.delay.Kind.TheVariants as kind
 use Rattle.pr_wire.specs.declared.bus_state.EdgeError.{EdgeError}
 use Rattle.pr_wire.specs.declared.bus_state.EdgeError.TheVariants.{Order, TooEarly, TooLate, Shape}
 use Rattle.pr_wire.specs.declared.bus_state.BusState.{BusState}
 use Rattle.pr_wire.specs.declared.bus_state.BusState.TheVariants.{Idle, Call, Ready, Free, Pulse, After, Bit, High, Last, Ack, Freed}
 use Rattle.pr_wire.specs.Levels.{byte_of}
 
--- a row of the table: the first and the last moment allowed, the place reached, and the frame that the edge ends
-pub record Row : Type 0 where
-  pub earliest : ℕ
-  pub latest : Option ℕ
-  pub place : BusState
-  pub frame : Option Frame
+-- the levels of ATN, CLOCK and DATA
+abbrev pub levels_at : Bool → Bool → Bool → Levels
+levels_at x c l = record { atn = x; clock = c; line = l }
 
-abbrev pub within : ℕ → ℕ → BusState → Option Row
-within low high p = Some (record { earliest = low; latest = Some high; place = p; frame = None })
-
-abbrev pub from : ℕ → BusState → Option Row
-from low p = Some (record { earliest = low; latest = None; place = p; frame = None })
+-- the row of an edge to these levels that ends a delay of this kind, at least and at most so long after a moment
+abbrev pub within : Kind → Levels → ℕ → ℕ → ℕ → BusState → Row
+within k l m low high p =
+    record { levels = l; ends = Some k; since = m; least = low; latest = Some (m, high); place = p; frame = None }
 
 -- ATN's level while a byte is sent
 abbrev pub atn_of : ByteRole → Bool
@@ -43,65 +42,91 @@ abbrev pub same : Bool → Bool → Bool
 same true b = b
 same false b = not b
 
--- the row, only if a test holds
-abbrev pub where_true : Bool → Option Row → Option Row
-where_true true r = r
-where_true false r = None
-
 -- the frame of a byte that was sent
 abbrev pub frame_of : ByteRole → Bool → List Bool → Frame
 frame_of s eoi bits = record { attention = not (atn_of s); byte = byte_of bits; eoi = eoi }
 
+-- the row of a pull of CLOCK that brings a bit
+abbrev pub pull_of : Kind → ℕ → ℕ → ℕ → ByteRole → Bool → List Bool → Bool → ℕ → Row
+pull_of k m low high s eoi seen b t = within k (levels_at (atn_of s) false b) m low high (Bit t s eoi seen b)
+
+abbrev one : Row → List (Option Row)
+one r = Some r ∷ None ∷ None ∷ []
+
+abbrev two : Row → Row → List (Option Row)
+two r q = Some r ∷ Some q ∷ None ∷ []
+
+abbrev three : Row → Row → Row → List (Option Row)
+three r q p = Some r ∷ Some q ∷ Some p ∷ []
+
+-- the rows of the table at a place: at most three, each to the place that its edge reaches at this moment
+abbrev pub rows : BusState → ℕ → List (Option Row)
+rows (Idle i) t = one (record {
+  levels = levels_at false false true;
+  ends = None;
+  since = i;
+  least = 100;
+  latest = None;
+  place = Call t false;
+  frame = None;
+})
+rows (Call a false) t = three (within kind.At (levels_at false false false) a 1 1000 (Call a true))
+    (within kind.Aw (levels_at false true false) a 1000 1000 (Ready t First))
+    (within kind.Aw (levels_at true true true) a 1000 2000 (Idle t))
+rows (Call a true) t = one (within kind.Aw (levels_at false true false) a 1000 2000 (Ready t First))
+rows (Ready l s) t = one (within kind.H (levels_at (atn_of s) true true) l 1 10000 (Free t s))
+rows (Free d Data) t = three (pull_of kind.Ne d 1 199 Data false [] false t) (pull_of kind.Ne d 1 199 Data false [] true t)
+    (within kind.Ye (levels_at true true false) d 200 250 (Pulse t d))
+rows (Free d s) t = two (pull_of kind.Ne d 1 199 s false [] false t) (pull_of kind.Ne d 1 199 s false [] true t)
+rows (Pulse p d) t = one (record {
+  levels = levels_at true true true;
+  ends = Some kind.Ei;
+  since = p;
+  least = 80;
+  latest = Some (d, 450);
+  place = After t;
+  frame = None;
+})
+rows (After q) t = two (pull_of kind.Ry q 1 60 Data true [] false t) (pull_of kind.Ry q 1 60 Data true [] true t)
+rows (Bit c s eoi seen b) t = one (within kind.S (levels_at (atn_of s) true b) c 20 200 (High t s eoi seen b))
+rows (High u s eoi seen b) t =
+    if nat_lt (length seen) 7
+    then two (pull_of kind.V u 20 200 s eoi (seen ++ b ∷ []) false t) (pull_of kind.V u 20 200 s eoi (seen ++ b ∷ []) true t)
+    else (if length seen == 7
+    then one (within kind.V (levels_at (atn_of s) false true) u 20 200 (Last t s eoi (seen ++ b ∷ [])))
+    else None ∷ None ∷ None ∷ [])
+rows (Last z s eoi seen) t = one (record {
+  levels = levels_at (atn_of s) false false;
+  ends = Some kind.F;
+  since = z;
+  least = 1;
+  latest = Some (z, 80);
+  place = Ack t s (byte_of seen);
+  frame = Some (frame_of s eoi seen);
+})
+rows (Ack k First byte) t = two (within kind.Aw (levels_at false true false) k 1000 2000 (Ready t Second))
+    (within kind.R (levels_at true false false) k 100 200 (Freed t (byte == command.unlisten) false))
+rows (Ack k Second byte) t = one (within kind.R (levels_at true false false) k 100 200 (Freed t (byte == command.unlisten) false))
+rows (Ack k Data byte) t = two (within kind.Bb (levels_at true true false) k 100 1000 (Ready t Data))
+    (within kind.Bb (levels_at false false false) k 100 1000 (Call t true))
+rows (Freed r true false) t = one (within kind.Dr (levels_at true false true) r 1 60 (Freed r true true))
+rows (Freed r true true) t = one (within kind.Cr (levels_at true true true) r 100 200 (Idle t))
+rows (Freed r false false) t = three (within kind.Dr (levels_at true false true) r 1 60 (Freed r false true))
+    (within kind.Bb (levels_at true true false) r 100 1000 (Ready t Data))
+    (within kind.Bb (levels_at false false false) r 100 1000 (Call t true))
+rows (Freed r false true) t = two (within kind.Bb (levels_at true true true) r 100 1000 (Idle t))
+    (within kind.Bb (levels_at false false true) r 100 1000 (Call t false))
+
+-- the row to these levels of ATN, CLOCK and DATA, if there is one
+abbrev pub row_to : Bool → Bool → Bool → List (Option Row) → Option Row
+row_to x c l [] = None
+row_to x c l (None ∷ more) = row_to x c l more
+row_to x c l (Some r ∷ more) =
+    if same r.levels.clock c && (same r.levels.line l && same x r.levels.atn) then Some r else row_to x c l more
+
 -- the row of the table for an edge, with its moment and its levels of ATN, CLOCK and DATA
 abbrev pub row : BusState → ℕ → Bool → Bool → Bool → Option Row
-row (Idle i) t false false true = from (i + 100) (Call t false)
-row (Idle i) t _ _ _ = None
-row (Call a false) t false false false = within (a + 1) (a + 1000) (Call a true)
-row (Call a false) t false true false = within (a + 1000) (a + 1000) (Ready t First)
-row (Call a false) t true true true = within (a + 1000) (a + 2000) (Idle t)
-row (Call a false) t _ _ _ = None
-row (Call a true) t false true false = within (a + 1000) (a + 2000) (Ready t First)
-row (Call a true) t _ _ _ = None
-row (Ready l s) t x true true = where_true (same x (atn_of s)) (within (l + 1) (l + 10000) (Free t s))
-row (Ready l s) t _ _ _ = None
-row (Free d s) t x false b = where_true (same x (atn_of s)) (within (d + 1) (d + 199) (Bit t s false [] b))
-row (Free d Data) t true true false = within (d + 200) (d + 250) (Pulse t d)
-row (Free d s) t _ _ _ = None
-row (Pulse p d) t true true true =
-    Some (record { earliest = p + 80; latest = Some (d + 450); place = After t; frame = None })
-row (Pulse p d) t _ _ _ = None
-row (After q) t true false b = within (q + 1) (q + 60) (Bit t Data true [] b)
-row (After q) t _ _ _ = None
-row (Bit c s eoi seen b) t x true b' =
-    where_true (same x (atn_of s) && same b b') (within (c + 20) (c + 200) (High t s eoi seen b))
-row (Bit c s eoi seen b) t _ _ _ = None
-row (High u s eoi seen b) t x false b' =
-    where_true (same x (atn_of s)) (if nat_lt (length seen) 7
-    then within (u + 20) (u + 200) (Bit t s eoi (seen ++ b ∷ []) b')
-    else where_true (b' && length seen == 7) (within (u + 20) (u + 200) (Last t s eoi (seen ++ b ∷ []))))
-row (High u s eoi seen b) t _ _ _ = None
-row (Last z s eoi seen) t x false false =
-    where_true (same x (atn_of s))
-    (Some (record {
-      earliest = z + 1;
-      latest = Some (z + 80);
-      place = Ack t s (byte_of seen);
-      frame = Some (frame_of s eoi seen);
-    }))
-row (Last z s eoi seen) t _ _ _ = None
-row (Ack k First byte) t false true false = within (k + 1000) (k + 2000) (Ready t Second)
-row (Ack k First byte) t true false false = within (k + 100) (k + 200) (Freed t (byte == command.unlisten) false)
-row (Ack k Second byte) t true false false = within (k + 100) (k + 200) (Freed t (byte == command.unlisten) false)
-row (Ack k Data byte) t true true false = within (k + 100) (k + 1000) (Ready t Data)
-row (Ack k Data byte) t false false false = within (k + 100) (k + 1000) (Call t true)
-row (Ack k s byte) t _ _ _ = None
-row (Freed r unlisten false) t true false true = within (r + 1) (r + 60) (Freed r unlisten true)
-row (Freed r true true) t true true true = within (r + 100) (r + 200) (Idle t)
-row (Freed r false false) t true true false = within (r + 100) (r + 1000) (Ready t Data)
-row (Freed r false false) t false false false = within (r + 100) (r + 1000) (Call t true)
-row (Freed r false true) t true true true = within (r + 100) (r + 1000) (Idle t)
-row (Freed r false true) t false false true = within (r + 100) (r + 1000) (Call t false)
-row (Freed r unlisten line) t _ _ _ = None
+row p t x c l = row_to x c l (rows p t)
 
 -- the places at which a trace may end: Idle, after an attention whose last command was not
 -- UNLISTEN, and after a data byte
@@ -120,13 +145,18 @@ abbrev pub is_late : ℕ → Option ℕ → Bool
 is_late t None = false
 is_late t (Some high) = nat_lt high t
 
+-- the last moment allowed
+abbrev pub latest_of : Option (ℕ × ℕ) → Option ℕ
+latest_of None = None
+latest_of (Some m) = Some (m.0 + m.1)
+
 -- the result of an edge at a moment, for its row: the place reached and the frame that it ends, or
 -- what is wrong with it
 abbrev pub timed : ℕ → Option Row → Result Step EdgeError
 timed t None = Err Shape
 timed t (Some r) =
-    if nat_lt t r.earliest then Err TooEarly
-    else (if is_late t r.latest then Err TooLate else Ok (record { place = r.place; frame = r.frame }))
+    if nat_lt t (r.since + r.least) then Err TooEarly
+    else (if is_late t (latest_of r.latest) then Err TooLate else Ok (record { place = r.place; frame = r.frame }))
 
 -- the result of an edge at a place, for its row
 abbrev pub by_row : BusState → Edge → Result Step EdgeError

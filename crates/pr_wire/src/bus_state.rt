@@ -3,15 +3,15 @@
 ghost use Rattle.std.specs.Prelude.{◌≡◌, ◌+◌, ◌<◌, ◌&&◌, ◌++◌, ◌∷◌, [], nat_lt, length, Bool, List, Ok, Err, IfOk, IfErr, OnErr};
 ghost use Rattle.pr_wire.specs.Delays.{bounds_of};
 ghost use Rattle.pr_wire.specs.PlaceSteps.{FindsAs};
-ghost use Rattle.pr_wire.specs.Table.{timed, within, by_row, atn_of, may_end, verdict, fault_at, differ};
+ghost use Rattle.pr_wire.specs.Table.{timed, within, levels_at, by_row, row, atn_of, may_end, verdict, fault_at, differ};
 
 use crate::bits::Bits;
-use crate::delay::{Kind, answer_bounds, bounds};
+use crate::delay::{Kind, bounds};
+use crate::rows::{Row, row_to};
 use crate::{Edge, Frame, WaveFault};
-use pr_base::UNLISTEN;
 
 /// The index of a byte's last bit, the highest.
-const LAST_BIT: usize = 7;
+pub const LAST_BIT: usize = 7;
 
 /// Which byte is sent.
 #[derive(Clone, Copy, Debug, PartialEq, Eq)]
@@ -109,184 +109,19 @@ fn comes_after(last: Edge, edge: Edge) -> bool
     last.time < edge.time && !(old.clock == new.clock && old.line == new.line && old.atn == new.atn)
 }
 
-/// Whether a moment comes so long after another, both ends included.
-fn in_time(time: u64, since: u64, least: u64, greatest: u64) -> Result<(), EdgeError>
-    requires { 0 < least }
-    ensures { (place : BusState) → FindsAs result place (timed time (within (since + least) (since + greatest) place)) }
-{
-    let passed = time.saturating_sub(since);
-    if passed < least {
-        Err(EdgeError::TooEarly)
-    } else if passed > greatest {
-        Err(EdgeError::TooLate)
-    } else {
-        Ok(())
-    }
-}
-
 /// Whether a moment comes a delay of this kind after another.
 fn in_time_by(time: u64, since: u64, kind: Kind) -> Result<(), EdgeError>
     ensures { (place : BusState) →
-        FindsAs result place (timed time (within (since + (bounds_of kind).0) (since + (bounds_of kind).2) place)) }
+        FindsAs result place (timed time (within kind (levels_at true true true) since (bounds_of kind).0 (bounds_of kind).2 place)) }
 {
     let (least, _, greatest) = bounds(kind);
-    in_time(time, since, u64::from(least), u64::from(greatest))
-}
-
-/// What an edge comes to that is to come so long after a moment, both ends included.
-fn reach(
-    time: u64,
-    since: u64,
-    least: u64,
-    greatest: u64,
-    place: BusState,
-) -> Result<Step, EdgeError>
-    requires { 0 < least }
-    ensures { result ≡ timed time (within (since + least) (since + greatest) place) }
-{
-    in_time(time, since, least, greatest)?;
-    Ok(Step { place, frame: None })
-}
-
-/// What an edge comes to that is to come a delay of this kind after a moment.
-fn reach_by(time: u64, since: u64, kind: Kind, place: BusState) -> Result<Step, EdgeError>
-    ensures { result ≡ timed time (within (since + (bounds_of kind).0) (since + (bounds_of kind).2) place) }
-{
-    in_time_by(time, since, kind)?;
-    Ok(Step { place, frame: None })
-}
-
-fn after_idle(since: u64, edge: Edge) -> Result<Step, EdgeError>
-    ensures { result ≡ by_row (BusState.Idle since) edge }
-{
-    match (edge.levels.atn, edge.levels.clock, edge.levels.line) {
-        (false, false, true) => {
-            let (least, _, _) = bounds(Kind::Bb);
-            if edge.time.saturating_sub(since) < u64::from(least) {
-                return Err(EdgeError::TooEarly);
-            }
-            Ok(Step {
-                place: BusState::Call(edge.time, false),
-                frame: None,
-            })
-        }
-        _ => Err(EdgeError::Shape),
-    }
-}
-
-fn after_call(since: u64, pulled: bool, edge: Edge) -> Result<Step, EdgeError>
-    ensures { result ≡ by_row (BusState.Call since pulled) edge }
-{
-    let time = edge.time;
-    match (pulled, edge.levels.atn, edge.levels.clock, edge.levels.line) {
-        (false, false, false, false) => {
-            reach_by(time, since, Kind::At, BusState::Call(since, true))
-        }
-        (false, false, true, false) => {
-            let (least, _, _) = bounds(Kind::Aw);
-            let look = u64::from(least);
-            reach(
-                time,
-                since,
-                look,
-                look,
-                BusState::Ready(time, ByteRole::First),
-            )
-        }
-        (false, true, true, true) => reach_by(time, since, Kind::Aw, BusState::Idle(time)),
-        (true, false, true, false) => {
-            reach_by(
-                time,
-                since,
-                Kind::Aw,
-                BusState::Ready(time, ByteRole::First),
-            )
-        }
-        _ => Err(EdgeError::Shape),
-    }
-}
-
-fn after_ready(since: u64, sending: ByteRole, edge: Edge) -> Result<Step, EdgeError>
-    ensures { result ≡ by_row (BusState.Ready since sending) edge }
-{
-    let levels = edge.levels;
-    if levels.atn == sending.atn() && levels.clock && levels.line {
-        reach_by(
-            edge.time,
-            since,
-            Kind::H,
-            BusState::Free(edge.time, sending),
-        )
-    } else {
-        Err(EdgeError::Shape)
-    }
-}
-
-fn after_free(since: u64, sending: ByteRole, edge: Edge) -> Result<Step, EdgeError>
-    ensures { result ≡ by_row (BusState.Free since sending) edge }
-{
-    let levels = edge.levels;
-    if levels.atn != sending.atn() {
-        return Err(EdgeError::Shape);
-    }
-    match (sending, levels.clock, levels.line) {
-        (_, false, bit) => {
-            let place = BusState::Bit {
-                since: edge.time,
-                sending,
-                eoi: false,
-                seen: Bits::new(),
-                bit,
-            };
-            reach_by(edge.time, since, Kind::Ne, place)
-        }
-        (ByteRole::Data, true, false) => {
-            reach_by(
-                edge.time,
-                since,
-                Kind::Ye,
-                BusState::Pulse(edge.time, since),
-            )
-        }
-        _ => Err(EdgeError::Shape),
-    }
-}
-
-fn after_pulse(since: u64, free: u64, edge: Edge) -> Result<Step, EdgeError>
-    ensures { result ≡ by_row (BusState.Pulse since free) edge }
-{
-    let levels = edge.levels;
-    let (least, _, _) = bounds(Kind::Ei);
-    let (_, latest) = answer_bounds();
-    if !(levels.atn && levels.clock && levels.line) {
-        Err(EdgeError::Shape)
-    } else if edge.time.saturating_sub(since) < u64::from(least) {
+    let passed = time.saturating_sub(since);
+    if passed < u64::from(least) {
         Err(EdgeError::TooEarly)
-    } else if edge.time.saturating_sub(free) > latest {
+    } else if passed > u64::from(greatest) {
         Err(EdgeError::TooLate)
     } else {
-        Ok(Step {
-            place: BusState::After(edge.time),
-            frame: None,
-        })
-    }
-}
-
-fn after_answer(since: u64, edge: Edge) -> Result<Step, EdgeError>
-    ensures { result ≡ by_row (BusState.After since) edge }
-{
-    let levels = edge.levels;
-    if levels.atn && !levels.clock {
-        let place = BusState::Bit {
-            since: edge.time,
-            sending: ByteRole::Data,
-            eoi: true,
-            seen: Bits::new(),
-            bit: levels.line,
-        };
-        reach_by(edge.time, since, Kind::Ry, place)
-    } else {
-        Err(EdgeError::Shape)
+        Ok(())
     }
 }
 
@@ -315,158 +150,6 @@ fn falls(since: u64, sending: ByteRole, edge: Edge) -> Result<(), EdgeError>
         in_time_by(edge.time, since, Kind::V)
     } else {
         Err(EdgeError::Shape)
-    }
-}
-
-fn after_bit(
-    since: u64,
-    sending: ByteRole,
-    eoi: bool,
-    seen: &Bits,
-    bit: bool,
-    edge: Edge,
-) -> Result<Step, EdgeError>
-    ensures { result ≡ by_row (BusState.Bit since sending eoi seen.now bit) edge }
-{
-    rises(since, sending, bit, edge)?;
-    Ok(Step {
-        place: BusState::High {
-            since: edge.time,
-            sending,
-            eoi,
-            seen: seen.copied(),
-            bit,
-        },
-        frame: None,
-    })
-}
-
-fn after_high(
-    since: u64,
-    sending: ByteRole,
-    eoi: bool,
-    seen: &Bits,
-    bit: bool,
-    edge: Edge,
-) -> Result<Step, EdgeError>
-    ensures { result ≡ by_row (BusState.High since sending eoi seen.now bit) edge }
-{
-    let levels = edge.levels;
-    if seen.len() < LAST_BIT {
-        falls(since, sending, edge)?;
-        Ok(Step {
-            place: BusState::Bit {
-                since: edge.time,
-                sending,
-                eoi,
-                seen: seen.with(bit),
-                bit: levels.line,
-            },
-            frame: None,
-        })
-    } else if levels.atn == sending.atn()
-        && !levels.clock
-        && levels.line
-        && seen.len() == LAST_BIT
-    {
-        let place = BusState::Last(edge.time, sending, eoi, seen.with(bit));
-        reach_by(edge.time, since, Kind::V, place)
-    } else {
-        Err(EdgeError::Shape)
-    }
-}
-
-fn after_last(
-    since: u64,
-    sending: ByteRole,
-    eoi: bool,
-    seen: &Bits,
-    edge: Edge,
-) -> Result<Step, EdgeError>
-    ensures { result ≡ by_row (BusState.Last since sending eoi seen.now) edge }
-{
-    let levels = edge.levels;
-    if levels.atn != sending.atn() || levels.clock || levels.line {
-        return Err(EdgeError::Shape);
-    }
-    let byte = seen.byte();
-    let acknowledged = BusState::Ack(edge.time, sending, byte);
-    let step = reach_by(edge.time, since, Kind::F, acknowledged)?;
-    let frame = Frame {
-        attention: !sending.atn(),
-        byte,
-        eoi,
-    };
-    Ok(Step {
-        place: step.place,
-        frame: Some(frame),
-    })
-}
-
-fn after_ack(since: u64, sending: ByteRole, byte: u8, edge: Edge) -> Result<Step, EdgeError>
-    ensures { result ≡ by_row (BusState.Ack since sending byte) edge }
-{
-    let time = edge.time;
-    match (
-        sending,
-        edge.levels.atn,
-        edge.levels.clock,
-        edge.levels.line,
-    ) {
-        (ByteRole::First, false, true, false) => {
-            reach_by(
-                time,
-                since,
-                Kind::Aw,
-                BusState::Ready(time, ByteRole::Second),
-            )
-        }
-        (ByteRole::First | ByteRole::Second, true, false, false) => {
-            reach_by(
-                time,
-                since,
-                Kind::R,
-                BusState::Freed {
-                    since: time,
-                    unlistened: byte == UNLISTEN,
-                    data_released: false,
-                },
-            )
-        }
-        (ByteRole::Data, true, true, false) => {
-            reach_by(time, since, Kind::Bb, BusState::Ready(time, ByteRole::Data))
-        }
-        (ByteRole::Data, false, false, false) => {
-            reach_by(time, since, Kind::Bb, BusState::Call(time, true))
-        }
-        _ => Err(EdgeError::Shape),
-    }
-}
-
-fn after_freed(since: u64, unlisten: bool, released: bool, edge: Edge) -> Result<Step, EdgeError>
-    ensures { result ≡ by_row (BusState.Freed since unlisten released) edge }
-{
-    let time = edge.time;
-    match (edge.levels.atn, edge.levels.clock, edge.levels.line) {
-        (true, false, true) if !released => {
-            let place = BusState::Freed {
-                since,
-                unlistened: unlisten,
-                data_released: true,
-            };
-            reach_by(time, since, Kind::Dr, place)
-        }
-        (true, true, true) if released => {
-            let kind = if unlisten { Kind::Cr } else { Kind::Bb };
-            reach_by(time, since, kind, BusState::Idle(time))
-        }
-        (true, true, false) if !unlisten && !released => {
-            reach_by(time, since, Kind::Bb, BusState::Ready(time, ByteRole::Data))
-        }
-        (false, false, line) if !unlisten && line == released => {
-            reach_by(time, since, Kind::Bb, BusState::Call(time, !released))
-        }
-        _ => Err(EdgeError::Shape),
     }
 }
 
@@ -546,40 +229,20 @@ impl BusState {
         }
     }
 
+    /// The row of the table for an edge, if it has one. It takes no memory.
+    pub fn row(&self, edge: Edge) -> Option<Row>
+        ensures { result ≡ row self.now edge.time edge.levels.atn edge.levels.clock edge.levels.line }
+    {
+        row_to(edge.levels, self.rows(edge.time))
+    }
+
     /// What an edge comes to here by its row of the table.
     fn by_row(&self, edge: Edge) -> Result<Step, EdgeError>
         ensures { result ≡ by_row self.now edge }
     {
-        match self {
-            BusState::Idle(since) => after_idle(*since, edge),
-            BusState::Call(since, pulled) => after_call(*since, *pulled, edge),
-            BusState::Ready(since, sending) => after_ready(*since, *sending, edge),
-            BusState::Free(since, sending) => after_free(*since, *sending, edge),
-            BusState::Pulse(since, free) => after_pulse(*since, *free, edge),
-            BusState::After(since) => after_answer(*since, edge),
-            BusState::Bit {
-                since,
-                sending,
-                eoi,
-                seen,
-                bit,
-            } => { after_bit(*since, *sending, *eoi, seen, *bit, edge) }
-            BusState::High {
-                since,
-                sending,
-                eoi,
-                seen,
-                bit,
-            } => { after_high(*since, *sending, *eoi, seen, *bit, edge) }
-            BusState::Last(since, sending, eoi, seen) => {
-                after_last(*since, *sending, *eoi, seen, edge)
-            }
-            BusState::Ack(since, sending, byte) => after_ack(*since, *sending, *byte, edge),
-            BusState::Freed {
-                since,
-                unlistened,
-                data_released,
-            } => { after_freed(*since, *unlistened, *data_released, edge) }
+        match self.row(edge) {
+            Some(row) => row.step(edge.time),
+            None => Err(EdgeError::Shape),
         }
     }
 
