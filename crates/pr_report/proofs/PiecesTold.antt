@@ -11,7 +11,10 @@ use Rattle.pr_wire.specs.declared.bus_state.BusState.{BusState}
 use Rattle.pr_wire.specs.declared.bus_state.BusState.TheVariants.{Idle, Call, Ready, Free, Bit, Last, Ack, Freed}
 use Rattle.pr_wire.specs.declared.bus_state.Step.{Step}
 use Rattle.pr_wire.specs.Levels.{edge_at, byte_of, start}
-use Rattle.pr_wire.specs.Table.{Row, row, atn_of, differ, is_late, same, timed, verdict, where_true}
+use Rattle.pr_wire.specs.declared.delay.Kind.{Kind}
+use Rattle.pr_wire.specs.declared.delay.Kind.TheVariants.{Ne, Ry, V}
+use Rattle.pr_wire.specs.declared.rows.Row.{Row}
+use Rattle.pr_wire.specs.Table.{row, row_to, pull_of, answer_of, latest_of, atn_of, differ, is_late, same, timed, verdict}
 use Rattle.pr_wire.specs.Pieces.{IsWithin, BitTimes, EoiAnswer, FrameTimes, Ending, SecondFrame, Between, Piece, last_pull, AreClocked, IsFrame, levels_of, byte_sent, bit_edges, frame_edges, IsAnswered, IsSecond, last_ack, last_byte, AreReleased, IsEnded, IsPiece, after_lines, after_ending, after_piece, AreLawful, call_edge, answer_edges, second_edges, line_edges, clock_edges, ending_edges, piece_edges, edges_of}
 use Rattle.pr_wire.specs.Pieces.Between.{Resting, Held, Loose}
 use Rattle.pr_wire.specs.Pieces.Piece.{Unanswered, Attention, DataByte, Dropped}
@@ -34,7 +37,7 @@ Emits (Some f) (g ∷ fs) next = (g ≡ f) × next fs
 -- an edge has its row, and the rest goes on from there, after the last look
 abbrev FitsRow : ℕ → Option Row → ℕ → List TimedFrame → (BusState → ℕ → List TimedFrame → Type 0) → Type 0
 FitsRow look None t fs next = ⊥
-FitsRow look (Some r) t fs next = (r.earliest ≤ t) × IsInTime t r.latest × Emits (with_moments look r.frame r.place) fs (next r.place (look_with look r.place))
+FitsRow look (Some r) t fs next = (r.since + r.least ≤ t) × IsInTime t (latest_of r.latest) × Emits (with_moments look r.frame r.place) fs (next r.place (look_with look r.place))
 
 -- from a place on, after a look and an edge, the edges are allowed and end the frames
 abbrev Tells : ℕ → Edge → BusState → List Edge → List TimedFrame → Type 0
@@ -45,24 +48,31 @@ Tells look last p (e ∷ es) fs =
 
 -- a row under a test that holds
 fits_where : (look : ℕ) (b : Bool) (r : Option Row) (t : ℕ) (fs : List TimedFrame) (next : BusState → ℕ → List TimedFrame → Type 0)
-    → b ≡ true → FitsRow look r t fs next → FitsRow look (where_true b r) t fs next
+    → b ≡ true → FitsRow look r t fs next → FitsRow look (cond b r None) t fs next
 fits_where look true r t fs next h w = w
 fits_where look false r t fs next h w = absurd (let k : false ≡ true = h in cc)
 
--- a row chosen by a test
-fits_then : (look : ℕ) (b : Bool) (r q : Option Row) (t : ℕ) (fs : List TimedFrame) (next : BusState → ℕ → List TimedFrame → Type 0)
-    → b ≡ true → FitsRow look r t fs next → FitsRow look (cond b r q) t fs next
-fits_then look true r q t fs next h w = w
-fits_then look false r q t fs next h w = absurd (let k : false ≡ true = h in cc)
+-- a row among rows chosen by a test
+fits_then : (look : ℕ) (b : Bool) (rs qs : List (Option Row)) (x c l : Bool) (t : ℕ) (fs : List TimedFrame) (next : BusState → ℕ → List TimedFrame → Type 0)
+    → b ≡ true → FitsRow look (row_to x c l rs) t fs next → FitsRow look (row_to x c l (cond b rs qs)) t fs next
+fits_then look true rs qs x c l t fs next h w = w
+fits_then look false rs qs x c l t fs next h w = absurd (let k : false ≡ true = h in cc)
 
-fits_else : (look : ℕ) (b : Bool) (r q : Option Row) (t : ℕ) (fs : List TimedFrame) (next : BusState → ℕ → List TimedFrame → Type 0)
-    → b ≡ false → FitsRow look q t fs next → FitsRow look (cond b r q) t fs next
-fits_else look false r q t fs next h w = w
-fits_else look true r q t fs next h w = absurd (let k : true ≡ false = h in cc)
+fits_else : (look : ℕ) (b : Bool) (rs qs : List (Option Row)) (x c l : Bool) (t : ℕ) (fs : List TimedFrame) (next : BusState → ℕ → List TimedFrame → Type 0)
+    → b ≡ false → FitsRow look (row_to x c l qs) t fs next → FitsRow look (row_to x c l (cond b rs qs)) t fs next
+fits_else look false rs qs x c l t fs next h w = w
+fits_else look true rs qs x c l t fs next h w = absurd (let k : true ≡ false = h in cc)
 
 same-self : (x : Bool) → same x x ≡ true
 same-self true = refl
 same-self false = refl
+
+-- a pull of CLOCK has the row of its bit, of the two
+fits-pull : (look : ℕ) (k : Kind) (m low high : ℕ) (s : ByteRole) (eoi : Bool) (seen : List Bool) (b : Bool) (u : ℕ) (more : List (Option Row)) (t : ℕ) (fs : List TimedFrame) (next : BusState → ℕ → List TimedFrame → Type 0)
+    → FitsRow look (Some (pull_of k m low high s eoi seen b u)) t fs next
+    → FitsRow look (row_to (atn_of s) false b (Some (pull_of k m low high s eoi seen false u) ∷ Some (pull_of k m low high s eoi seen true u) ∷ more)) t fs next
+fits-pull look k m low high s eoi seen false u more t fs next w = rw (same-self (atn_of s)) w
+fits-pull look k m low high s eoi seen true u more t fs next w = rw (same-self (atn_of s)) w
 
 same-selves : (x b : Bool) → (same x x && same b b) ≡ true
 same-selves true true = refl
@@ -82,28 +92,28 @@ bits-told : (look : ℕ) (s : ByteRole) (eoi : Bool) (seen : List Bool) (c : ℕ
 bits-told look s eoi seen c b [] tail fs h n w = (
   omega arith,
   refl,
-  fits_where _ _ _ _ _ _ (same-selves (atn_of s) b.level) (
+  fits_where _ _ _ _ _ _ (same-selves b.level (atn_of s)) (
     omega arith,
     omega arith,
     (
       omega arith,
       refl,
-      fits_where _ _ _ _ _ _ (same-self (atn_of s))
-          (fits_else _ _ _ _ _ _ _ (le-ltb (length seen) 7 (omega arith)) (fits_where _ _ _ _ _ _ (eq-eqb (length seen) 7 (omega arith)) (omega arith, omega arith, w))),
+      fits_else _ _ _ _ _ _ _ _ _ _ (le-ltb (length seen) 7 (omega arith))
+          (fits_then _ _ _ _ _ _ _ _ _ _ (eq-eqb (length seen) 7 (omega arith)) (fits_where _ _ _ _ _ _ (same-self (atn_of s)) (omega arith, omega arith, w))),
     ),
   ),
 )
 bits-told look s eoi seen c b (b' ∷ bs) tail fs h n w = (
   omega arith,
   refl,
-  fits_where _ _ _ _ _ _ (same-selves (atn_of s) b.level) (
+  fits_where _ _ _ _ _ _ (same-selves b.level (atn_of s)) (
     omega arith,
     omega arith,
     (
       omega arith,
       refl,
-      fits_where _ _ _ _ _ _ (same-self (atn_of s))
-          (fits_then _ _ _ _ _ _ _ (lt-ltb (length seen) 7 (omega arith)) (
+      fits_then _ _ _ _ _ _ _ _ _ _ (lt-ltb (length seen) 7 (omega arith))
+          (fits-pull _ V b.up 20 200 s eoi (seen ++ b.level ∷ []) b'.level b.down (None ∷ []) _ _ _ (
             omega arith,
             omega arith,
             bits-told look s eoi (seen ++ b.level ∷ []) b.down b' bs tail fs h.2
@@ -117,9 +127,7 @@ bits-told look s eoi seen c b (b' ∷ bs) tail fs h n w = (
 pull-told : (look : ℕ) (s : ByteRole) (pull free : ℕ) (b : Bool) (es : List Edge) (fs : List TimedFrame) → IsWithin pull (free + 1) (free + 199)
     → Tells look (edge_at pull (atn_of s) false b) (Bit pull s false [] b) es fs
     → FitsRow look (row (Free free s) pull (atn_of s) false b) pull fs (λ q n gs. Tells n (edge_at pull (atn_of s) false b) q es gs)
-pull-told look First pull free b es fs h v = (omega arith, omega arith, v)
-pull-told look Second pull free b es fs h v = (omega arith, omega arith, v)
-pull-told look Data pull free b es fs h v = (omega arith, omega arith, v)
+pull-told look s pull free b es fs h v = fits-pull look Ne free 1 199 s false [] b pull (answer_of s free pull ∷ []) pull fs _ (omega arith, omega arith, v)
 
 -- the bits of a frame and its acknowledgement, from the pull that brings the first bit
 pulled-told : (look : ℕ) (s : ByteRole) (eoi : Bool) (c : ℕ) (bits : List BitTimes) (ack : ℕ) (tail : List Edge) (fs : List TimedFrame) (last : Edge) (place : BusState)
@@ -177,7 +185,7 @@ eoi-told look free p pull bits ack tail fs h w = (
             omega arith,
             omega arith,
             pulled-told look Data true pull bits ack tail fs _ _ h.clocked h.eight h.ack
-                (λ b es v. (omega arith, refl, (omega arith, omega arith, v))) w,
+                (λ b es v. (omega arith, refl, fits-pull look Ry p.released 1 60 Data true [] b pull (None ∷ []) pull _ _ (omega arith, omega arith, v))) w,
           ),
         ),
       ),
@@ -355,14 +363,14 @@ fits look (Some r) t fs next h = by (with_moments look r.frame r.place) refl fs 
     by None k fs e = record {
       step = record { place = r.place; frame = r.frame };
       after = fs;
-      is = rw (le-ltb t r.earliest h.0, in_time t r.latest h.1) refl;
+      is = rw (le-ltb t (r.since + r.least) h.0, in_time t (latest_of r.latest) h.1) refl;
       frames = rw k refl;
       goes_on = e;
     }
     by (Some f) k (g ∷ gs) e = record {
       step = record { place = r.place; frame = r.frame };
       after = gs;
-      is = rw (le-ltb t r.earliest h.0, in_time t r.latest h.1) refl;
+      is = rw (le-ltb t (r.since + r.least) h.0, in_time t (latest_of r.latest) h.1) refl;
       frames = rw (k, e.0) refl;
       goes_on = e.1;
     }

@@ -10,7 +10,6 @@ use Rattle.pr_wire.specs.declared.WaveFault.{WaveFault}
 use Rattle.pr_wire.specs.declared.WaveFault.TheVariants.{Start}
 use Rattle.pr_wire.specs.declared.bus_state.EdgeError.{EdgeError}
 use Rattle.pr_wire.specs.declared.bus_state.EdgeError.TheVariants.{Order, TooEarly, TooLate}
-use Rattle.pr_wire.specs.Levels.{byte_of}
 use Rattle.pr_wire.specs.declared.bus_state.ByteRole.{ByteRole}
 use Rattle.pr_wire.specs.declared.bus_state.ByteRole.TheVariants.{First, Second, Data}
 use Rattle.pr_wire.specs.declared.bus_state.BusState.{BusState}
@@ -18,7 +17,8 @@ use Rattle.pr_wire.specs.declared.bus_state.BusState.TheVariants.{Idle, Call, Re
 use Rattle.pr_wire.specs.declared.bus_state.Step.{Step}
 use Rattle.pr_wire.specs.Laws.{SpellsTheFramesReached}
 use Rattle.pr_wire.specs.Reached.{Reached, add, begin, indexed, led, onto, reached, step_of}
-use Rattle.pr_wire.specs.Table.{Row, by_row, differ, frame_of, is_late, is_start, row, timed, verdict, where_true}
+use Rattle.pr_wire.specs.declared.rows.Row.{Row}
+use Rattle.pr_wire.specs.Table.{by_row, differ, is_late, is_start, latest_of, row, row_to, rows, timed, verdict}
 use Rattle.pr_report.specs.declared.timed_frame.TimedFrame.{TimedFrame}
 use Rattle.pr_report.specs.StoryLaws.{MoreEdgesAddFrames, TracesTellWhatTheySpell}
 use Rattle.pr_report.specs.Moments.{frame_told, look_with, with_moments}
@@ -42,83 +42,53 @@ record IsTold (o : Option Row) : Type 0 where
 none : IsTold None
 none = record { told = λ look. refl }
 
-plain : (earliest : ℕ) (latest : Option ℕ) (p : BusState) → IsTold (Some (record { earliest = earliest; latest = latest; place = p; frame = None }))
-plain earliest latest p = record { told = λ look. refl }
-
--- the row of an acknowledgement
-acked : (z t : ℕ) (s : ByteRole) (eoi : Bool) (seen : List Bool)
-    → IsTold (Some (record { earliest = z + 1; latest = Some (z + 80); place = Ack t s (byte_of seen); frame = Some (frame_of s eoi seen) }))
-acked z t s eoi seen = record { told = λ look. refl }
-
--- a row under a test
-where-told : (b : Bool) (o : Option Row) → IsTold o → IsTold (where_true b o)
-where-told true o h = h
-where-told false o h = none
+plain : (r : Row) → r.frame ≡ None → IsTold (Some r)
+plain r h = record { told = λ look. rw h refl }
 
 -- a row chosen by a test
 cond-told : (b : Bool) (o q : Option Row) → IsTold o → IsTold q → IsTold (cond b o q)
 cond-told true o q h k = h
 cond-told false o q h k = k
 
--- what holds of all levels
-each : (P : Bool → Bool → Bool → Type 0)
-    → P true true true → P true true false → P true false true → P true false false
-    → P false true true → P false true false → P false false true → P false false false
-    → (a c l : Bool) → P a c l
-each P ttt ttf tft tff ftt ftf fft fff true true true = ttt
-each P ttt ttf tft tff ftt ftf fft fff true true false = ttf
-each P ttt ttf tft tff ftt ftf fft fff true false true = tft
-each P ttt ttf tft tff ftt ftf fft fff true false false = tff
-each P ttt ttf tft tff ftt ftf fft fff false true true = ftt
-each P ttt ttf tft tff ftt ftf fft fff false true false = ftf
-each P ttt ttf tft tff ftt ftf fft fff false false true = fft
-each P ttt ttf tft tff ftt ftf fft fff false false false = fff
+-- the frames of some rows
+abbrev AreTold : List (Option Row) → Type 0
+AreTold [] = Unit {0}
+AreTold (o ∷ os) = IsTold o × AreTold os
+
+-- the row to some levels, of rows
+found-told : (rs : List (Option Row)) (a c l : Bool) → AreTold rs → IsTold (row_to a c l rs)
+found-told [] a c l h = none
+found-told (None ∷ rs) a c l h = found-told rs a c l h.1
+found-told (Some r ∷ rs) a c l h = cond-told _ _ _ h.0 (found-told rs a c l h.1)
+
+-- the rows after a bit, by how many have come
+high-told : (b d : Bool) (rs qs os : List (Option Row)) → AreTold rs → AreTold qs → AreTold os → AreTold (cond b rs (cond d qs os))
+high-told true d rs qs os h k m = h
+high-told false true rs qs os h k m = k
+high-told false false rs qs os h k m = m
 
 -- the frame of each row of the table is its timed frame without the moments
-row-told : (p : BusState) (t : ℕ) (a c l : Bool) → IsTold (row p t a c l)
-row-told (Idle i) t a c l = each (λ x y z. IsTold (row (Idle i) t x y z)) none none none none none none (plain _ _ _) none a c l
-row-told (Call k false) t a c l =
-    each (λ x y z. IsTold (row (Call k false) t x y z)) (plain _ _ _) none none none none (plain _ _ _) none (plain _ _ _) a c l
-row-told (Call k true) t a c l = each (λ x y z. IsTold (row (Call k true) t x y z)) none none none none none (plain _ _ _) none none a c l
-row-told (Ready k s) t a c l =
-    each (λ x y z. IsTold (row (Ready k s) t x y z))
-    (where-told _ _ (plain _ _ _)) none none none (where-told _ _ (plain _ _ _)) none none none a c l
-row-told (Free d First) t a c l =
-    each (λ x y z. IsTold (row (Free d First) t x y z)) none none none none none none (plain _ _ _) (plain _ _ _) a c l
-row-told (Free d Second) t a c l =
-    each (λ x y z. IsTold (row (Free d Second) t x y z)) none none none none none none (plain _ _ _) (plain _ _ _) a c l
-row-told (Free d Data) t a c l =
-    each (λ x y z. IsTold (row (Free d Data) t x y z)) none (plain _ _ _) (plain _ _ _) (plain _ _ _) none none none none a c l
-row-told (Pulse p d) t a c l = each (λ x y z. IsTold (row (Pulse p d) t x y z)) (plain _ _ _) none none none none none none none a c l
-row-told (After q) t a c l = each (λ x y z. IsTold (row (After q) t x y z)) none none (plain _ _ _) (plain _ _ _) none none none none a c l
-row-told (Bit k s eoi seen b) t a c l =
-    each (λ x y z. IsTold (row (Bit k s eoi seen b) t x y z))
-    (where-told _ _ (plain _ _ _)) (where-told _ _ (plain _ _ _)) none none
-    (where-told _ _ (plain _ _ _)) (where-told _ _ (plain _ _ _)) none none a c l
-row-told (High u s eoi seen b) t a c l =
-    each (λ x y z. IsTold (row (High u s eoi seen b) t x y z))
-    none none
-    (where-told _ _ (cond-told _ _ _ (plain _ _ _) (where-told _ _ (plain _ _ _)))) (where-told _ _ (cond-told _ _ _ (plain _ _ _) none))
-    none none
-    (where-told _ _ (cond-told _ _ _ (plain _ _ _) (where-told _ _ (plain _ _ _)))) (where-told _ _ (cond-told _ _ _ (plain _ _ _) none))
-    a c l
-row-told (Last z s eoi seen) t a c l =
-    each (λ x y z'. IsTold (row (Last z s eoi seen) t x y z'))
-    none none none (where-told _ _ (acked z t s eoi seen)) none none none (where-told _ _ (acked z t s eoi seen)) a c l
-row-told (Ack k First byte) t a c l =
-    each (λ x y z. IsTold (row (Ack k First byte) t x y z)) none none none (plain _ _ _) none (plain _ _ _) none none a c l
-row-told (Ack k Second byte) t a c l =
-    each (λ x y z. IsTold (row (Ack k Second byte) t x y z)) none none none (plain _ _ _) none none none none a c l
-row-told (Ack k Data byte) t a c l =
-    each (λ x y z. IsTold (row (Ack k Data byte) t x y z)) none (plain _ _ _) none none none none none (plain _ _ _) a c l
-row-told (Freed r true false) t a c l =
-    each (λ x y z. IsTold (row (Freed r true false) t x y z)) none none (plain _ _ _) none none none none none a c l
-row-told (Freed r false false) t a c l =
-    each (λ x y z. IsTold (row (Freed r false false) t x y z)) none (plain _ _ _) (plain _ _ _) none none none none (plain _ _ _) a c l
-row-told (Freed r true true) t a c l =
-    each (λ x y z. IsTold (row (Freed r true true) t x y z)) (plain _ _ _) none none none none none none none a c l
-row-told (Freed r false true) t a c l =
-    each (λ x y z. IsTold (row (Freed r false true) t x y z)) (plain _ _ _) none none none none none (plain _ _ _) none a c l
+rows-told : (p : BusState) (t : ℕ) → AreTold (rows p t)
+rows-told (Idle i) t = (plain _ refl, none, none, tt)
+rows-told (Call k false) t = (plain _ refl, plain _ refl, plain _ refl, tt)
+rows-told (Call k true) t = (plain _ refl, none, none, tt)
+rows-told (Ready k s) t = (plain _ refl, none, none, tt)
+rows-told (Free d First) t = (plain _ refl, plain _ refl, none, tt)
+rows-told (Free d Second) t = (plain _ refl, plain _ refl, none, tt)
+rows-told (Free d Data) t = (plain _ refl, plain _ refl, plain _ refl, tt)
+rows-told (Pulse p d) t = (plain _ refl, none, none, tt)
+rows-told (After q) t = (plain _ refl, plain _ refl, none, tt)
+rows-told (Bit k s eoi seen b) t = (plain _ refl, none, none, tt)
+rows-told (High u s eoi seen b) t =
+    high-told _ _ _ _ _ (plain _ refl, plain _ refl, none, tt) (plain _ refl, none, none, tt) (none, none, none, tt)
+rows-told (Last z s eoi seen) t = (record { told = λ look. refl }, none, none, tt)
+rows-told (Ack k First byte) t = (plain _ refl, plain _ refl, none, tt)
+rows-told (Ack k Second byte) t = (plain _ refl, none, none, tt)
+rows-told (Ack k Data byte) t = (plain _ refl, plain _ refl, none, tt)
+rows-told (Freed r true false) t = (plain _ refl, none, none, tt)
+rows-told (Freed r false false) t = (plain _ refl, plain _ refl, plain _ refl, tt)
+rows-told (Freed r true true) t = (plain _ refl, none, none, tt)
+rows-told (Freed r false true) t = (plain _ refl, plain _ refl, none, tt)
 
 -- the frame of a step is its timed frame without the moments
 abbrev StepTold : Step → Type 0
@@ -131,7 +101,7 @@ step_by early late r = if early then Err TooEarly else (if late then Err TooLate
 -- the step of a row
 timed-told : (t : ℕ) (o : Option Row) (s : Step) → IsTold o → timed t o ≡ Ok s → StepTold s
 timed-told t None s h k = absurd (cc)
-timed-told t (Some r) s h k = by (nat_lt t r.earliest) (is_late t r.latest) k
+timed-told t (Some r) s h k = by (nat_lt t (r.since + r.least)) (is_late t (latest_of r.latest)) k
   where
     by : (early late : Bool) → step_by early late r ≡ Ok s → StepTold s
     by true late k = absurd (cc)
@@ -146,7 +116,7 @@ verdict-told : (last : Edge) (p : BusState) (e : Edge) (s : Step) → verdict la
 verdict-told last p e s h = by (nat_lt last.time e.time && differ last.levels e.levels) h
   where
     by : (b : Bool) → (if b then by_row p e else Err Order) ≡ Ok s → StepTold s
-    by true k = timed-told e.time (row p e.time e.levels.atn e.levels.clock e.levels.line) s (row-told p e.time e.levels.atn e.levels.clock e.levels.line) k
+    by true k = timed-told e.time (row p e.time e.levels.atn e.levels.clock e.levels.line) s (found-told (rows p e.time) e.levels.atn e.levels.clock e.levels.line (rows-told p e.time)) k
     by false k = absurd (cc)
 
 -- the first step, by whether the first edge is the start

@@ -11,7 +11,8 @@ use Rattle.pr_wire.specs.declared.bus_state.Step.{Step}
 use Rattle.pr_wire.specs.declared.bus_state.BusState.{BusState}
 use Rattle.pr_wire.specs.declared.bus_state.BusState.TheVariants.{Idle}
 use Rattle.pr_wire.specs.Levels.{start, edge_at}
-use Rattle.pr_wire.specs.Table.{Row, row, differ, is_late, timed, fault_or, fault_from, fault_of, fault_at, may_end, is_start}
+use Rattle.pr_wire.specs.declared.rows.Row.{Row}
+use Rattle.pr_wire.specs.Table.{latest_of, row, differ, is_late, timed, fault_or, fault_from, fault_of, fault_at, may_end, is_start}
 use Rattle.pr_wire.specs.Pieces.{edges_of, frames_of, IsLawful, Spells}
 use Rattle.pr_wire.specs.Pieces.Between.{Resting}
 use Rattle.pr_wire.proofs.Walk.{Walks, FitsRow, Emits, IsInTime, both-true}
@@ -52,10 +53,10 @@ fits : (o : Option Row) (t n : ℕ) (next : Step → Option WaveFault) (goes : B
     → (fs : List Frame) × FitsRow o t fs goes
 fits None t n next goes h k = absurd (let e : Some (fault_at Shape n) ≡ None = h in cc)
 fits (Some r) t n next goes h k =
-    let a = passed (ltb t r.earliest) _ _ n next h in
-    let b = passed (is_late t r.latest) _ _ n next a.1 in
+    let a = passed (ltb t (r.since + r.least)) _ _ n next h in
+    let b = passed (is_late t (latest_of r.latest)) _ _ n next a.1 in
     let g = k (record { place = r.place; frame = r.frame }) b.1 in
-    (emit r.frame g.0, (ltb-false t r.earliest a.0, not_late t r.latest b.0, emit-emits r.frame g.0 (goes r.place) g.1))
+    (emit r.frame g.0, (ltb-false t (r.since + r.least) a.0, not_late t (latest_of r.latest) b.0, emit-emits r.frame g.0 (goes r.place) g.1))
 
 -- edges without a fault walk, and spell something
 pub walk-of_fault : (es : List Edge) (n : ℕ) (last : Edge) (p : BusState) → fault_from n last p es ≡ None → (fs : List Frame) × Walks last p es fs
@@ -74,7 +75,7 @@ no_fault : (o : Option Row) (t n : ℕ) (fs : List Frame) (next : Step → Optio
     → FitsRow o t fs goes → ((q : BusState) (f : Option Frame) (gs : List Frame) → goes q gs → next (record { place = q; frame = f }) ≡ None) → fault_or (timed t o) n next ≡ None
 no_fault None t n fs next goes h k = absurd h
 no_fault (Some r) t n fs next goes h k =
-    rw (le-ltb t r.earliest h.0, in_time t r.latest h.1) (from-emits r.frame fs h.2)
+    rw (le-ltb t (r.since + r.least) h.0, in_time t (latest_of r.latest) h.1) (from-emits r.frame fs h.2)
   where
     from-emits : (f : Option Frame) (fs : List Frame) → Emits f fs (goes r.place) → next (record { place = r.place; frame = r.frame }) ≡ None
     from-emits None fs h = k r.place r.frame fs h

@@ -10,12 +10,14 @@ use Rattle.pr_wire.specs.declared.bus_state.ByteRole.TheVariants.{First, Second,
 use Rattle.pr_wire.specs.declared.bus_state.BusState.{BusState}
 use Rattle.pr_wire.specs.declared.bus_state.BusState.TheVariants.{Idle, Call, Ready, Free, Pulse, After, Bit, High, Last, Ack, Freed}
 use Rattle.pr_wire.specs.Levels.{edge_at, byte_of}
-use Rattle.pr_wire.specs.Table.{row, atn_of, frame_of, same, may_end}
+use Rattle.pr_wire.specs.declared.delay.Kind.TheVariants.{Ne, Ry, V}
+use Rattle.pr_wire.specs.declared.rows.Row.{Row}
+use Rattle.pr_wire.specs.Table.{row_to, answer_of, pull_of, atn_of, frame_of, same, may_end}
 use Rattle.pr_wire.specs.Pieces.{IsWithin, BitTimes, EoiAnswer, FrameTimes, Ending, SecondFrame, Between, last_pull, AreClocked, IsOpened, IsFrame, levels_of, byte_sent, has_pulse, frame_sent, bit_edges, pulse_edges, frame_edges, IsCalled, IsAnswered, IsReleased, IsSecond, last_ack, last_byte, AreReleased, IsEnded, after_lines, after_ending, call_edge, answer_edges, second_edges, line_edges, clock_edges, ending_edges, edges_of, second_frames}
 use Rattle.pr_wire.specs.Pieces.Between.{Resting, Held, Loose}
 use Rattle.pr_wire.specs.Pieces.Piece.{Unanswered, Attention, DataByte, Dropped}
 use Rattle.pr_wire.specs.Reached.{Onwards}
-use Rattle.pr_wire.proofs.Walk.{Walks, FitsRow, where_fits, same-eq, both-true, cond_fits}
+use Rattle.pr_wire.proofs.Walk.{Walks, FitsRow, where_fits, same-eq, both-true, cond_fits, pull-fits}
 
 -- the rest is an attention's end, and whole pieces
 pub record Ends (byte k : ℕ) (es : List Edge) (fs : List Frame) : Type 0 where
@@ -286,9 +288,9 @@ first-bit s eoi t x b es fs e h = record {
 
 step-idle : (last : Edge) (i t : ℕ) (x c d : Bool) (es : List Edge) (fs : List Frame) → Next (edge_at t x c d) es → Walks last (Idle i) (edge_at t x c d ∷ es) fs → Rest last (Idle i) (edge_at t x c d ∷ es) fs
 step-idle last i t false false true es fs next w = called-piece (Resting i) t es fs tt w.2.0 (next (Call t false) fs w.2.2)
-step-idle last i t true c d es fs next w = absurd w.2
-step-idle last i t false true d es fs next w = absurd w.2
-step-idle last i t false false false es fs next w = absurd w.2
+step-idle last i t x true d es fs next w = absurd w.2
+step-idle last i t x false false es fs next w = absurd w.2
+step-idle last i t true false true es fs next w = absurd w.2
 
 step-call : (last : Edge) (a : ℕ) (pulled : Bool) (t : ℕ) (x c d : Bool) (es : List Edge) (fs : List Frame) → Next (edge_at t x c d) es → Walks last (Call a pulled) (edge_at t x c d ∷ es) fs → Rest last (Call a pulled) (edge_at t x c d ∷ es) fs
 step-call last a false t false false false es fs next w =
@@ -318,15 +320,15 @@ step-call last a false t false true false es fs next w =
     }
 step-call last a false t true true true es fs next w =
     inl record { release = t; tail = es; ended = record { from = w.2.0; to = w.2.1 }; edges = refl; onwards = next (Idle t) fs w.2.2 }
-step-call last a false t false false true es fs next w = absurd w.2
-step-call last a false t false true true es fs next w = absurd w.2
-step-call last a false t true false d es fs next w = absurd w.2
+step-call last a false t x false true es fs next w = absurd w.2
+step-call last a false t true false false es fs next w = absurd w.2
 step-call last a false t true true false es fs next w = absurd w.2
+step-call last a false t false true true es fs next w = absurd w.2
 step-call last a true t false true false es fs next w =
     record { look = t; tail = es; looked = record { from = w.2.0; to = w.2.1 }; later = w.0; edges = refl; ready = next (Ready t First) fs w.2.2 }
-step-call last a true t true c d es fs next w = absurd w.2
-step-call last a true t false false d es fs next w = absurd w.2
-step-call last a true t false true true es fs next w = absurd w.2
+step-call last a true t x false d es fs next w = absurd w.2
+step-call last a true t x true true es fs next w = absurd w.2
+step-call last a true t true true false es fs next w = absurd w.2
 
 put-together : {A : Type 0} (p b : List A) (a : A) (t : List A) → p ++ (b ++ (a ∷ t)) ≡ ((p ++ b) ++ (a ∷ [])) ++ t
 put-together p b a t = simp append_assoc
@@ -355,10 +357,16 @@ step-ready last l s t x true false es fs next w = absurd w.2
 plain-free : (d t : ℕ) (s : ByteRole) (x b : Bool) (es : List Edge) (fs : List Frame) → x ≡ atn_of s → IsWithin t (d + 1) (d + 199) → AtBit t s false [] b es fs → AtFree d s (edge_at t x false b ∷ es) fs
 plain-free d t s x b es fs e h k = record { pulse = None; pull = t; tail = edge_at t x false b ∷ es; opened = h; edges = refl; pulled = first-bit s false t x b es fs e k }
 
+-- no answer to end-or-identify pulls CLOCK
+no-answer : (s : ByteRole) (d t : ℕ) (x b : Bool) → row_to x false b (answer_of s d t ∷ []) ≡ None
+no-answer First d t x b = refl
+no-answer Second d t x b = refl
+no-answer Data d t x b = refl
+
 step-free : (last : Edge) (f : ℕ) (s : ByteRole) (t : ℕ) (x c d : Bool) (es : List Edge) (fs : List Frame) → Next (edge_at t x c d) es → Walks last (Free f s) (edge_at t x c d ∷ es) fs → Rest last (Free f s) (edge_at t x c d ∷ es) fs
-step-free last f First t false false d es fs next w = plain-free f t First false d es fs refl (record { from = w.2.0; to = w.2.1 }) (next (Bit t First false [] d) fs w.2.2)
-step-free last f Second t false false d es fs next w = plain-free f t Second false d es fs refl (record { from = w.2.0; to = w.2.1 }) (next (Bit t Second false [] d) fs w.2.2)
-step-free last f Data t true false d es fs next w = plain-free f t Data true d es fs refl (record { from = w.2.0; to = w.2.1 }) (next (Bit t Data false [] d) fs w.2.2)
+step-free last f s t x false d es fs next w =
+    let v = pull-fits Ne f 1 199 s false [] x d t (answer_of s f t ∷ []) t fs _ (no-answer s f t x d) w.2 in
+    plain-free f t s x d es fs (same-eq x (atn_of s) v.0) (record { from = v.1.0; to = v.1.1 }) (next (Bit t s false [] d) fs v.1.2)
 step-free last f Data t true true false es fs next w =
     let h : AtPulse t f es fs = next (Pulse t f) fs w.2.2 in
     record {
@@ -369,36 +377,22 @@ step-free last f Data t true true false es fs next w =
       edges = rw h.edges refl;
       pulled = h.after.pulled;
     }
-step-free last f First t true false d es fs next w = absurd w.2
-step-free last f Second t true false d es fs next w = absurd w.2
-step-free last f Data t false false d es fs next w = absurd w.2
-step-free last f Data t false true d es fs next w = absurd w.2
-step-free last f Data t true true true es fs next w = absurd w.2
-step-free last f First t x true d es fs next w = absurd (elim-free x d w.2)
-  where
-    elim-free : (x d : Bool) → FitsRow (row (Free f First) t x true d) t fs (λ q gs. Walks (edge_at t x true d) q es gs) → ⊥
-    elim-free true true v = v
-    elim-free true false v = v
-    elim-free false true v = v
-    elim-free false false v = v
-step-free last f Second t x true d es fs next w = absurd (elim-free x d w.2)
-  where
-    elim-free : (x d : Bool) → FitsRow (row (Free f Second) t x true d) t fs (λ q gs. Walks (edge_at t x true d) q es gs) → ⊥
-    elim-free true true v = v
-    elim-free true false v = v
-    elim-free false true v = v
-    elim-free false false v = v
+step-free last f First t x true d es fs next w = absurd w.2
+step-free last f Second t x true d es fs next w = absurd w.2
+step-free last f Data t false true false es fs next w = absurd w.2
+step-free last f Data t x true true es fs next w = absurd w.2
 
 step-pulse : (last : Edge) (p f : ℕ) (t : ℕ) (x c d : Bool) (es : List Edge) (fs : List Frame) → Next (edge_at t x c d) es → Walks last (Pulse p f) (edge_at t x c d ∷ es) fs → Rest last (Pulse p f) (edge_at t x c d ∷ es) fs
 step-pulse last p f t true true true es fs next w = record { released = t; tail = es; is_released = record { from = w.2.0; to = w.2.1 }; edges = refl; after = next (After t) fs w.2.2 }
-step-pulse last p f t false c d es fs next w = absurd w.2
-step-pulse last p f t true false d es fs next w = absurd w.2
-step-pulse last p f t true true false es fs next w = absurd w.2
+step-pulse last p f t x false d es fs next w = absurd w.2
+step-pulse last p f t x true false es fs next w = absurd w.2
+step-pulse last p f t false true true es fs next w = absurd w.2
 
 step-after : (last : Edge) (q : ℕ) (t : ℕ) (x c d : Bool) (es : List Edge) (fs : List Frame) → Next (edge_at t x c d) es → Walks last (After q) (edge_at t x c d ∷ es) fs → Rest last (After q) (edge_at t x c d ∷ es) fs
-step-after last q t true false d es fs next w = record { pull = t; opened = record { from = w.2.0; to = w.2.1 }; pulled = first-bit Data true t true d es fs refl (next (Bit t Data true [] d) fs w.2.2) }
-step-after last q t false c d es fs next w = absurd w.2
-step-after last q t true true d es fs next w = absurd w.2
+step-after last q t x false d es fs next w =
+    let v = pull-fits Ry q 1 60 Data true [] x d t (None ∷ []) t fs _ refl w.2 in
+    record { pull = t; opened = record { from = v.1.0; to = v.1.1 }; pulled = first-bit Data true t x d es fs (same-eq x true v.0) (next (Bit t Data true [] d) fs v.1.2) }
+step-after last q t x true d es fs next w = absurd w.2
 
 bit-of : (c t : ℕ) (s : ByteRole) (eoi : Bool) (seen : List Bool) (b b' x : Bool) (es : List Edge) (fs : List Frame) → x ≡ atn_of s → b ≡ b' → IsWithin t (c + 20) (c + 200)
     → AtHigh t s eoi seen b es fs → AtBit c s eoi seen b (edge_at t x true b' ∷ es) fs
@@ -422,9 +416,9 @@ bit-of c t s eoi seen b b' x es fs e g k h = record {
 step-bit : (last : Edge) (k : ℕ) (s : ByteRole) (eoi : Bool) (seen : List Bool) (b : Bool) (t : ℕ) (x c d : Bool) (es : List Edge) (fs : List Frame) → Next (edge_at t x c d) es
     → Walks last (Bit k s eoi seen b) (edge_at t x c d ∷ es) fs → Rest last (Bit k s eoi seen b) (edge_at t x c d ∷ es) fs
 step-bit last k s eoi seen b t x true d es fs next w =
-    let v = where_fits (same x (atn_of s) && same b d) _ _ _ _ w.2 in
-    let e = both-true (same x (atn_of s)) (same b d) v.0 in
-    bit-of k t s eoi seen b d x es fs (same-eq x (atn_of s) e.0) (same-eq b d e.1) (record { from = v.1.0; to = v.1.1 }) (next (High t s eoi seen b) fs v.1.2)
+    let v = where_fits (same b d && same x (atn_of s)) _ _ _ _ w.2 in
+    let e = both-true (same b d) (same x (atn_of s)) v.0 in
+    bit-of k t s eoi seen b d x es fs (same-eq x (atn_of s) e.1) (same-eq b d e.0) (record { from = v.1.0; to = v.1.1 }) (next (High t s eoi seen b) fs v.1.2)
 step-bit last k s eoi seen b t x false d es fs next w = absurd w.2
 
 high-bit : (u t : ℕ) (s : ByteRole) (eoi : Bool) (seen : List Bool) (b b' x : Bool) (es : List Edge) (fs : List Frame) → x ≡ atn_of s → IsWithin t (u + 20) (u + 200)
@@ -464,15 +458,24 @@ high-last u t s eoi seen b b' x es fs e g n k h = record {
 step-high : (last : Edge) (k : ℕ) (s : ByteRole) (eoi : Bool) (seen : List Bool) (b : Bool) (t : ℕ) (x c d : Bool) (es : List Edge) (fs : List Frame) → Next (edge_at t x c d) es
     → Walks last (High k s eoi seen b) (edge_at t x c d ∷ es) fs → Rest last (High k s eoi seen b) (edge_at t x c d ∷ es) fs
 step-high last k s eoi seen b t x false d es fs next w =
-    let v = where_fits (same x (atn_of s)) _ _ _ _ w.2 in
-    elim (cond_fits (ltb (length seen) 7) _ _ _ _ _ v.1) [
-      | inl p ↦ high-bit k t s eoi seen b d x es fs (same-eq x (atn_of s) v.0) (record { from = p.1.0; to = p.1.1 }) (next (Bit t s eoi (seen ++ b ∷ []) d) fs p.1.2)
+    elim (cond_fits (ltb (length seen) 7) _ _ x false d t fs _ w.2) [
+      | inl p ↦
+          let v = pull-fits V k 20 200 s eoi (seen ++ b ∷ []) x d t (None ∷ []) t fs _ refl p.1 in
+          high-bit k t s eoi seen b d x es fs (same-eq x (atn_of s) v.0) (record { from = v.1.0; to = v.1.1 }) (next (Bit t s eoi (seen ++ b ∷ []) d) fs v.1.2)
       | inr p ↦
-          let r = where_fits (d && eqb (length seen) 7) _ _ _ _ p.1 in
-          let e = both-true d (eqb (length seen) 7) r.0 in
-          high-last k t s eoi seen b d x es fs (same-eq x (atn_of s) v.0) e.0 (eqb-true (length seen) 7 e.1) (record { from = r.1.0; to = r.1.1 }) (next (Last t s eoi (seen ++ b ∷ [])) fs r.1.2)
+          elim (cond_fits (eqb (length seen) 7) _ _ x false d t fs _ p.1) [
+            | inl q ↦
+                let v = where_fits (d && same x (atn_of s)) _ _ _ _ q.1 in
+                let e = both-true d (same x (atn_of s)) v.0 in
+                high-last k t s eoi seen b d x es fs (same-eq x (atn_of s) e.1) e.0 (eqb-true (length seen) 7 q.0) (record { from = v.1.0; to = v.1.1 }) (next (Last t s eoi (seen ++ b ∷ [])) fs v.1.2)
+            | inr q ↦ absurd q.1
+          ]
     ]
-step-high last k s eoi seen b t x true d es fs next w = absurd w.2
+step-high last k s eoi seen b t x true d es fs next w =
+    elim (cond_fits (ltb (length seen) 7) _ _ x true d t fs _ w.2) [
+      | inl p ↦ absurd p.1
+      | inr p ↦ elim (cond_fits (eqb (length seen) 7) _ _ x true d t fs _ p.1) [ inl q ↦ absurd q.1 | inr q ↦ absurd q.1 ]
+    ]
 
 last-of : (z t : ℕ) (s : ByteRole) (eoi : Bool) (seen : List Bool) (x : Bool) (es : List Edge) (f : Frame) (fs : List Frame) → x ≡ atn_of s → IsWithin t (z + 1) (z + 80) → f ≡ frame_of s eoi seen
     → Acked s (byte_of seen) t es fs → AtLast z s eoi seen (edge_at t x false false ∷ es) (f ∷ fs)
@@ -517,17 +520,17 @@ step-ack last k First byte t true false false es fs next w =
 step-ack last k Second byte t true false false es fs next w = ends-of k t byte es fs (record { from = w.2.0; to = w.2.1 }) (next (Freed t (eqb byte 63) false) fs w.2.2)
 step-ack last k Data byte t true true false es fs next w = data-piece k t es fs (record { from = w.2.0; to = w.2.1 }) (next (Ready t Data) fs w.2.2)
 step-ack last k Data byte t false false false es fs next w = held-piece k t es fs (record { from = w.2.0; to = w.2.1 }) (next (Call t true) fs w.2.2)
-step-ack last k First byte t true true d es fs next w = absurd w.2
-step-ack last k First byte t true false true es fs next w = absurd w.2
-step-ack last k First byte t false false d es fs next w = absurd w.2
-step-ack last k First byte t false true true es fs next w = absurd w.2
-step-ack last k Second byte t true true d es fs next w = absurd w.2
-step-ack last k Second byte t true false true es fs next w = absurd w.2
-step-ack last k Second byte t false c d es fs next w = absurd w.2
-step-ack last k Data byte t true true true es fs next w = absurd w.2
-step-ack last k Data byte t true false d es fs next w = absurd w.2
-step-ack last k Data byte t false true d es fs next w = absurd w.2
-step-ack last k Data byte t false false true es fs next w = absurd w.2
+step-ack last k First byte t x true true es fs next w = absurd w.2
+step-ack last k First byte t true true false es fs next w = absurd w.2
+step-ack last k First byte t x false true es fs next w = absurd w.2
+step-ack last k First byte t false false false es fs next w = absurd w.2
+step-ack last k Second byte t x true d es fs next w = absurd w.2
+step-ack last k Second byte t x false true es fs next w = absurd w.2
+step-ack last k Second byte t false false false es fs next w = absurd w.2
+step-ack last k Data byte t x true true es fs next w = absurd w.2
+step-ack last k Data byte t false true false es fs next w = absurd w.2
+step-ack last k Data byte t x false true es fs next w = absurd w.2
+step-ack last k Data byte t true false false es fs next w = absurd w.2
 
 held-freed : (r : ℕ) (es : List Edge) (fs : List Frame) → Onwards (Held r) es fs → AtFreed r false es fs
 held-freed r es fs h = record { line = None; clock = None; tail = es; released = tt; edges = refl; onwards = h }
@@ -544,20 +547,20 @@ step-freed last r false false t true true false es fs next w = held-freed r _ fs
 step-freed last r false false t false false false es fs next w = held-freed r _ fs (held-piece r t es fs (record { from = w.2.0; to = w.2.1 }) (next (Call t true) fs w.2.2))
 step-freed last r false true t true true true es fs next w = dropped-piece r t es fs (record { from = w.2.0; to = w.2.1 }) (next (Idle t) fs w.2.2)
 step-freed last r false true t false false true es fs next w = called-piece (Loose r) t es fs tt (record { from = w.2.0; to = w.2.1 }) (next (Call t false) fs w.2.2)
-step-freed last r true false t true true d es fs next w = absurd w.2
-step-freed last r true false t true false false es fs next w = absurd w.2
-step-freed last r true false t false c d es fs next w = absurd w.2
-step-freed last r false false t true true true es fs next w = absurd w.2
-step-freed last r false false t true false false es fs next w = absurd w.2
-step-freed last r false false t false true d es fs next w = absurd w.2
+step-freed last r true false t x true d es fs next w = absurd w.2
+step-freed last r true false t x false false es fs next w = absurd w.2
+step-freed last r true false t false false true es fs next w = absurd w.2
+step-freed last r false false t x true true es fs next w = absurd w.2
+step-freed last r false false t false true false es fs next w = absurd w.2
 step-freed last r false false t false false true es fs next w = absurd w.2
-step-freed last r true true t true true false es fs next w = absurd w.2
-step-freed last r true true t true false d es fs next w = absurd w.2
-step-freed last r true true t false c d es fs next w = absurd w.2
-step-freed last r false true t true true false es fs next w = absurd w.2
-step-freed last r false true t true false d es fs next w = absurd w.2
-step-freed last r false true t false true d es fs next w = absurd w.2
-step-freed last r false true t false false false es fs next w = absurd w.2
+step-freed last r false false t true false false es fs next w = absurd w.2
+step-freed last r true true t x false d es fs next w = absurd w.2
+step-freed last r true true t x true false es fs next w = absurd w.2
+step-freed last r true true t false true true es fs next w = absurd w.2
+step-freed last r false true t x true false es fs next w = absurd w.2
+step-freed last r false true t false true true es fs next w = absurd w.2
+step-freed last r false true t x false false es fs next w = absurd w.2
+step-freed last r false true t true false true es fs next w = absurd w.2
 
 step : (last : Edge) (p : BusState) (t : ℕ) (x c d : Bool) (es : List Edge) (fs : List Frame) → Next (edge_at t x c d) es → Walks last p (edge_at t x c d ∷ es) fs → Rest last p (edge_at t x c d ∷ es) fs
 step last (Idle i) = step-idle last i

@@ -28,7 +28,8 @@ frees s l f before n h m = rw (lt-ltb l f (omega arith), same-self (atn_of s), l
 -- CLOCK is pulled, and brings the first bit
 pulls : (s : ByteRole) (f p : ℕ) (b : Bool) (before : List Frame) (n : ℕ) → f + 1 ≤ p → p ≤ f + 199
     → one_more (behind (edge_at f (atn_of s) true true) (Free f s) before n) (edge_at p (atn_of s) false b) ≡ Ok (behind (edge_at p (atn_of s) false b) (Bit p s false [] b) before (n + 1))
-pulls s f p b before n h m = rw (lt-ltb f p (omega arith), same-self (atn_of s), le-ltb p (f + 1) h, le-ltb (f + 199) p m) refl
+pulls s f p false before n h m = rw (lt-ltb f p (omega arith), same-self (atn_of s), le-ltb p (f + 1) h, le-ltb (f + 199) p m) refl
+pulls s f p true before n h m = rw (lt-ltb f p (omega arith), same-self (atn_of s), le-ltb p (f + 1) h, le-ltb (f + 199) p m) refl
 
 -- DATA is pulled in answer to end-or-identify
 answers : (f p : ℕ) (before : List Frame) (n : ℕ) → f + 200 ≤ p → p ≤ f + 250
@@ -43,7 +44,8 @@ ends-answer f p q before n h m = rw (lt-ltb p q (omega arith), le-ltb q (p + 80)
 -- and CLOCK is pulled
 pulls-after : (q p : ℕ) (b : Bool) (before : List Frame) (n : ℕ) → q + 1 ≤ p → p ≤ q + 60
     → one_more (behind (edge_at q true true true) (After q) before n) (edge_at p true false b) ≡ Ok (behind (edge_at p true false b) (Bit p Data true [] b) before (n + 1))
-pulls-after q p b before n h m = rw (lt-ltb q p (omega arith), le-ltb p (q + 1) h, le-ltb (q + 60) p m) refl
+pulls-after q p false before n h m = rw (lt-ltb q p (omega arith), le-ltb p (q + 1) h, le-ltb (q + 60) p m) refl
+pulls-after q p true before n h m = rw (lt-ltb q p (omega arith), le-ltb p (q + 1) h, le-ltb (q + 60) p m) refl
 
 -- one edge more
 push-step : (r q p : Reached) (es : List Edge) (e : Edge) → reached r es ≡ Ok q → one_more q e ≡ Ok p → reached r (es ++ e ∷ []) ≡ Ok p

@@ -59,6 +59,11 @@ two r q = Some r ∷ Some q ∷ None ∷ []
 abbrev three : Row → Row → Row → List (Option Row)
 three r q p = Some r ∷ Some q ∷ Some p ∷ []
 
+-- the row of an answer to end-or-identify, which a data byte alone gets
+abbrev pub answer_of : ByteRole → ℕ → ℕ → Option Row
+answer_of Data d t = Some (within kind.Ye (levels_at true true false) d 200 250 (Pulse t d))
+answer_of s d t = None
+
 -- the rows of the table at a place: at most three, each to the place that its edge reaches at this moment
 abbrev pub rows : BusState → ℕ → List (Option Row)
 rows (Idle i) t = one (record {
@@ -75,9 +80,8 @@ rows (Call a false) t = three (within kind.At (levels_at false false false) a 1 
     (within kind.Aw (levels_at true true true) a 1000 2000 (Idle t))
 rows (Call a true) t = one (within kind.Aw (levels_at false true false) a 1000 2000 (Ready t First))
 rows (Ready l s) t = one (within kind.H (levels_at (atn_of s) true true) l 1 10000 (Free t s))
-rows (Free d Data) t = three (pull_of kind.Ne d 1 199 Data false [] false t) (pull_of kind.Ne d 1 199 Data false [] true t)
-    (within kind.Ye (levels_at true true false) d 200 250 (Pulse t d))
-rows (Free d s) t = two (pull_of kind.Ne d 1 199 s false [] false t) (pull_of kind.Ne d 1 199 s false [] true t)
+rows (Free d s) t =
+    Some (pull_of kind.Ne d 1 199 s false [] false t) ∷ Some (pull_of kind.Ne d 1 199 s false [] true t) ∷ answer_of s d t ∷ []
 rows (Pulse p d) t = one (record {
   levels = levels_at true true true;
   ends = Some kind.Ei;

@@ -276,7 +276,8 @@ impl BusState {
     /// three, no two of them to the same levels; each leads to the place that it reaches at this
     /// moment. It takes no memory.
     pub fn rows(&self, time: u64) -> [Option<Row>; 3]
-        ensures { result ≡ rows self.now time }
+        ensures rows { result ≡ rows self.now time }
+        ensures three { length result ≡ 3 }
     {
         match self {
             BusState::Idle(since) => after_idle(*since, time),
