@@ -66,15 +66,8 @@ answer_of s d t = None
 
 -- the rows of the table at a place: at most three, each to the place that its edge reaches at this moment
 abbrev pub rows : BusState → ℕ → List (Option Row)
-rows (Idle i) t = one (record {
-  levels = levels_at false false true;
-  ends = None;
-  since = i;
-  least = 100;
-  latest = None;
-  place = Call t false;
-  frame = None;
-})
+rows (Idle i) t =
+    one (record (within kind.Bb (levels_at false false true) i 100 1000 (Call t false)) { ends = None; latest = None })
 rows (Call a false) t = three (within kind.At (levels_at false false false) a 1 1000 (Call a true))
     (within kind.Aw (levels_at false true false) a 1000 1000 (Ready t First))
     (within kind.Aw (levels_at true true true) a 1000 2000 (Idle t))
@@ -82,15 +75,7 @@ rows (Call a true) t = one (within kind.Aw (levels_at false true false) a 1000 2
 rows (Ready l s) t = one (within kind.H (levels_at (atn_of s) true true) l 1 10000 (Free t s))
 rows (Free d s) t =
     Some (pull_of kind.Ne d 1 199 s false [] false t) ∷ Some (pull_of kind.Ne d 1 199 s false [] true t) ∷ answer_of s d t ∷ []
-rows (Pulse p d) t = one (record {
-  levels = levels_at true true true;
-  ends = Some kind.Ei;
-  since = p;
-  least = 80;
-  latest = Some (d, 450);
-  place = After t;
-  frame = None;
-})
+rows (Pulse p d) t = one (record (within kind.Ei (levels_at true true true) p 80 200 (After t)) { latest = Some (d, 450) })
 rows (After q) t = two (pull_of kind.Ry q 1 60 Data true [] false t) (pull_of kind.Ry q 1 60 Data true [] true t)
 rows (Bit c s eoi seen b) t = one (within kind.S (levels_at (atn_of s) true b) c 20 200 (High t s eoi seen b))
 rows (High u s eoi seen b) t =
@@ -99,15 +84,8 @@ rows (High u s eoi seen b) t =
     else (if length seen == 7
     then one (within kind.V (levels_at (atn_of s) false true) u 20 200 (Last t s eoi (seen ++ b ∷ [])))
     else None ∷ None ∷ None ∷ [])
-rows (Last z s eoi seen) t = one (record {
-  levels = levels_at (atn_of s) false false;
-  ends = Some kind.F;
-  since = z;
-  least = 1;
-  latest = Some (z, 80);
-  place = Ack t s (byte_of seen);
-  frame = Some (frame_of s eoi seen);
-})
+rows (Last z s eoi seen) t =
+    one (record (within kind.F (levels_at (atn_of s) false false) z 1 80 (Ack t s (byte_of seen))) { frame = Some (frame_of s eoi seen) })
 rows (Ack k First byte) t = two (within kind.Aw (levels_at false true false) k 1000 2000 (Ready t Second))
     (within kind.R (levels_at true false false) k 100 200 (Freed t (byte == command.unlisten) false))
 rows (Ack k Second byte) t = one (within kind.R (levels_at true false false) k 100 200 (Freed t (byte == command.unlisten) false))
