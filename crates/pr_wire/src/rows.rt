@@ -1,6 +1,6 @@
 //! The table of lawful traces: the edges that may come next at a place.
 
-ghost use Rattle.std.specs.Prelude.{◌≡◌, ◌<◌, length, Some, None};
+ghost use Rattle.std.specs.Prelude.{◌≡◌, length, Some, true, false};
 ghost use Rattle.pr_wire.specs.Delays.{bounds_of};
 ghost use Rattle.pr_wire.specs.Table.{levels_at, pull_of, row_to, rows, timed, within};
 
