@@ -99,12 +99,15 @@ rows (Freed r false false) t = three (within kind.Dr (levels_at true false true)
 rows (Freed r false true) t = two (within kind.Bb (levels_at true true true) r 100 1000 (Idle t))
     (within kind.Bb (levels_at false false true) r 100 1000 (Call t false))
 
--- the row to these levels of ATN, CLOCK and DATA, if there is one
+-- a row is to these levels of ATN, CLOCK and DATA
+abbrev pub leads : Bool → Bool → Bool → Option Row → Bool
+leads x c l None = false
+leads x c l (Some r) = same r.levels.clock c && (same r.levels.line l && same x r.levels.atn)
+
+-- the row to these levels, if there is one
 abbrev pub row_to : Bool → Bool → Bool → List (Option Row) → Option Row
 row_to x c l [] = None
-row_to x c l (None ∷ more) = row_to x c l more
-row_to x c l (Some r ∷ more) =
-    if same r.levels.clock c && (same r.levels.line l && same x r.levels.atn) then Some r else row_to x c l more
+row_to x c l (r ∷ more) = if leads x c l r then r else row_to x c l more
 
 -- the row of the table for an edge, with its moment and its levels of ATN, CLOCK and DATA
 abbrev pub row : BusState → ℕ → Bool → Bool → Bool → Option Row

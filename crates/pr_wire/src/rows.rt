@@ -2,7 +2,7 @@
 
 ghost use Rattle.std.specs.Prelude.{◌≡◌, length, Some, true, false};
 ghost use Rattle.pr_wire.specs.Delays.{bounds_of};
-ghost use Rattle.pr_wire.specs.Table.{levels_at, pull_of, row_to, rows, timed, within};
+ghost use Rattle.pr_wire.specs.Table.{leads, levels_at, pull_of, row_to, rows, timed, within};
 
 use crate::bits::Bits;
 use crate::bus_state::{BusState, ByteRole, EdgeError, LAST_BIT, Step};
@@ -346,21 +346,33 @@ impl BusState {
     }
 }
 
+/// Whether there is a row, and its edge has these levels.
+fn leads(row: &Option<Row>, levels: Levels) -> bool
+    ensures { result ≡ leads levels.atn levels.clock levels.line row.now }
+{
+    match row {
+        None => false,
+        Some(row) => {
+            let to = row.levels;
+            to.clock == levels.clock && to.line == levels.line && levels.atn == to.atn
+        }
+    }
+}
+
 /// The row to these levels, if there is one.
 pub fn row_to(levels: Levels, rows: [Option<Row>; 3]) -> Option<Row>
     ensures { result ≡ row_to levels.atn levels.clock levels.line rows }
 {
     let [first, second, third] = rows;
-    if first.as_ref().is_some_and(|row| row.levels == levels) {
-        return first;
+    if leads(&first, levels) {
+        first
+    } else if leads(&second, levels) {
+        second
+    } else if leads(&third, levels) {
+        third
+    } else {
+        None
     }
-    if second.as_ref().is_some_and(|row| row.levels == levels) {
-        return second;
-    }
-    if third.as_ref().is_some_and(|row| row.levels == levels) {
-        return third;
-    }
-    None
 }
 
 impl Row {
