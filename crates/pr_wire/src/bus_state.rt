@@ -1,6 +1,6 @@
 //! The places of the table of lawful traces, and the step that an edge makes from one to the next.
 
-ghost use Rattle.std.specs.Prelude.{◌≡◌, ◌+◌, ◌<◌, ◌&&◌, ◌++◌, ◌∷◌, [], nat_lt, length, Bool, List, Ok, Err, IfOk, IfErr, OnErr};
+ghost use Rattle.std.specs.Prelude.{◌≡◌, ◌<◌, ◌&&◌, ◌++◌, ◌∷◌, [], nat_lt, length, true, Bool, List, Some, Ok, Err, IfOk, IfErr, OnErr};
 ghost use Rattle.pr_wire.specs.Delays.{bounds_of};
 ghost use Rattle.pr_wire.specs.PlaceSteps.{FindsAs};
 ghost use Rattle.pr_wire.specs.Table.{timed, within, levels_at, by_row, row, atn_of, may_end, verdict, fault_at, differ};
@@ -112,7 +112,7 @@ fn comes_after(last: Edge, edge: Edge) -> bool
 /// Whether a moment comes a delay of this kind after another.
 fn in_time_by(time: u64, since: u64, kind: Kind) -> Result<(), EdgeError>
     ensures { (place : BusState) →
-        FindsAs result place (timed time (within kind (levels_at true true true) since (bounds_of kind).0 (bounds_of kind).2 place)) }
+        FindsAs result place (timed time (Some (within kind (levels_at true true true) since (bounds_of kind).0 (bounds_of kind).2 place))) }
 {
     let (least, _, greatest) = bounds(kind);
     let passed = time.saturating_sub(since);
