@@ -35,6 +35,6 @@ begins_as_table bytes =
     || option_map_or (λ b. b == 59 || b == 35) (front bytes) false || has_separator bytes
 
 -- the format that the first bytes of a recording show, or else this one
-abbrev pub found_source : InputFormat → List ℕ → InputFormat
-found_source source bytes =
+abbrev pub found_format : InputFormat → List ℕ → InputFormat
+found_format source bytes =
     if begins_as_dump bytes then Vcd else (if begins_as_table bytes then Csv else source)

@@ -2,7 +2,7 @@
 
 ghost use Rattle.std.specs.Prelude.{◌≡◌, ◌==◌, ◌||◌, find};
 ghost use Rattle.pr_capture.specs.Csv.{is_separator};
-ghost use Rattle.pr_capture.specs.Found.{begins_as_dump, begins_as_table, behind_meta, found_source, front, has_meta, has_separator};
+ghost use Rattle.pr_capture.specs.Found.{begins_as_dump, begins_as_table, behind_meta, found_format, front, has_meta, has_separator};
 
 use crate::csv::{is_archive, is_separator, is_wide, line_len};
 use crate::format::InputFormat;
@@ -11,8 +11,8 @@ use crate::format::InputFormat;
 /// `$`, also after the line `META samplerate: ..` that sigrok-cli puts in front; a table with `;`, `#`
 /// or that line, or it has a comma, a semicolon or a tab in its first line. UTF-16 text and zip archives
 /// are taken as tables, whose reader refuses them by name. It takes no memory.
-pub fn found_source(source: InputFormat, bytes: &[u8]) -> InputFormat
-    ensures { result ≡ found_source source bytes.now }
+pub fn found_format(source: InputFormat, bytes: &[u8]) -> InputFormat
+    ensures { result ≡ found_format source bytes.now }
 {
     if begins_as_dump(bytes) {
         InputFormat::Vcd

@@ -48,7 +48,7 @@ pub use csv::CsvReader;
 pub use edge_detector::EdgeDetector;
 pub use fault::{CaptureFault, Wire};
 pub use format::{InputFormat, OutputFormat, TraceInput};
-pub use found::found_source;
+pub use found::found_format;
 pub use laws::{csv_is_read_back, given_edges_come_first, given_samples_come_first};
 pub use pulse_filter::{PulseFilter, steady_edges_come_first};
 pub use remarks::read_rate;

@@ -28,14 +28,14 @@ use Rattle.pr_options.specs.declared.outputs.DecodeOutput.TheVariants as reading
 use Rattle.pr_options.specs.declared.outputs.Hearing.{Hearing}
 use Rattle.pr_options.specs.declared.outputs.PagesOutput.{PagesOutput}
 use Rattle.pr_options.specs.declared.outputs.PagesOutput.TheVariants as output
-use Rattle.pr_capture.specs.Found.{found_source}
+use Rattle.pr_capture.specs.Found.{found_format}
 use Rattle.pr_jobs.specs.declared.fault.CliFault.{CliFault}
 use Rattle.pr_jobs.specs.declared.run.Ending.{Ending}
 use Rattle.pr_jobs.specs.declared.run.Ending.TheVariants.{Done}
 use Rattle.pr_jobs.specs.declared.run.PagesEnd.{PagesEnd}
 use Rattle.pr_jobs.specs.declared.run.RunEnd.{RunEnd}
 use Rattle.pr_jobs.specs.declared.run.Start.{Start}
-use Rattle.pr_jobs.specs.Pages.{AnswersPages, AnswersPagesAs, IsPagesFault, IsRunFault, ReadsToEnd, WritesNothing, script_limit}
+use Rattle.pr_jobs.specs.Pages.{AnswersPages, AnswersPagesWith, IsPagesFault, IsRunFault, ReadsToEnd, WritesNothing, script_limit}
 use Rattle.pr_jobs.specs.Formats.{shown_of}
 use Rattle.pr_jobs.specs.Runs.{start_of}
 use Rattle.pr_jobs.specs.Bus.{AnswersBus, AnswersBusAs, WritesNoEdge}
@@ -63,7 +63,7 @@ use Rattle.pr_cli.specs.declared.statuses.End.TheVariants.{Listing}
 
 -- an input in the format that the first bytes show
 abbrev pub found_input : (first : List ℕ) → TraceInput → TraceInput
-found_input first input = record input { source = found_source input.source first }
+found_input first input = record input { source = found_format input.source first }
 
 -- a job whose recording's format has to be found, with the format that the first bytes show; all else of it stays
 abbrev pub found_job : (first : List ℕ) → Job → Job
@@ -178,7 +178,7 @@ IsRemarked answers (Err fault) = answers (Err fault)
 abbrev pub AnswersPrinted :
     (located : Bool) → Shapes → Start → Format → List ℕ → Option (List ℕ) → Option (List ℕ) → Result JobEnd CliFault → Type 0
 AnswersPrinted located shapes start f text old new result =
-    IsPrinted located (AnswersPages shapes start f text old new) (AnswersPagesAs shapes start f text old new) result
+    IsPrinted located (AnswersPages shapes start f text old new) (AnswersPagesWith shapes start f text old new) result
 
 -- or the bytes that a printer hears in its run
 abbrev pub AnswersRun :

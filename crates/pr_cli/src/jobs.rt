@@ -8,7 +8,7 @@ ghost use Rattle.pr_jobs.specs.Report.{IsReportFault};
 ghost use Rattle.pr_input.specs.Watched.{wrapped};
 ghost use Rattle.pr_cli.specs.Jobs.{AnswersJob, AnswersRecording, AnswersRun, AnswersTrace, AnswersTraced, IsJobFault, IsPrintFault, IsRecordingFault, KeepsOutput, KeepsRun, KeepsTrace, ReadsInput, ReadsRecording, ReadsTrace, found_input, found_job, listening_of, restarted_job, seen_format, seen_job, seen_output, seen_reading};
 
-use pr_capture::{InputFormat, OutputFormat, TraceInput, found_source};
+use pr_capture::{InputFormat, OutputFormat, TraceInput, found_format};
 use pr_dots::Shapes;
 use pr_jobs::{
     CliFault, Ending, PagesEnd, RunEnd, Start, Watched, bus_over, check_over, pages_over, raw_over,
@@ -78,7 +78,7 @@ fn found_input<'a>(input: TraceInput<'a>, first: &[u8]) -> TraceInput<'a>
     ensures { result ≡ found_input first.now input.entry }
 {
     TraceInput {
-        source: found_source(input.source, first),
+        source: found_format(input.source, first),
         ..input
     }
 }

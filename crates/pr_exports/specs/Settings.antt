@@ -11,7 +11,7 @@ use Rattle.pr_dots.specs.declared.scale.Scale.{Scale}
 use Rattle.pr_dots.specs.declared.scale.Scale.TheVariants as scale
 use Rattle.pr_listing.specs.declared.form.ListingForm.{ListingForm}
 use Rattle.pr_listing.specs.declared.form.ListingForm.TheVariants as listing
-use Rattle.pr_capture.specs.Found.{found_source}
+use Rattle.pr_capture.specs.Found.{found_format}
 use Rattle.pr_capture.specs.Recording.{alike}
 use Rattle.pr_channels.specs.declared.faults.Stop.TheVariants as stop
 use Rattle.pr_render.specs.declared.format.Format.{Format}
@@ -43,8 +43,8 @@ source_of number bytes =
     if number == 0 then Some source.Text
     else (if number == 1 then Some source.Vcd
     else (if number == 2 then Some source.Csv
-    else (if number == 3 then Some (found_source source.Text (take 4096 bytes))
-    else (if number == 4 then Some (found_source source.Csv (take 4096 bytes)) else None))))
+    else (if number == 3 then Some (found_format source.Text (take 4096 bytes))
+    else (if number == 4 then Some (found_format source.Csv (take 4096 bytes)) else None))))
 
 -- the shapes that are asked for: those of a file of characters, or this project's own where it is empty
 abbrev pub AsksShapes : List ℕ → Result Shapes CharactersFault → Type 0

@@ -1,11 +1,11 @@
 //! What the numbers and bytes that a caller passes mean.
 
 ghost use Rattle.std.specs.Prelude.{◌≡◌, take};
-ghost use Rattle.pr_capture.specs.Found.{found_source};
+ghost use Rattle.pr_capture.specs.Found.{found_format};
 ghost use Rattle.pr_exports.specs.Settings.{AsksShapes, IsInput, check_of, detail_of, device_of, form_of, format_of, layout_of, mode_of, paper_of, presence, rate_of, scale_of, sheet_of, shown_of, source_of, stop_of, wording_of};
 
 use pr_basic::StatusMode;
-use pr_capture::{InputFormat, Probes, Signals, TraceInput, found_source};
+use pr_capture::{InputFormat, Probes, Signals, TraceInput, found_format};
 use pr_channels::Stop;
 use pr_characters::{CharactersFault, read_shapes};
 use pr_dots::{Scale, Shapes};
@@ -28,9 +28,9 @@ fn first_of(bytes: &[u8]) -> &[u8]
 
 /// The format that they show, or else this one.
 fn found_in(source: InputFormat, bytes: &[u8]) -> InputFormat
-    ensures { result ≡ found_source source (take 4096 bytes.now) }
+    ensures { result ≡ found_format source (take 4096 bytes.now) }
 {
-    found_source(source, first_of(bytes))
+    found_format(source, first_of(bytes))
 }
 
 /// The format of a recording: 0 a trace text, 1 a Value Change Dump, 2 a table of comma separated values; 3 the one

@@ -74,9 +74,9 @@ AnswersPages shapes start format script old new result =
     SaysPages (λ outcome. ending_of outcome.stop) shapes start format script old new result
 
 -- that with the error, the statement that it stopped, and the marks that the printers hold
-abbrev pub AnswersPagesAs :
+abbrev pub AnswersPagesWith :
     Shapes → Start → Format → List ℕ → Option (List ℕ) → Option (List ℕ) → Result PagesEnd CliFault → Type 0
-AnswersPagesAs shapes start format script old new result = SaysPages pages_end shapes start format script old new result
+AnswersPagesWith shapes start format script old new result = SaysPages pages_end shapes start format script old new result
 
 -- every refusal but WriteFailed leaves the writer's bytes as they were, whatever the reader gives
 abbrev pub WritesNothing : {Y : Type 0} → Option (List ℕ) → Option (List ℕ) → Result Y CliFault → Type 0

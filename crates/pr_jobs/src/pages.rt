@@ -6,7 +6,7 @@ ghost use Rattle.pr_dots.specs.Shapes.{own_shapes};
 ghost use Rattle.pr_system.specs.StepByStep.{stepped_through};
 ghost use Rattle.pr_jobs.specs.Does.{AreFresh, DoesJob};
 ghost use Rattle.pr_jobs.specs.Outcomes.{GivesOutcome};
-ghost use Rattle.pr_jobs.specs.Pages.{AnswersPages, AnswersPagesAs, IsPagesFault, IsRunFault, ReadsToEnd, WritesNothing};
+ghost use Rattle.pr_jobs.specs.Pages.{AnswersPages, AnswersPagesWith, IsPagesFault, IsRunFault, ReadsToEnd, WritesNothing};
 ghost use Rattle.pr_jobs.specs.Runs.{start_of};
 ghost use Rattle.pr_input.specs.Watched.{has_failed, is_flushed, wrapped};
 
@@ -92,7 +92,7 @@ pub fn write_pages<R: Read, W: Write>(
     requires fresh { AreFresh input.old output.old }
     // what it gives
     ensures pages { IfSome (R.remaining (wrapped input.old)) (λ script.
-        AnswersPagesAs shapes.now start format script
+        AnswersPagesWith shapes.now start format script
         (W.contents (wrapped output.old)) (W.contents (wrapped output.new)) result) }
     ensures at_end { ReadsToEnd (R.remaining (wrapped input.new)) result }
     // when it refuses, and what that leaves

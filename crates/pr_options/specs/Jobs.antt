@@ -29,7 +29,7 @@ use Rattle.pr_options.specs.Rows as option
 use Rattle.pr_options.specs.CommandLine.{print1525}
 use Rattle.pr_options.specs.DelayLists.{delays_of}
 use Rattle.pr_options.specs.Given.{characters_in, file_in, is_given, value_in}
-use Rattle.pr_options.specs.Options.{before_of, bounds_of, decode_output_of, device_of, form_of, format_of, found_source_of, from_time_of, glitch_of, inverted_of, listening_of, mode_of, pages_output_of, paper_of, present_of, rate_of, report_of, scale_of, set_of, sheet_of, threshold_of, top_of, trace_format_of, unhearing}
+use Rattle.pr_options.specs.Options.{before_of, bounds_of, decode_output_of, device_of, form_of, format_of, found_format_of, from_time_of, glitch_of, inverted_of, listening_of, mode_of, pages_output_of, paper_of, present_of, rate_of, report_of, scale_of, set_of, sheet_of, threshold_of, top_of, trace_format_of, unhearing}
 use Rattle.pr_options.specs.SignalNames.{Names, names_of, names_of_signals}
 use Rattle.pr_options.specs.Values.{bad}
 use Rattle.pr_options.specs.declared.command_line.Job.{Job}
@@ -303,14 +303,14 @@ unless_found rows = if wants_recording rows || wants_table rows then source.Csv 
 -- the format is to be found in the first bytes, since no option gives it
 abbrev pub wanted_check : List Row → Result JobView JobFault
 wanted_check rows =
-    read opt.From found_source_of rows >>= λ source.
+    read opt.From found_format_of rows >>= λ source.
     wanted_input (unwrap_or source (unless_found rows)) rows >>= λ input.
     read opt.ReportAs report_of rows >>= λ output.
     Ok (Check (is_none source) input output)
 
 abbrev pub wanted_decode : Bool → List Row → Result JobView JobFault
 wanted_decode lower rows =
-    read opt.ReadingFrom found_source_of rows >>= λ source.
+    read opt.ReadingFrom found_format_of rows >>= λ source.
     wanted_input (unwrap_or source (unless_found rows)) rows >>= λ input.
     read opt.ReadingAs decode_output_of rows >>= λ plain.
     decode_output plain lower rows >>= λ output.

@@ -151,8 +151,8 @@ source_of = meaning_of (
     (codes "text", source.Text) ∷ (codes "vcd", source.Vcd) ∷ (codes "csv", source.Csv) ∷ [])
 
 -- the same, or auto, which names none: the first bytes show it
-abbrev pub found_source_of : Text → Option (Option InputFormat)
-found_source_of text = if bytes_eq text (codes "auto") then Some None else option_map (λ source. Some source) (source_of text)
+abbrev pub found_format_of : Text → Option (Option InputFormat)
+found_format_of text = if bytes_eq text (codes "auto") then Some None else option_map (λ source. Some source) (source_of text)
 
 -- what `check` writes: frames, story or json
 abbrev pub report_of : Text → Option CheckOutput

@@ -14,7 +14,7 @@ ghost use Rattle.pr_options.specs.Values.{bad_value, good_values_of, option_of, 
 use crate::clap_command::make_command;
 use crate::delays::{DelayFault, read_delays};
 use crate::option_values::{
-    read_before, read_decode_output, read_form, read_format, read_found_source, read_from_time,
+    read_before, read_decode_output, read_form, read_format, read_found_format, read_from_time,
     read_given_rate, read_glitch, read_inverted, read_pages_output, read_present, read_report,
     read_set, read_status, read_threshold, read_trace_format,
 };
@@ -46,7 +46,7 @@ pub enum Job<'a> {
     Bus(ListingForm, Present, Delays, StatusMode, OutputFormat),
     /// Read a trace and write what it says.
     Check {
-        /// The first bytes of the trace show its format, as [`pr_capture::found_source`] reads them; the format
+        /// The first bytes of the trace show its format, as [`pr_capture::found_format`] reads them; the format
         /// in `input` is the one where they show none.
         is_found: bool,
         /// How it is read.
@@ -402,7 +402,7 @@ fn check_job<'a>(options: &ArgMatches<'a>) -> Result<Job<'a>, JobFault>
     ensures value { job_result result ≡ wanted_check (rows_of (found_of options.now)) }
     ensures own { IfErr result IsOwn }
 {
-    let source = read_found_source(value_in(options, Opt::From)).ok_or(Opt::From)?;
+    let source = read_found_format(value_in(options, Opt::From)).ok_or(Opt::From)?;
     let input = input_of(source.unwrap_or(unless_found(options)), options)?;
     let output = read_report(value_in(options, Opt::ReportAs)).ok_or(Opt::ReportAs)?;
     Ok(Job::Check {
@@ -417,7 +417,7 @@ fn decode_job<'a>(lower: bool, options: &ArgMatches<'a>) -> Result<Job<'a>, JobF
     ensures value { job_result result ≡ wanted_decode lower (rows_of (found_of options.now)) }
     ensures own { IfErr result IsOwn }
 {
-    let source = read_found_source(value_in(options, Opt::ReadingFrom)).ok_or(Opt::ReadingFrom)?;
+    let source = read_found_format(value_in(options, Opt::ReadingFrom)).ok_or(Opt::ReadingFrom)?;
     let input = input_of(source.unwrap_or(unless_found(options)), options)?;
     let plain = read_decode_output(value_in(options, Opt::ReadingAs)).ok_or(Opt::ReadingAs)?;
     let output = decode_output_in(plain, lower, options)?;

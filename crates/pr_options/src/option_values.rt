@@ -2,7 +2,7 @@
 
 ghost use Rattle.std.specs.Prelude.{[], false, option_map, ◌∷◌, ◌≡◌, IfSome};
 ghost use Rattle.pr_capture.specs.Recording.{alike};
-ghost use Rattle.pr_options.specs.Options.{before_of, bounds_of, decode_output_of, device_of, form_of, format_of, found_source_of, from_time_of, glitch_of, inverted_of, listening_of, mode_of, moment_of, pages_output_of, paper_of, present_of, rate_of, report_of, scale_of, scaled, set_of, sheet_numbered, sheet_of, source_of, start_of, threshold_between, threshold_in, threshold_of, top_numbered, top_of, trace_format_of, with_line};
+ghost use Rattle.pr_options.specs.Options.{before_of, bounds_of, decode_output_of, device_of, form_of, format_of, found_format_of, from_time_of, glitch_of, inverted_of, listening_of, mode_of, moment_of, pages_output_of, paper_of, present_of, rate_of, report_of, scale_of, scaled, set_of, sheet_numbered, sheet_of, source_of, start_of, threshold_between, threshold_in, threshold_of, top_numbered, top_of, trace_format_of, with_line};
 ghost use Rattle.std.specs.Int.{div_ceil};
 ghost use Rattle.pr_options.specs.SignalNames.{are_names, differ, is_clock_twice, is_name, names_of, names_of_signals, three_names};
 
@@ -351,8 +351,8 @@ fn read_source(text: &str) -> Option<InputFormat>
 
 /// The format of a trace or a recording, as [`read_source`] reads it, or `auto`, which names none: its first bytes show it
 /// (profile). None for any other text.
-pub fn read_found_source(text: &str) -> Option<Option<InputFormat>>
-    ensures { result ≡ found_source_of text.now }
+pub fn read_found_format(text: &str) -> Option<Option<InputFormat>>
+    ensures { result ≡ found_format_of text.now }
 {
     match text {
         "auto" => Some(None),

@@ -12,7 +12,8 @@ pub record Code : Type 0 where
 abbrev pub row : (name : List ℕ) → (ends_line : Bool) → (Settings → Settings) → Code
 row name ends_line sets = record { name = name; ends_line = ends_line; sets = sets }
 
--- the row of a byte; one that is no code has no name and sets nothing. 145 and 146 are columns of dots in graphic mode
+-- the row of a byte; one that is no code has no name, ends no line and sets nothing. 145 and 146 are columns of dots in
+-- graphic mode
 unfoldable pub code_of : ℕ → Code
 code_of b =
     if b == 8 then row (codes "graphic mode") false (λ m. record m { graphic = true })

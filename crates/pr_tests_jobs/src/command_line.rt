@@ -1,5 +1,5 @@
 //! What is asked of a command line and shows in no output of the program. All else is in tests/rows (names_of_signals,
-//! outputs_of_decode, outputs_of_pages, rates_of_recordings, starts_before_moment_0, found_sources and others).
+//! outputs_of_decode, outputs_of_pages, rates_of_recordings, starts_before_moment_0, found_formats and others).
 
 use pr_basic::StatusMode;
 use pr_bus::Delays;
