@@ -1,10 +1,10 @@
 -- Where talker and devices make edges, each device can be called at its wakes.
-use Rattle.std.proofs.Common.{◌≡◌, ℕ, zero, suc, ◌+◌, ◌<◌, ◌≤◌, nat_lt, Bool, true, false, not, ◌&&◌, ◌||◌, List, [], ◌∷◌, Option, Some, None, IfSome, refl, sym, ap, subst, ◌∙◌, arith, ltb-true, ltb-false}
+use Rattle.std.proofs.Common.{◌≡◌, ℕ, zero, suc, ◌+◌, ◌<◌, ◌≤◌, nat_lt, Bool, true, false, not, ◌&&◌, ◌||◌, List, [], ◌∷◌, map, Option, Some, None, IfSome, refl, sym, ap, subst, ◌∙◌, arith, ltb-true, ltb-false}
 use Rattle.pr_wire.specs.declared.Edge.{Edge}
 use Rattle.pr_receiver.specs.Laws.{ListeningAfterOneMore}
 use Rattle.pr_device.specs.Data.{standing}
 use Rattle.pr_device.specs.Course.{Party, Each, Move, AreMade, next_moment, after_moves, pulling, one_pulls}
-use Rattle.pr_device.specs.Shown.{Moment, levels_after, time_after, moments_shown, changes_shown, does_after, wake_after, IsBefore, AreInTime, CanBeCalled, Ascend}
+use Rattle.pr_device.specs.Shown.{Moment, levels_after, time_after, moments_shown, changes_shown, does_after, wake_after, IsBefore, AreInTime, CanBeCalled, GoForward}
 use Rattle.pr_device.specs.Shown.Moment.{Change, Wake}
 use Rattle.pr_device.specs.Laws.{DevicesCanBeCalled}
 use Rattle.pr_device.proofs.Sharing.{each-map, IsParty}
@@ -72,7 +72,7 @@ call-all : ListeningAfterOneMore → (p : Party) (ps : List Party) (e : Edge) (h
     → ((g : List Edge) (n : ℕ) → pulling p g n ≡ true → one_pulls ps g n ≡ true)
     → ((n : ℕ) → e.time ≤ n → n < next_moment ms end → pulling p (e ∷ h) n ≡ true → e.levels.line ≡ false)
     → (moments : List Moment) → changes_shown moments ≡ e ∷ h → AreInTime p moments → time_after (moments_shown moments) ≡ e.time
-    → Ascend e.time ms → AreMade ps (e ∷ h) ms end → CanBeCalled p (after_moves (e ∷ h) ms)
+    → GoForward e.time (map (λ (m : Move). m.edge) ms) → AreMade ps (e ∷ h) ms end → CanBeCalled p (after_moves (e ∷ h) ms)
 call-all law p ps e h [] end i o f moments c w t a m = record { moments = moments; changes = c; in_time = w }
 call-all law p ps e h (x ∷ ms) end i o f moments c w t (a, later) (m, made) =
     let v = catch-up law p e h x.edge.time i f x.edge.time moments c w (omega (arith, t)) (omega (arith, t, a)) (omega arith) in
@@ -103,7 +103,7 @@ each-two : (P Q : Party → Type 0) (ps : List Party) → Each P ps → Each Q p
 each-two P Q [] u w = tt
 each-two P Q (p ∷ ps) (a, u) (b, w) = ((a, b), each-two P Q ps u w)
 
-call-one : ListeningAfterOneMore → (ps : List Party) (ms : List Move) (end : ℕ) → Ascend 0 ms → AreMade ps [] ms end → (p : Party) → Counts ps p × IsParty p → CanBeCalled p (after_moves [] ms)
+call-one : ListeningAfterOneMore → (ps : List Party) (ms : List Move) (end : ℕ) → GoForward 0 (map (λ (m : Move). m.edge) ms) → AreMade ps [] ms end → (p : Party) → Counts ps p × IsParty p → CanBeCalled p (after_moves [] ms)
 call-one law ps [] end a m p (o, i) = record { moments = []; changes = refl; in_time = tt }
 call-one law ps (x ∷ ms) end (a, later) (m, made) p (o, i) =
     call-all law p ps x.edge [] ms end i o (λ n j k d. m.stays n j k ∙ and-not x.level (one_pulls ps (x.edge ∷ []) n) (o (x.edge ∷ []) n d))

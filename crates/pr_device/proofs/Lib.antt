@@ -14,3 +14,5 @@ pub mod Called
 pub mod Items
 pub mod Traces
 pub mod Numbering
+pub mod Forward
+pub mod PairCalls

@@ -1,5 +1,5 @@
 -- Laws: what a device hears of talkers and traces. The functions of src/laws.rt prove them, and callers take them from there.
-use Rattle.std.specs.Prelude.{◌≡◌, ℕ, ◌+◌, ◌<◌, ◌≤◌, Bool, true, false, List, Some, None, not, reverse, []}
+use Rattle.std.specs.Prelude.{◌≡◌, ℕ, ◌+◌, ◌<◌, ◌≤◌, Bool, true, false, List, Some, None, not, map, reverse, []}
 use Rattle.pr_wire.specs.declared.Edge.{Edge}
 use Rattle.pr_wire.specs.declared.Frame.{Frame}
 use Rattle.pr_wire.specs.Pieces.{Spells}
@@ -12,7 +12,7 @@ use Rattle.pr_device.specs.Events.{events_of, inputs_of_events}
 use Rattle.pr_device.specs.Following.{said}
 use Rattle.pr_device.specs.Seen.{events_with}
 use Rattle.pr_device.specs.Course.{Party, Each, Move, AreMade, after_moves, pulling}
-use Rattle.pr_device.specs.Shown.{Ascend, CanBeCalled, Moment, AreInTime, IsBefore, changes_shown, moments_shown, does_after, wake_after, time_after}
+use Rattle.pr_device.specs.Shown.{GoForward, CanBeCalled, Moment, AreInTime, IsBefore, changes_shown, moments_shown, does_after, wake_after, time_after}
 use Rattle.pr_device.specs.Pairs.{SharesTheLine}
 use Rattle.pr_device.specs.Timing.{IsTiming}
 use Rattle.pr_device.specs.Talkers.{Turn, AreTurns, moments_of, frames_sent}
@@ -97,5 +97,9 @@ WakesSuffice =
 -- `pulling` says
 abbrev pub DevicesCanBeCalled : Type 0
 DevicesCanBeCalled =
-    (parties : List Party) (ms : List Move) (end : ℕ) → Each (λ (p : Party). IsTiming p.timing) parties → Ascend 0 ms
-    → AreMade parties [] ms end → Each (λ (p : Party). CanBeCalled p (after_moves [] ms)) parties
+    (parties : List Party) (ms : List Move) (end : ℕ) → Each (λ (p : Party). IsTiming p.timing) parties
+    → GoForward 0 (map (λ (m : Move). m.edge) ms) → AreMade parties [] ms end → Each (λ (p : Party). CanBeCalled p (after_moves [] ms)) parties
+
+-- the moments of a lawful trace do not go back
+abbrev pub LawfulTracesGoForward : Type 0
+LawfulTracesGoForward = (edges : List Edge) (frames : List Frame) → Spells edges frames → GoForward 0 edges

@@ -1,5 +1,5 @@
 -- Laws: the law of the pair. The function of src/laws.rt proves it, and callers take it from there.
-use Rattle.std.specs.Prelude.{◌≡◌, ℕ, ◌≤◌, true, ◌||◌, List, [], ◌∷◌, map}
+use Rattle.std.specs.Prelude.{◌≡◌, ℕ, ◌≤◌, true, ◌||◌, List, [], ◌∷◌, map, reverse}
 use Rattle.pr_serial.specs.declared.Present.{Present}
 use Rattle.pr_serial.specs.declared.Item.{Item}
 use Rattle.pr_serial.specs.Bus.{DelayNumbers}
@@ -11,6 +11,7 @@ use Rattle.pr_device.specs.declared.timing.Timing.{Timing}
 use Rattle.pr_device.specs.Timing.{IsTiming}
 use Rattle.pr_device.specs.Numbers.{devices_of, delays_for}
 use Rattle.pr_device.specs.Course.{Party, Each, Move, AreMade, released}
+use Rattle.pr_device.specs.Shown.{CanBeCalled, GoForward}
 use Rattle.pr_device.specs.Paired.{StandFor, timed_moves, IsInTime}
 
 -- the moves of items, from the start on
@@ -40,3 +41,17 @@ PairsMakeTraces =
     → (present.four || present.five) ≡ true → IsTiming four → IsTiming five
     → (let delays : DelayNumbers = delays_for computer four five items in IsInTime (state_from present delays items).lines end
     → TraceIsMade present delays (devices_of present four five) items end)
+
+-- the moments of the timed trace of any items do not go back
+abbrev pub TimedTracesGoForward : Type 0
+TimedTracesGoForward =
+    (present : Present) (delays : DelayNumbers) (items : List Item) → AreItems items
+    → GoForward 0 (trace_from present delays items)
+
+-- so each device of the pair can be called at its wakes between the edges of the timed trace
+abbrev pub PairsCanBeCalled : Type 0
+PairsCanBeCalled =
+    (present : Present) (computer : List ℕ) (four five : Timing) (items : List Item) → AreItems items
+    → (present.four || present.five) ≡ true → IsTiming four → IsTiming five
+    → Each (λ (p : Party). CanBeCalled p (reverse (trace_from present (delays_for computer four five items) items)))
+    (devices_of present four five)

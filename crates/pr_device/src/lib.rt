@@ -11,6 +11,7 @@
 //! - `timing` has a device's delays, `event` what it hears of a byte, `place` how the lines lead from one
 //!   byte to the next.
 //! - `state` has all that a device keeps: it follows the lines, hears, and answers.
+//! - `printing` has how long a printer prints, for [`Device::busy`].
 //! - `device` is the public face, with the relation `HasSeen` in its contracts.
 //! - `laws` has the laws. Their proofs: `Walking`, `Bits` and `Talking` go over moves, `Sharing` says what
 //!   devices do together, `Making` makes a frame, `Calling` an attention, `Items` an item, `Traces` all
@@ -24,10 +25,12 @@ mod device;
 mod event;
 pub mod laws;
 mod place;
+mod printing;
 mod state;
 mod timing;
 
 pub use device::Device;
 pub use event::Event;
+pub use printing::{Speed, printing_time};
 pub use state::Step;
 pub use timing::Timing;
