@@ -1,8 +1,13 @@
 -- The moments of lawful traces do not go back.
-use Rattle.std.proofs.Common.{ℕ, ◌+◌, ◌≤◌, ◌==◌, Bool, true, false, List, [], ◌∷◌, ◌++◌, Option, Some, None, if◌then◌else◌, sym, subst, arith}
+use Rattle.std.proofs.Common.{ℕ, ◌+◌, ◌≤◌, ◌==◌, Bool, true, false, List, [], ◌∷◌, ◌++◌, Option, Some, None}
+use Rattle.std.proofs.Common.{if◌then◌else◌, sym, subst, arith}
 use Rattle.pr_wire.specs.declared.Edge.{Edge}
 use Rattle.pr_wire.specs.Levels.{edge_at}
-use Rattle.pr_wire.specs.Pieces.{EoiAnswer, BitTimes, FrameTimes, SecondFrame, Ending, Between, Piece, AreClocked, IsOpened, IsFrame, IsSecond, AreReleased, IsEnded, IsCalled, IsAnswered, IsPiece, AreLawful, last_pull, last_ack, after_lines, after_ending, after_piece, bit_edges, pulse_edges, frame_edges, call_edge, answer_edges, second_edges, line_edges, clock_edges, ending_edges, piece_edges, edges_of}
+use Rattle.pr_wire.specs.Pieces.{EoiAnswer, BitTimes, FrameTimes, SecondFrame, Ending, Between, Piece, AreClocked}
+use Rattle.pr_wire.specs.Pieces.{IsOpened, IsFrame, IsSecond, AreReleased, IsEnded, IsCalled, IsAnswered, IsPiece}
+use Rattle.pr_wire.specs.Pieces.{AreLawful, last_pull, last_ack, after_lines, after_ending, after_piece, bit_edges}
+use Rattle.pr_wire.specs.Pieces.{pulse_edges, frame_edges, call_edge, answer_edges, second_edges, line_edges}
+use Rattle.pr_wire.specs.Pieces.{clock_edges, ending_edges, piece_edges, edges_of}
 use Rattle.pr_wire.specs.Pieces.Between.{Resting, Held, Loose}
 use Rattle.pr_wire.specs.Pieces.Piece.{Unanswered, Attention, DataByte, Dropped}
 use Rattle.pr_bus.specs.Answers.{answered_frames}
@@ -46,7 +51,8 @@ frame-goes : (x : Bool) (look : ℕ) (f : FrameTimes) → IsFrame x look f → G
 frame-goes x look f i =
     let last : ℕ = last_pull f.pull f.bits in (
       omega arith,
-      goes-append f.free last f.ack (pulse_edges f.pulse ++ bit_edges x f.pull f.bits) (edge_at f.ack x false false ∷ [])
+      goes-append f.free last f.ack (pulse_edges f.pulse ++ bit_edges x f.pull f.bits)
+          (edge_at f.ack x false false ∷ [])
           (goes-append f.free f.pull last (pulse_edges f.pulse) (bit_edges x f.pull f.bits)
           (pulse-goes x f.free f.pull f.pulse i.opened) (bits-go x f.pull f.pull f.bits (omega arith) i.clocked))
           (omega arith, omega arith),
@@ -67,7 +73,8 @@ called-goes (Loose r) a to es h k = (omega arith, k)
 some-answer : (a d look : ℕ) → a ≤ d → d ≤ look → Goes a (answer_edges (Some d) look) look
 some-answer a d look h k = by (d == look)
   where
-    by : (b : Bool) → Goes a ((if b then [] else edge_at d false false false ∷ []) ++ edge_at look false true false ∷ []) look
+    by : (b : Bool) → Goes a ((if b then [] else edge_at d false false false ∷ []) ++ edge_at look false true false
+        ∷ []) look
     by true = (omega arith, omega arith)
     by false = (h, (k, omega arith))
 

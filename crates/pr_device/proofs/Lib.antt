@@ -1,3 +1,4 @@
+pub mod Tests
 pub mod Walking
 pub mod Bits
 pub mod Talking

@@ -20,15 +20,16 @@ moves_of present delays items =
     released start ∷ timed_moves (wires present delays.computer delays.four delays.five) items
 
 -- the edges of these moves are the timed trace of the items, and talker and devices make them, until an end
-pub record TraceIsMade (present : Present) (delays : DelayNumbers) (parties : List Party) (items : List Item) (end : ℕ) : Type 0 where
+pub record TraceIsMade (present : Present) (delays : DelayNumbers) (parties : List Party) (items : List Item)
+    (end : ℕ) : Type 0 where
   pub edges : map (λ (m : Move). m.edge) (moves_of present delays items) ≡ trace_from present delays items
   pub made : AreMade parties [] (moves_of present delays items) end
 
 -- the timed trace of any items is made by the talker and devices, at least one, for which its printers stand
 abbrev pub TimedTracesAreMade : Type 0
 TimedTracesAreMade =
-    (present : Present) (delays : DelayNumbers) (p : Party) (others : List Party) (items : List Item) (end : ℕ) → AreItems items
-    → (present.four || present.five) ≡ true → Each (λ (q : Party). IsTiming q.timing) (p ∷ others)
+    (present : Present) (delays : DelayNumbers) (p : Party) (others : List Party) (items : List Item) (end : ℕ)
+    → AreItems items → (present.four || present.five) ≡ true → Each (λ (q : Party). IsTiming q.timing) (p ∷ others)
     → Each (λ (q : Party). q.device ≤ 30) (p ∷ others)
     → StandFor (p ∷ others) (wires present delays.computer delays.four delays.five) items
     → IsInTime (state_from present delays items).lines end → TraceIsMade present delays (p ∷ others) items end
@@ -39,7 +40,8 @@ abbrev pub PairsMakeTraces : Type 0
 PairsMakeTraces =
     (present : Present) (computer : List ℕ) (four five : Timing) (items : List Item) (end : ℕ) → AreItems items
     → (present.four || present.five) ≡ true → IsTiming four → IsTiming five
-    → (let delays : DelayNumbers = delays_for computer four five items in IsInTime (state_from present delays items).lines end
+    → (let delays : DelayNumbers = delays_for computer four five items in
+    IsInTime (state_from present delays items).lines end
     → TraceIsMade present delays (devices_of present four five) items end)
 
 -- the moments of the timed trace of any items do not go back

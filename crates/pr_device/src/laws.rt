@@ -1,6 +1,8 @@
 //! Laws of the definitions, with nothing to run. A caller whose proof needs one calls the function.
 
-ghost use Rattle.pr_device.specs.Laws.{DelaysAreKept, DevicesCanBeCalled, HistoriesAreHeard, LawfulTracesGoForward, PairsShareTheLine, TalkersAreHeard, TracesAreHeard, TracesSayWhatTheySpell, WakesAreActs, WakesSuffice};
+ghost use Rattle.pr_device.specs.Laws.{DelaysAreKept, DevicesCanBeCalled, HistoriesAreHeard, LawfulTracesGoForward};
+ghost use Rattle.pr_device.specs.Laws.{PairsShareTheLine, TalkersAreHeard, TracesAreHeard, TracesSayWhatTheySpell};
+ghost use Rattle.pr_device.specs.Laws.{WakesAreActs, WakesSuffice};
 ghost use Rattle.pr_device.specs.CourseLaws.{CallsAreMade, FramesAreMade};
 ghost use Rattle.pr_device.specs.PairLaws.{PairsCanBeCalled, PairsMakeTraces, TimedTracesAreMade, TimedTracesGoForward};
 
