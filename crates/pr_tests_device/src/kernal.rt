@@ -1,5 +1,5 @@
-//! A computer that moves as the KERNAL does: ATN before CLOCK, DATA set after CLOCK's pull, byte to byte without a pause,
-//! and CLOCK released for a moment before UNLISTEN.
+//! A computer that moves as the KERNAL does: ATN before CLOCK, DATA set after CLOCK's pull, byte to byte without a
+//! pause, and CLOCK released for a moment before UNLISTEN.
 
 use crate::bus::Bus;
 

@@ -1,8 +1,8 @@
-//! Tests of devices on a bus: two printers and a drive that only listens, with a computer that moves as the KERNAL does.
-//! What each hears is held against an oracle that is written apart.
+//! Tests of devices on a bus: two printers and a drive that only listens, with a computer that moves as the KERNAL
+//! does. What each hears is held against an oracle that is written apart.
 //!
-//! So that these tests are proved in little time, no function between a test and its parts takes memory or stops: what goes
-//! wrong is a flag of the bus, and each test asserts once.
+//! So that these tests are proved in little time, no function between a test and its parts takes memory or stops: what
+//! goes wrong is a flag of the bus, and each test asserts once.
 #![tactic(auto)]
 
 #[cfg(test)]

@@ -3,8 +3,8 @@
 use pr_device::{Device, Event, Speed, Timing, printing_time};
 use pr_wire::Levels;
 
-/// A moment with the levels of ATN, CLOCK and DATA, and what the device does: whether it pulls DATA, and when it wants to be
-/// called.
+/// A moment with the levels of ATN, CLOCK and DATA, and what the device does: whether it pulls DATA, and when it wants
+/// to be called.
 type Row = (u64, [u8; 3], bool, Option<u64>);
 
 /// What came of some moments: whether the device has done what the rows say, and the last thing that it has heard.
