@@ -1,7 +1,8 @@
 //! Three devices on one bus, whose lines somebody moves.
 
+use crate::edges::Record;
 use crate::party::Party;
-use pr_wire::Levels;
+use pr_wire::{Edge, Levels};
 
 /// So often do the devices act in one microsecond at most, and before one move of the computer.
 const MOST_ACTS: u32 = 64;
@@ -29,6 +30,8 @@ pub struct Bus {
     pub errs: bool,
     /// How many bytes the printers have printed.
     pub printed: u32,
+    /// The edges of the lines.
+    pub record: Record,
 }
 
 impl Bus {
@@ -44,6 +47,7 @@ impl Bus {
             drive: Party::new(8, drive),
             errs: false,
             printed: 0,
+            record: Record::new(),
         };
         bus.settle();
         bus
@@ -59,13 +63,18 @@ impl Bus {
         self.errs || self.four.errs || self.five.errs || self.drive.errs
     }
 
-    /// Shows the lines to all devices, and returns whether none of them changes them.
-    fn show(&mut self) -> bool {
-        let levels = Levels {
+    /// The levels of the lines.
+    fn levels(&self) -> Levels {
+        Levels {
             atn: self.atn,
             clock: self.clock,
             line: self.line(),
-        };
+        }
+    }
+
+    /// Shows the lines to all devices, and returns whether none of them changes them.
+    fn show(&mut self) -> bool {
+        let levels = self.levels();
         self.four.show(self.now, levels);
         self.five.show(self.now, levels);
         self.drive.show(self.now, levels);
@@ -76,6 +85,10 @@ impl Bus {
     pub fn settle(&mut self) {
         for _ in 0..MOST_ACTS {
             if self.show() {
+                self.record = self.record.after(Edge {
+                    time: self.now,
+                    levels: self.levels(),
+                });
                 return;
             }
         }
@@ -95,7 +108,7 @@ impl Bus {
     }
 
     /// Goes on to a moment. The devices act first.
-    fn advance(&mut self, to: u64) {
+    pub fn advance(&mut self, to: u64) {
         for _ in 0..MOST_ACTS {
             match self.next_wake() {
                 Some(wake) if wake <= to => self.act(wake),

@@ -157,7 +157,7 @@ fn a_drive_talks(rt: HostRuntime) {
 }
 
 /// Numbers that look random (the multiplier and the addend of Numerical Recipes).
-fn next_number(seed: &mut u32) -> u16 {
+pub fn next_number(seed: &mut u32) -> u16 {
     *seed = seed.wrapping_mul(1_664_525).wrapping_add(1_013_904_223);
     (*seed >> 16) as u16
 }
