@@ -4,6 +4,7 @@ from __future__ import annotations
 
 from collections.abc import Callable
 from dataclasses import dataclass
+from functools import cached_property
 from typing import TYPE_CHECKING, Union
 
 from .text import Name
@@ -63,8 +64,13 @@ class Whole(Expression):
 
     part: Expression
 
+    @cached_property
+    def is_too_complex(self) -> bool:
+        """Whether the machine would have to keep more strings at once than it can."""
+        return self.part.strings()[0] > 3
+
     def evaluate(self, run: Run) -> Value:
-        if self.part.strings()[0] > 3:
+        if self.is_too_complex:
             raise BasicError("FORMULA TOO COMPLEX")
         return self.part.evaluate(run)
 
@@ -79,7 +85,7 @@ class Literal(Expression):
         if isinstance(self.written, bytes):
             return self.written
         with used_at(self.place):
-            return self.written.value()
+            return self.written.number
 
     @property
     def gives_text(self) -> bool:

@@ -5,7 +5,7 @@ from __future__ import annotations
 import re
 from collections.abc import Iterator
 from dataclasses import dataclass
-from typing import Optional, Union
+from typing import NamedTuple, Optional, Union
 
 from .values import CONSTANT, Constant, Refused, constant_of
 
@@ -47,8 +47,7 @@ def string_of(text: bytes, place: int) -> bytes:
     return bytes(found)
 
 
-@dataclass(frozen=True)
-class Name:
+class Name(NamedTuple):
     """A variable's name as far as it counts: two characters, and `$` or `%` or nothing."""
 
     letters: str

@@ -12,6 +12,7 @@ from contextlib import contextmanager
 from dataclasses import dataclass
 from decimal import Context, Decimal
 from fractions import Fraction
+from functools import cached_property
 from typing import Optional, TypeVar, Union
 
 # ---- what ends a run
@@ -94,8 +95,15 @@ def with_sign(sign: int, low: Fraction, high: Fraction) -> Number:
 
 def bit_length(value: Fraction) -> int:
     """The k for which a value above 0 is from 2 ** (k - 1) to below 2 ** k."""
-    k = value.numerator.bit_length() - value.denominator.bit_length()
-    return k + (value >= Fraction(2) ** k)
+    above, below = value.numerator, value.denominator
+    k = above.bit_length() - below.bit_length()
+    return k + (above >= below << k if k >= 0 else above << -k >= below)
+
+
+def has_form(value: Fraction, digits: int) -> bool:
+    """Whether a value above 0 has at most so many binary digits beside those that are 0 at its end."""
+    above, below = value.numerator, value.denominator
+    return not below & (below - 1) and (above // (above & -above)).bit_length() <= digits
 
 
 def shortened(low: Fraction, high: Fraction) -> tuple[Fraction, Fraction]:
@@ -124,7 +132,7 @@ def answer(sign: int, low: Fraction, high: Fraction, digits: int, error: int) ->
     """What the machine may answer where the exact magnitude is between two: that itself if it has so many binary digits."""
     if not high:
         return ZERO
-    if low == high and (low / Fraction(2) ** (bit_length(low) - digits)).denominator == 1:
+    if low == high and has_form(low, digits):
         return in_range(sign, low, high)
     return near(sign, low, high, error)
 
@@ -294,7 +302,8 @@ class Constant:
     power: int
     roundings: int
 
-    def value(self) -> Number:
+    @cached_property
+    def number(self) -> Number:
         if abs(self.power) > 37:
             raise NotCertain
         scale = Fraction(10) ** self.power
@@ -328,4 +337,4 @@ def number_in(text: bytes) -> tuple[Number, str]:
     constant = constant_of(found)
     if not constant:
         raise NotCertain
-    return (negated(constant.value()) if minus else constant.value()), signs[found.end() :]
+    return (negated(constant.number) if minus else constant.number), signs[found.end() :]
