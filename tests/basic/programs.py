@@ -2,8 +2,8 @@
 """tests/basic/programs.py PROGRAM: runs the programs of this folder and compares with what they have to print.
 
 Each NAME.bas is run by tests/lib/basic.py. The statements that it performs are NAME.script, how it ends is NAME.end, and
-the lines that PROGRAM makes of the script are NAME.page; a program that is refused has no page. Random programs follow,
-whose scripts PROGRAM has to accept.
+the lines that PROGRAM makes of the script are NAME.page; a program that is refused has no page. Each list of lists.txt
+prints what it says there. Random programs follow, whose scripts PROGRAM has to accept.
 
     tests/basic/programs.py --make N FIRST FOLDER
 
@@ -12,6 +12,7 @@ writes N random programs, the first from seed FIRST: FOLDER/SEED.bas, with SEED.
 from __future__ import annotations
 
 import os
+import re
 import sys
 
 HERE = os.path.dirname(os.path.abspath(__file__))
@@ -41,6 +42,19 @@ def check_program(checks: Checks, program: str, name: str) -> None:
         return
     ran = run(program, "pages", "--as", "text", data=script)
     checks.expect(ran.output == bytes_of(page), f"{name}: another page than {name}.page, status {ran.status}: {ran.error}")
+
+
+def check_lists(checks: Checks) -> None:
+    """Each list of lists.txt prints what stands beside it, or ends so."""
+    for row in bytes_of(f"{HERE}/lists.txt").decode().splitlines():
+        if row.startswith("#"):
+            continue
+        listed, wanted = re.split(" +=> ", row)
+        outcome = run_program(f"1 OPEN 4,4\n2 PRINT#4,{listed}\n".encode())
+        found = "refused" if outcome.end.startswith("refused") else outcome.end.removesuffix(" in 2")
+        if len(outcome.script) == 2:
+            found = re.sub(r"CHR\$\((\d+)\)", r"{\1}", outcome.script[1].removeprefix("2 PRINT#4,")).replace(";", "")
+        checks.expect(found == wanted, f"PRINT#4,{listed}: {found}, not {wanted}")
 
 
 def made(seed: int) -> tuple[bytes, Outcome]:
@@ -80,6 +94,7 @@ def main(words: list[str]) -> int:
     for it in sorted(os.listdir(HERE)):
         if it.endswith(".bas"):
             check_program(checks, program, it[:-4])
+    check_lists(checks)
     for seed in range(1, MADE + 1):
         check_made(checks, program, seed)
     return checks.end()
