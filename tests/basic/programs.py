@@ -3,7 +3,7 @@
 
 Each NAME.bas is run by tests/lib/basic.py. The statements that it performs are NAME.script, how it ends is NAME.end, and
 the lines that PROGRAM makes of the script are NAME.page; a program that is refused has no page. Each list of lists.txt
-prints what it says there. Random programs follow, whose scripts PROGRAM has to accept.
+and each program of runs.txt prints what it says there. Random programs follow, whose scripts PROGRAM has to accept.
 
     tests/basic/programs.py --make N FIRST FOLDER
 
@@ -42,6 +42,28 @@ def check_program(checks: Checks, program: str, name: str) -> None:
         return
     ran = run(program, "pages", "--as", "text", data=script)
     checks.expect(ran.output == bytes_of(page), f"{name}: another page than {name}.page, status {ran.status}: {ran.error}")
+
+
+def printed(script: list[str]) -> str:
+    """What a script prints on file 4: strings, and other bytes in braces."""
+    found = ""
+    for line in script:
+        listed = re.fullmatch(r"\d+ (?:(?:PRINT#|CMD )4(?!\d),?|PRINT ?)(.*)", line)
+        if listed:
+            found += listed[1] + ("" if listed[1].endswith(";") else ";CHR$(13);")
+    return re.sub(r"CHR\$\((\d+)\)", r"{\1}", found).replace(";", "").replace('""', "")
+
+
+def check_runs(checks: Checks) -> None:
+    """Each program of runs.txt prints what stands beside it, and ends so."""
+    for row in bytes_of(f"{HERE}/runs.txt").decode().splitlines():
+        if row.startswith("#"):
+            continue
+        lines, wanted = row.split(" => ")
+        outcome = run_program(f'1 OPEN 4,4:CMD 4,"";\n2 {lines}'.replace(" \\ ", "\n").encode())
+        end = "" if outcome.end == "end of program" else outcome.end
+        found = "refused" if end.startswith("refused") else f"{printed(outcome.script)} {end}".strip()
+        checks.expect(found == wanted, f"{lines}: {found}, not {wanted}")
 
 
 def check_lists(checks: Checks) -> None:
@@ -94,6 +116,7 @@ def main(words: list[str]) -> int:
     for it in sorted(os.listdir(HERE)):
         if it.endswith(".bas"):
             check_program(checks, program, it[:-4])
+    check_runs(checks)
     check_lists(checks)
     for seed in range(1, MADE + 1):
         check_made(checks, program, seed)
