@@ -48,7 +48,7 @@ def printed(script: list[str]) -> str:
     """What a script prints on file 4: strings, and other bytes in braces."""
     found = ""
     for line in script:
-        listed = re.fullmatch(r"\d+ (?:(?:PRINT#|CMD )4(?!\d),?|PRINT ?)(.*)", line)
+        listed = re.fullmatch(r"\d+ (?:(?:PRINT#|CMD )4(?!\d),?|PRINT(?!#) ?)(.*)", line)
         if listed:
             found += listed[1] + ("" if listed[1].endswith(";") else ";CHR$(13);")
     return re.sub(r"CHR\$\((\d+)\)", r"{\1}", found).replace(";", "").replace('""', "")
