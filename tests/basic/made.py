@@ -67,7 +67,7 @@ class Maker:
             lambda: f"VAL({self.rng.choice((self.text(depth - 1), f'STR$({self.small()})'))})",
             lambda: f"({self.small()} {self.rng.choice(('AND', 'OR'))} {self.small()})",
             lambda: f"NOT {self.small()}",
-            lambda: f"-{self.rng.choice(NUMBERS)}",
+            lambda: self.rng.choice((f"-{self.rng.choice(NUMBERS)}", f"({a})^0", "POS(0)", f"INT(SQR(ABS({a})+.5))")),
             lambda: f"E({self.small()})",
             lambda: f"F%({self.rng.randrange(3)},{self.rng.choice(LOOPS)} AND 1)",
             lambda: f"{self.rng.choice(self.functions)}({b})" if self.functions else a,
@@ -124,7 +124,7 @@ class Maker:
         """READ, with the items for it: in some programs these are texts, which only strings can have."""
         targets = []
         for _ in range(self.rng.randrange(1, 4)):
-            is_number = not self.has_texts and self.chance(70) or self.chance(0.5)
+            is_number = not self.has_texts and self.chance(70) or self.chance(0.2)
             targets.append(self.rng.choice(NUMBERS + ("E(3)", "P%") if is_number else STRINGS + ("S$(2)",)))
             self.data.append(self.rng.choice(TEXTS if self.has_texts else FIGURES))
         return ("RESTORE:" if self.chance(15) else "") + "READ " + ",".join(targets)
@@ -142,7 +142,7 @@ class Maker:
 
     def simple(self) -> str:
         """One statement that goes on with the next."""
-        if self.chance(0.7):
+        if self.chance(0.35):
             return self.rng.choice(FAULTS)
         return self.pick(
             self.assignment, self.assignment, self.assignment, self.output, self.output, self.output, self.reading, self.choice,
@@ -172,13 +172,17 @@ class Maker:
     def block(self, depth: int, loops: tuple[str, ...]) -> None:
         """Some lines; loops inside have these variables."""
         for _ in range(self.rng.randrange(1, 5)):
-            kind = self.rng.randrange(6 if depth else 3)
+            kind = self.rng.randrange(9 if depth else 3)
             if kind < 3:
                 self.add(*(self.simple() for _ in range(self.rng.randrange(1, 4))))
-            elif kind == 3 and loops:
+            elif kind < 5 and loops:
                 self.loop(depth, loops)
-            elif kind == 4:
+            elif kind == 5 and loops[1:]:
+                self.joined_loops(depth, loops)
+            elif kind == 6:
                 self.skipped(depth, loops)
+            elif kind == 7:
+                self.chosen(depth, loops)
             else:
                 self.counted(depth, loops)
 
@@ -194,6 +198,23 @@ class Maker:
         self.add(self.rng.choice(("NEXT", f"NEXT {name}")) if self.chance(85) else f"NEXT{name}")
         self.label(end)
         self.add("REM LEFT" if self.chance(50) else self.assignment())
+
+    def joined_loops(self, depth: int, loops: tuple[str, ...]) -> None:
+        """Two loops that one NEXT ends."""
+        outer, inner = loops[:2]
+        self.add(f"FOR {outer}=1 TO {self.rng.randrange(1, 3)}:FOR {inner}={outer} TO {self.rng.choice(('2', '.35 STEP .1', '0 STEP-1'))}")
+        self.block(depth - 2 if depth > 1 else 0, loops[2:])
+        self.add(f"NEXT {inner},{outer}")
+
+    def chosen(self, depth: int, loops: tuple[str, ...]) -> None:
+        """Lines of which ON chooses where to begin."""
+        names = [f"o{len(self.lines)}_{at}" for at in range(self.rng.randrange(1, 4))]
+        selector = self.rng.choice((self.small(), self.small(), f"{self.number(1)}", "1/3+1"))
+        self.add(f"ON {selector} GOTO {','.join(f'<{it}>' for it in names)}")
+        for name in names:
+            self.block(0, loops)
+            self.label(name)
+            self.add(self.rng.choice((self.output(), self.assignment(), "REM HERE", "GO TO <" + names[-1] + ">" if name != names[-1] else "")))
 
     def skipped(self, depth: int, loops: tuple[str, ...]) -> None:
         """Lines that a condition leaves out."""
