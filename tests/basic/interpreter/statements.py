@@ -61,6 +61,8 @@ class Statement:
 
 @dataclass(frozen=True)
 class Failing(Statement):
+    """What is no statement."""
+
     def perform(self, run: Run) -> Optional[int]:
         raise BasicError("SYNTAX")
 
@@ -77,18 +79,24 @@ class NotRun(Statement):
 
 @dataclass(frozen=True)
 class End(Statement):
+    """END."""
+
     def perform(self, run: Run) -> Optional[int]:
         raise Ended("END", self.line)
 
 
 @dataclass(frozen=True)
 class Stop(Statement):
+    """STOP."""
+
     def perform(self, run: Run) -> Optional[int]:
         raise Ended("BREAK", self.line)
 
 
 @dataclass(frozen=True)
 class Assign(Statement):
+    """LET, with or without its word."""
+
     target: Variable
     value: Expression
 
@@ -112,6 +120,8 @@ class If(Statement):
 
 @dataclass(frozen=True)
 class Goto(Statement):
+    """GOTO a line."""
+
     target: int
 
     def perform(self, run: Run) -> Optional[int]:
@@ -122,6 +132,8 @@ class Goto(Statement):
 
 @dataclass(frozen=True)
 class Gosub(Goto):
+    """GOSUB: goes to a line, and notes where to come back."""
+
     def perform(self, run: Run) -> Optional[int]:
         run.push(Return(run.at + 1))
         return super().perform(run)
@@ -141,6 +153,8 @@ class Leave(Statement):
 
 @dataclass(frozen=True)
 class On(Statement):
+    """ON .. GOTO and ON .. GOSUB: the chosen jump, or none where the list is shorter."""
+
     selector: Expression
     jumps: Sequence[Goto]
 
@@ -151,6 +165,8 @@ class On(Statement):
 
 @dataclass(frozen=True)
 class For(Statement):
+    """FOR: a loop of the same variable that has begun is dropped, with those inside it."""
+
     name: Name
     start: Expression
     limit: Expression
@@ -168,6 +184,8 @@ class For(Statement):
 
 @dataclass(frozen=True)
 class Next(Statement):
+    """NEXT with the places and names of its variables; without one it has the last loop."""
+
     names: Sequence[tuple[int, Optional[Name]]]
 
     def perform(self, run: Run) -> Optional[int]:
@@ -190,6 +208,8 @@ class Next(Statement):
 
 @dataclass(frozen=True)
 class Read(Statement):
+    """READ."""
+
     targets: Sequence[Variable]
 
     def perform(self, run: Run) -> Optional[int]:
@@ -201,6 +221,8 @@ class Read(Statement):
 
 @dataclass(frozen=True)
 class Restore(Statement):
+    """RESTORE."""
+
     def perform(self, run: Run) -> Optional[int]:
         run.item = 0
         return None
@@ -208,6 +230,8 @@ class Restore(Statement):
 
 @dataclass(frozen=True)
 class Dim(Statement):
+    """DIM; a variable without indices changes nothing."""
+
     variables: Sequence[Variable]
 
     def perform(self, run: Run) -> Optional[int]:
@@ -233,6 +257,8 @@ class Clear(Statement):
 
 @dataclass(frozen=True)
 class Define(Statement):
+    """DEF FN."""
+
     name: Name
     parameter: Name
     body: Expression
@@ -261,6 +287,8 @@ class Poke(Statement):
 
 @dataclass(frozen=True)
 class Open(Statement):
+    """OPEN with file, device and perhaps a secondary address."""
+
     numbers: Sequence[Expression]
 
     def perform(self, run: Run) -> Optional[int]:
@@ -281,6 +309,8 @@ class Open(Statement):
 
 @dataclass(frozen=True)
 class Close(Statement):
+    """CLOSE a file; further numbers, as OPEN has them, change nothing."""
+
     numbers: Sequence[Expression]
 
     def perform(self, run: Run) -> Optional[int]:
