@@ -190,7 +190,7 @@ static int send_all(uint8_t address, int second, const uint8_t *bytes, size_t le
     size_t index;
     if (!attention((uint8_t)(32 + address), second)) return 0;
     for (index = 0; index < length; index++) {
-        pass(100);
+        pass(index % 16 == 15 ? 3000 : 100); /* now and then the computer has something else to do */
         if (!send(bytes[index], index + 1 == length)) return 0;
     }
     return attention(63, -1);
