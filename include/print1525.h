@@ -59,7 +59,8 @@
  * - Threads: no call keeps any state, so several threads may make calls at once.
  * - Stack: at most 4096 bytes of it for print1525_decoder_.., _receiver_.., _strict_.., _device_.., _printer_.. and the
  *   calls under `Words` above; at most PRINT1525_STACK for each other call, print1525_edges among them. Where functions
- *   of the C library are bound at their first call (without `-z now`), the dynamic linker needs some 2500 bytes more then.
+ *   of the C library are bound at their first call (without `-z now`), the dynamic linker needs some 2500 bytes more
+ *   then.
  * - Memory: malloc, realloc and free of one allocator, aligned as C demands. Where they give none, a call fails with
  *   PRINT1525_FAULT_NO_MEMORY and has freed what it took.
  * - Signal handlers: the calls with at most 4096 bytes of stack, which take no memory, and no others.
@@ -604,7 +605,7 @@ PRINT1525_CALL int print1525_receiver_edge(print1525_receiver *receiver, const p
 typedef struct {
     uint16_t attention; /* from ATN's pull to DATA's pull (1, 100, 1000) */
     uint16_t hold;      /* from CLOCK's release before a byte to DATA's release (1, 50, 10000) */
-    uint16_t wait;      /* from DATA's release to its pull, where the talker waits with end-or-identify (200, 250, 250) */
+    uint16_t wait;      /* from DATA's release to its pull, with end-or-identify (200, 250, 250) */
     uint16_t answer;    /* how long that answer lasts (80, 80, 200) */
     uint16_t accept;    /* from CLOCK's last pull in a byte to DATA's pull: the byte is acknowledged (1, 20, 80) */
     uint16_t leave;     /* from ATN's release to DATA's release, if the device does not listen (1, 20, 60) */
@@ -612,7 +613,7 @@ typedef struct {
 
 /* A device: what the library keeps of one between two moments. Its numbers are the library's own. Copy, save and load
  * its bytes freely; their version is among them. A device of another version, or memory that is no device, is refused
- * as no such device (21), and all other numbers mean some device. */
+ * as no such device (21); all other numbers mean some device. */
 typedef struct {
     uint64_t kept[8];
 } print1525_device;
@@ -622,7 +623,7 @@ typedef struct {
 
 /* What a device does at a moment, and what it hears then. */
 typedef struct {
-    uint64_t wake;            /* show it the lines again at this microsecond, if none changes before; or PRINT1525_NO_WAKE */
+    uint64_t wake;            /* when to show it the lines again, if none changes before; or PRINT1525_NO_WAKE */
     uint8_t pulls_data;       /* 1: it pulls DATA from this moment on; 0: it does not */
     print1525_received heard; /* with CLOCK's last pull in a byte what the byte says to the device, else nothing */
 } print1525_step;
@@ -638,20 +639,21 @@ PRINT1525_CALL size_t print1525_device_size(void);
 PRINT1525_CALL int print1525_device_begin(print1525_device *device, uint8_t address, const print1525_timing *timing,
                                           print1525_details *details);
 
-/* Shows a device the lines at a moment, and answers with what it does to DATA and what it hears. Call it for each device
- * whenever a line changes, also where a device has changed DATA, and at each `wake`. DATA's level is that of the wire: it
- * is pulled as long as anybody pulls it, this device too.
+/* Shows a device the lines at a moment, and answers with what it does to DATA and what it hears. Call it for each
+ * device whenever a line changes, also where a device has changed DATA, and at each `wake`. DATA's level is that of the
+ * wire: it is pulled as long as anybody pulls it, this device too.
  *
  * Reads: a device that was begun; a moment in microseconds below 2^63 that is not earlier than the last one, and the
  * levels of the lines. The same moment may be shown several times.
  * Gives: the step. The device keeps pulling, or not, until the next step.
- * Refuses, with the device as it was: NULL (80), with nothing written but details; numbers that are no device's (21); and
- * a moment that goes back, or is too late (17). With these two the step pulls nothing, hears nothing and has no wake. */
+ * Refuses, with the device as it was: NULL (80), with nothing written but details; numbers that are no device's (21);
+ * and a moment that is earlier than the last one, or is 2^63 or more (17). With these two the step pulls nothing, hears
+ * nothing and has no wake. */
 PRINT1525_CALL int print1525_device_step(print1525_device *device, const print1525_edge *moment, print1525_step *step,
                                          print1525_details *details);
 
-/* Lets a device print until a moment: before the next byte it holds DATA until then, and the talker waits. It hears what
- * comes meanwhile. DATA that is released before a byte already is not pulled again.
+/* Lets a device print until a moment: before the next byte it holds DATA until then, and the talker waits. It hears
+ * what comes meanwhile. Once it has released DATA before a byte, it does not pull it again for that.
  *
  * Refuses: NULL. */
 PRINT1525_CALL int print1525_device_busy(print1525_device *device, uint64_t until);

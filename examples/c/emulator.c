@@ -2,8 +2,8 @@
  * A computer drives ATN, CLOCK and DATA bit by bit, as the KERNAL of a Commodore 64 does. It prints each line of the
  * text on two printers, 4 and 5 (the second in lower case), and writes it to a file on drive 8. The library says when
  * each device pulls and releases DATA; while a printer prints a line, the computer waits. Time is virtual: nothing here
- * sleeps. The first sheets come out as PREFIX-4.pgm and PREFIX-5.pgm, the file as PREFIX-8.seq, and a line says how many
- * microseconds all that took. Nothing here calls malloc. */
+ * sleeps. The first sheets come out as PREFIX-4.pgm and PREFIX-5.pgm, the file as PREFIX-8.seq, and a line says how
+ * many microseconds all that took. Nothing here calls malloc. */
 #include "print1525.h"
 #include <stdio.h>
 #include <string.h>
@@ -213,7 +213,8 @@ static int write_file(const char *prefix, const char *name, const char *head, co
 static size_t next_line(uint8_t *line) {
     size_t length = 0;
     int byte = 0;
-    while (length < 255 && byte != '\n' && (byte = getchar()) != EOF) line[length++] = (uint8_t)(byte == '\n' ? 13 : byte);
+    while (length < 255 && byte != '\n' && (byte = getchar()) != EOF)
+        line[length++] = (uint8_t)(byte == '\n' ? 13 : byte);
     return length;
 }
 

@@ -506,8 +506,8 @@ static void try_names(void) {
 
 /* ---- A device on the bus. ---- */
 
-/* A moment that a device is shown, and what it does then. At a moment with a byte, the byte's bits come: CLOCK is pulled
- * for 70 microseconds and released for 20, eight times, and then pulled. */
+/* A moment that a device is shown, and what it does then. At a moment with a byte, the byte's bits come: CLOCK is
+ * pulled for 70 microseconds and released for 20, eight times, and then pulled. */
 typedef struct {
     uint64_t now;
     uint8_t atn, clock, data;
@@ -520,8 +520,8 @@ typedef struct {
 #define NO_BYTE -1
 #define NOTHING {0, 0, 0}
 
-/* Device 4 is called, prints until 5000 and hears an A with end-or-identify, at typical delays: AT 100, H 50, YE 250, EI
- * 80 and F 20 (docs/TIMING.md). */
+/* Device 4 is called, prints until 5000 and hears an A with end-or-identify, at typical delays: AT 100, H 50, YE 250,
+ * EI 80 and F 20 (docs/TIMING.md). */
 static const moment_row moment_rows[] = {
     {0, 1, 1, 1, NO_BYTE, 0, PRINT1525_NO_WAKE, NOTHING},
     {1000, 0, 0, 1, NO_BYTE, 0, 1100, NOTHING}, /* ATN is pulled */

@@ -81,14 +81,16 @@ place-keeps w (Opening look (Some free) eoi) = (refl, refl)
 place-keeps w (Bits eoi count byte) = (refl, refl)
 
 version-stored : (last : ℕ) (s : State) → (stored last s).version ≡ 1
-version-stored last s = (change-keeps (with_place (stored_plain last s) s.place) s.since).0 ∙ (place-keeps (stored_plain last s) s.place).0
+version-stored last s =
+    (change-keeps (with_place (stored_plain last s) s.place) s.since).0 ∙ (place-keeps (stored_plain last s) s.place).0
 
 last-stored : (last : ℕ) (s : State) → (stored last s).last ≡ last
-last-stored last s = (change-keeps (with_place (stored_plain last s) s.place) s.since).1 ∙ (place-keeps (stored_plain last s) s.place).1
+last-stored last s =
+    (change-keeps (with_place (stored_plain last s) s.place) s.since).1 ∙ (place-keeps (stored_plain last s) s.place).1
 
 -- the numbers of a device that was shown these moments
-pub shown-stored : (history : List Edge) (last : ℕ) (s : State) → IsSound s → HasSeen history s → last ≡ time_after history
-    → WasShown history (stored last s)
+pub shown-stored : (history : List Edge) (last : ℕ) (s : State) → IsSound s → HasSeen history s
+    → last ≡ time_after history → WasShown history (stored last s)
 shown-stored history last s sound seen l =
     let back : s ≡ state_by (stored last s) = sym (come-back last s) in
     record {
@@ -101,9 +103,12 @@ shown-stored history last s sound seen l =
 pub shown-next : (history : List Edge) (e : Edge) (old new : WireDevice) (s next : State) (step : Step)
     → s ≡ state_by old → new ≡ stored e.time next → IsSound next → HasSeen (e ∷ history) next
     → step.event ≡ event_at (timing_of s).wait (device_of s) history e
-    → step.pulls_data ≡ pulls (timing_of s) (busy_until s) (is_pulling s) (standing (timing_of s).wait (device_of s) (e ∷ history)) e.time
-    → step.wake ≡ wake (timing_of s) (busy_until s) step.pulls_data (standing (timing_of s).wait (device_of s) (e ∷ history)) e.time
-    → is_pulling next ≡ step.pulls_data → device_of next ≡ device_of s → timing_of next ≡ timing_of s → busy_until next ≡ busy_until s
+    → step.pulls_data ≡ pulls (timing_of s) (busy_until s) (is_pulling s)
+        (standing (timing_of s).wait (device_of s) (e ∷ history)) e.time
+    → step.wake ≡ wake (timing_of s) (busy_until s) step.pulls_data
+        (standing (timing_of s).wait (device_of s) (e ∷ history)) e.time
+    → is_pulling next ≡ step.pulls_data → device_of next ≡ device_of s → timing_of next ≡ timing_of s
+    → busy_until next ≡ busy_until s
     → IsShown history e old new step
 shown-next history e old new s next step is kept sound seen event does wakes pulling device timing busy =
     let back : state_by new ≡ next = ap state_by kept ∙ come-back e.time next in

@@ -160,8 +160,8 @@ pub extern "C" fn print1525_device_begin(
 }
 
 /// Shows a device the lines at a moment, in microseconds: a line is 0 where it is pulled, and any other number where it
-/// is released. `step` gets what the device does and hears, or nothing where the moment is refused. The answer is that of
-/// [`show_device`], in plain numbers. It takes no memory.
+/// is released. `step` gets what the device does and hears, or nothing where the moment is refused. The answer is that
+/// of [`show_device`], in plain numbers. It takes no memory.
 #[unsafe(no_mangle)]
 pub extern "C" fn print1525_device_step(
     device: &mut WireDevice,

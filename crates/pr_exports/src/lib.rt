@@ -19,9 +19,9 @@
 //!   without a word on the text. A recording that cannot be read to its end answers its fault, and the text of what comes
 //!   before it too.
 //!
-//! - `devices` has a device on the bus that hears and answers, for emulators and adapters in C, between two calls in the
-//!   numbers of `device_numbers`: all that it keeps, their version among it. A device is restored and stored with each
-//!   call, which copies a few numbers; numbers that are no device's are refused. It takes no memory.
+//! - `devices` has a device on the bus that hears and answers, for emulators and adapters in C. Between two calls it is
+//!   in the numbers of `device_numbers`, with their version. A step restores and stores it, which copies a few numbers,
+//!   and refuses numbers that are no device's. It takes no memory.
 //!
 //! `settings` gives the numbers that a caller passes their meaning, `answer` has what is answered, and `faults` the numbers
 //! of faults.
