@@ -161,15 +161,15 @@ static int send(uint8_t byte, int is_last) {
     return wait_for_data(0, now + 1000);
 }
 
-/* Sends one command, or two. Gives 0 where no device answers. */
+/* ATN is pulled, and one command comes, or two. Gives 0 where no device answers. */
 static int attention(uint8_t first, int second) {
     int is_done;
     pass(100);
-    set(atn, first == 63 || clock_line, 1);
+    if (first == 63) set(atn, 1, 1); /* UNLISTEN */
     set(0, clock_line, 1);
     pass(10);
     set(0, 0, 1);
-    pass(1000);
+    pass(1000); /* so long a device has to pull DATA */
     is_done = !is_data_released() && send(first, 0);
     if (is_done && second >= 0) {
         pass(1000);
@@ -177,7 +177,7 @@ static int attention(uint8_t first, int second) {
     }
     pass(100);
     set(1, clock_line, 1);
-    if (first == 63 || !is_done) {
+    if (first == 63 || !is_done) { /* nobody is called any more */
         pass(100);
         set(1, 1, 1);
     }
@@ -185,7 +185,7 @@ static int attention(uint8_t first, int second) {
     return is_done;
 }
 
-/* Calls a device, sends it bytes, the last with end-or-identify, and dismisses it. */
+/* LISTEN to a device, bytes, the last with end-or-identify, and UNLISTEN. */
 static int send_all(uint8_t address, int second, const uint8_t *bytes, size_t length) {
     size_t index;
     if (!attention((uint8_t)(32 + address), second)) return 0;
