@@ -16,6 +16,19 @@
 #                   browser, examples, cases and documents, as out/print1525-VERSION-PLATFORM.tar.gz or .zip with its SHA-256: of one
 #                   commit always the same bytes
 # make bench        speed and peak memory beside `wc -l`, with the aim of each
+#
+# While you write (each says more with --help):
+# tools/check NAME            proves a crate; with GATE=TREE over the libraries that the gate in another copy, TREE, has proved
+# cases/run --try NAME..      cases, by a build of which nothing is proved
+# tools/edits NAME            each wrong idea of a crate: which function is refused, by which clause; NAME/IDEA tries one (a minute),
+#                             --compile NAME says which can still be applied and compiled (seconds, after `make test`)
+# tools/plants --minutes 10 NAME..   wrong bodies that the crates' contracts let through, into tests/evidence/plants.md
+# tools/gate-times make test  the gate, with the processor minutes of each crate
+# tools/trust CLAIM           the definitions that a claim of docs/TRUST.md rests on
+# tools/definitions WORD      all definitions that have a word
+# tools/calls CRATE           the public calls of a crate; with --names all its public names
+# tools/port/exports          the exports, and who calls each
+# tools/house                 before a release: what is long or repeated, lines to believe, minutes
 
 SHELL := /bin/bash
 export PYTHONDONTWRITEBYTECODE := 1

@@ -660,7 +660,7 @@ PRINT1525_CALL int print1525_device_busy(print1525_device *device, uint64_t unti
 
 /* ------------------------------------------------------------------------------ receivers of this very timing -- */
 
-/* The place that a strict receiver's edges have reached in the table of lawful traces (docs/DEFINITIONS.md), and what
+/* The place that a strict receiver's edges have reached in the table of lawful traces (docs/TIMING.md), and what
  * it keeps of a byte. Each number belongs to the places named with it, and is 0 in all others. */
 typedef struct {
     uint64_t since;     /* when the place began: the time of the last edge, but 0 to 1000 before it in a call (1) with

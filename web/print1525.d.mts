@@ -90,7 +90,7 @@ export interface Print1525 {
   readingRows(asked: Recording & { detail?: 0 | 1 | 2 | 3 }): Numbers;
   /** seven numbers for each of the ten intervals of the summary: how many there are, least, middle and greatest, the profile's bounds, how many lie outside */
   intervals(asked: Recording): Numbers;
-  /** the least and the greatest delay, in microseconds, of Bb, Aw, Ne, Ry, S, V, R, Cr, At, H, Ye, Ei, F and Dr (docs/DEFINITIONS.md), and of an answer of two listeners */
+  /** the least and the greatest delay, in microseconds, of Bb, Aw, Ne, Ry, S, V, R, Cr, At, H, Ye, Ei, F and Dr (docs/TIMING.md), and of an answer of two listeners */
   bounds(): Numbers;
   /** the line of each statement of a script, from 1; with code 2 there are none */
   statementLines(asked: Script): Numbers;

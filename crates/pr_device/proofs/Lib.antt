@@ -1,3 +1,4 @@
+pub mod Tests
 pub mod Walking
 pub mod Bits
 pub mod Talking
@@ -14,3 +15,5 @@ pub mod Called
 pub mod Items
 pub mod Traces
 pub mod Numbering
+pub mod Forward
+pub mod PairCalls

@@ -1,10 +1,13 @@
 -- What two devices do to one line together.
-use Rattle.std.proofs.Common.{◌≡◌, ℕ, ◌+◌, ◌<◌, ◌≤◌, nat_lt, min, max, Bool, true, false, not, ◌&&◌, ◌||◌, Some, None, if◌then◌else◌, refl, sym, ap, ◌∙◌, arith, ltb-true, ltb-false, le-ltb, lt-ltb, ◌⊎◌, inl, inr}
+use Rattle.std.proofs.Common.{◌≡◌, ℕ, ◌+◌, ◌<◌, ◌≤◌, nat_lt, min, max, Bool, true, false, not, ◌&&◌, ◌||◌, Some, None}
+use Rattle.std.proofs.Common.{if◌then◌else◌, refl, sym, ap, ◌∙◌, arith, ltb-true, ltb-false, le-ltb, lt-ltb, ◌⊎◌, inl}
+use Rattle.std.proofs.Common.{inr}
 use Rattle.pr_device.specs.declared.place.Place.{Place}
 use Rattle.pr_device.specs.declared.place.Place.TheVariants.{Between, Sent, Opening}
 use Rattle.pr_device.specs.declared.timing.Timing.{Timing}
 use Rattle.pr_device.specs.Data.{Standing, pulls, pulls_at, calls, leaves, is_away}
 use Rattle.pr_device.specs.Laws.{PairsShareTheLine}
+use Rattle.pr_device.proofs.Tests.{or-left, or-right}
 use Rattle.pr_device.proofs.Delays.{near}
 use Rattle.pr_device.proofs.Stepping.{left-true, right-true}
 use Rattle.pr_device.proofs.Walking.{chosen}
@@ -24,14 +27,6 @@ lt-not n m h = by (nat_lt n m) refl h
     by : (b : Bool) → nat_lt n m ≡ b → not b ≡ true → m ≤ n
     by false k i = ltb-false n m k
     by true k i = absurd (let j : false ≡ true = i in cc)
-
-pub or-left : (a b : Bool) → a ≡ true → (a || b) ≡ true
-or-left true b h = refl
-or-left false b h = absurd (let k : false ≡ true = h in cc)
-
-pub or-right : (a b : Bool) → b ≡ true → (a || b) ≡ true
-or-right true b h = refl
-or-right false b h = h
 
 pub both-hold : (a b : Bool) → a ≡ true → b ≡ true → (a && b) ≡ true
 both-hold true b h k = k
@@ -73,7 +68,8 @@ last-releases n m a b = same-tests (nat_lt n (m + a) || nat_lt n (m + b)) (nat_l
 
 -- pulled with the first
 pub first-pulls : (n m a b : ℕ) → (not (nat_lt n (m + a)) || not (nat_lt n (m + b))) ≡ not (nat_lt n (m + min a b))
-first-pulls n m a b = same-tests (not (nat_lt n (m + a)) || not (nat_lt n (m + b))) (not (nat_lt n (m + min a b))) to from
+first-pulls n m a b =
+    same-tests (not (nat_lt n (m + a)) || not (nat_lt n (m + b))) (not (nat_lt n (m + min a b))) to from
   where
     by : OneHolds (not (nat_lt n (m + a))) (not (nat_lt n (m + b))) → not (nat_lt n (m + min a b)) ≡ true
     by (inl h) = let k : m + a ≤ n = lt-not n (m + a) h in not-lt n (m + min a b) (omega arith)
@@ -105,9 +101,12 @@ is-in n p q h k = both-hold (not (nat_lt n p)) (nat_lt n q) (not-lt n p h) (lt-l
 -- two answers that overlap are one
 answers-meet : (n m a b c d : ℕ) → a < b + d → b < a + c
     → (is_in n (m + a) (m + a + c) || is_in n (m + b) (m + b + d)) ≡ is_in n (m + min a b) (m + max (a + c) (b + d))
-answers-meet n m a b c d i j = same-tests (is_in n (m + a) (m + a + c) || is_in n (m + b) (m + b + d)) (is_in n (m + min a b) (m + max (a + c) (b + d))) to from
+answers-meet n m a b c d i j =
+    same-tests (is_in n (m + a) (m + a + c) || is_in n (m + b) (m + b + d))
+    (is_in n (m + min a b) (m + max (a + c) (b + d))) to from
   where
-    by : OneHolds (is_in n (m + a) (m + a + c)) (is_in n (m + b) (m + b + d)) → is_in n (m + min a b) (m + max (a + c) (b + d)) ≡ true
+    by : OneHolds (is_in n (m + a) (m + a + c)) (is_in n (m + b) (m + b + d))
+        → is_in n (m + min a b) (m + max (a + c) (b + d)) ≡ true
     by (inl h) =
         let k : m + a ≤ n = in-from n (m + a) (m + a + c) h in
         let l : n < m + a + c = in-to n (m + a) (m + a + c) h in
@@ -117,7 +116,8 @@ answers-meet n m a b c d i j = same-tests (is_in n (m + a) (m + a + c) || is_in 
         let l : n < m + b + d = in-to n (m + b) (m + b + d) h in
         is-in n (m + min a b) (m + max (a + c) (b + d)) (omega arith) (omega arith)
 
-    to : (is_in n (m + a) (m + a + c) || is_in n (m + b) (m + b + d)) ≡ true → is_in n (m + min a b) (m + max (a + c) (b + d)) ≡ true
+    to : (is_in n (m + a) (m + a + c) || is_in n (m + b) (m + b + d)) ≡ true
+        → is_in n (m + min a b) (m + max (a + c) (b + d)) ≡ true
     to h = by (one-holds (is_in n (m + a) (m + a + c)) (is_in n (m + b) (m + b + d)) h)
 
     one : m + a ≤ n → n < m + a + c → (is_in n (m + a) (m + a + c) || is_in n (m + b) (m + b + d)) ≡ true
@@ -126,7 +126,8 @@ answers-meet n m a b c d i j = same-tests (is_in n (m + a) (m + a + c) || is_in 
     other : m + b ≤ n → n < m + b + d → (is_in n (m + a) (m + a + c) || is_in n (m + b) (m + b + d)) ≡ true
     other k l = or-right (is_in n (m + a) (m + a + c)) (is_in n (m + b) (m + b + d)) (is-in n (m + b) (m + b + d) k l)
 
-    which : m + min a b ≤ n → n < m + max (a + c) (b + d) → (m + a ≤ n) ⊎ (n < m + a) → (m + b ≤ n) ⊎ (n < m + b) → (m + a + c ≤ n) ⊎ (n < m + a + c)
+    which : m + min a b ≤ n → n < m + max (a + c) (b + d) → (m + a ≤ n) ⊎ (n < m + a) → (m + b ≤ n) ⊎ (n < m + b)
+        → (m + a + c ≤ n) ⊎ (n < m + a + c)
         → (is_in n (m + a) (m + a + c) || is_in n (m + b) (m + b + d)) ≡ true
     which k l (inl x) y (inr z) = one x z
     which k l (inl x) (inl y) (inl z) = other y (omega arith)
@@ -134,7 +135,8 @@ answers-meet n m a b c d i j = same-tests (is_in n (m + a) (m + a + c) || is_in 
     which k l (inr x) (inl y) z = other y (omega arith)
     which k l (inr x) (inr y) z = absurd (omega arith)
 
-    from : is_in n (m + min a b) (m + max (a + c) (b + d)) ≡ true → (is_in n (m + a) (m + a + c) || is_in n (m + b) (m + b + d)) ≡ true
+    from : is_in n (m + min a b) (m + max (a + c) (b + d)) ≡ true
+        → (is_in n (m + a) (m + a + c) || is_in n (m + b) (m + b + d)) ≡ true
     from h =
         which (in-from n (m + min a b) (m + max (a + c) (b + d)) h) (in-to n (m + min a b) (m + max (a + c) (b + d)) h)
         (either-order (m + a) n) (either-order (m + b) n) (either-order (m + a + c) n)
@@ -154,7 +156,8 @@ pub pairs-share : PairsShareTheLine
 pairs-share t u s now w v = record {
   called = λ since a x e k.
       let one : (r : Timing) → pulls_at r 0 false s Between now ≡ not (nat_lt now (since + r.attention)) =
-      λ (r : Timing). ap (λ b. if b then not s.clock else calls r false s.since now) x ∙ ap (λ o. calls r false o now) k in
+      λ (r : Timing). ap (λ b. if b then not s.clock else calls r false s.since now) x
+      ∙ ap (λ o. calls r false o now) k in
       both-near t u false s now Between a e
       ∙ (ap (λ b. b || pulls_at u 0 false s Between now) (one t)
       ∙ (ap (λ b. not (nat_lt now (since + t.attention)) || b) (one u)
@@ -172,12 +175,14 @@ pairs-share t u s now w v = record {
       let u2 : u.wait ≤ 250 = v.wait.to in
       let u3 : 80 ≤ u.answer = v.answer.from in
       both-near t u before s now (Opening look (Some free) eoi) a e
-      ∙ (ap (λ b. (b && (not (nat_lt now (free + t.wait)) && nat_lt now (free + t.wait + t.answer))) || (b && (not (nat_lt now (free + u.wait)) && nat_lt now (free + u.wait + u.answer)))) x
+      ∙ (ap (λ b. (b && (not (nat_lt now (free + t.wait)) && nat_lt now (free + t.wait + t.answer)))
+      || (b && (not (nat_lt now (free + u.wait)) && nat_lt now (free + u.wait + u.answer)))) x
       ∙ answers-meet now free t.wait u.wait t.answer u.answer (omega arith) (omega arith));
   accepted = λ pull a e. both-near t u false s now (Sent pull) a e ∙ first-pulls now pull t.accept u.accept;
   left = λ since a k.
       let one : (r : Timing) → pulls r 0 true s now ≡ nat_lt now (since + r.leave) =
-      λ (r : Timing). chosen (is_away s) (leaves r true s.since now) (pulls_at r 0 true s s.place now) a ∙ ap (λ o. leaves r true o now) k in
+      λ (r : Timing). chosen (is_away s) (leaves r true s.since now) (pulls_at r 0 true s s.place now) a
+      ∙ ap (λ o. leaves r true o now) k in
       ap (λ b. b || pulls u 0 true s now) (one t)
       ∙ (ap (λ b. nat_lt now (since + t.leave) || b) (one u) ∙ last-releases now since t.leave u.leave);
 }

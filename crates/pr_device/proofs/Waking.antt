@@ -1,5 +1,7 @@
 -- Each wake is the moment of the device's next act.
-use Rattle.std.proofs.Common.{◌≡◌, ℕ, ◌+◌, ◌<◌, ◌≤◌, ◌==◌, nat_lt, max, Bool, true, false, not, ◌&&◌, ◌||◌, Option, Some, None, if◌then◌else◌, refl, sym, ap, ◌∙◌, arith, ltb-false, le-ltb, lt-ltb, eqb-true, eq-eqb, subst}
+use Rattle.std.proofs.Common.{◌≡◌, ℕ, ◌+◌, ◌<◌, ◌≤◌, ◌==◌, nat_lt, max, Bool, true, false, not, ◌&&◌, ◌||◌, Option}
+use Rattle.std.proofs.Common.{Some, None, if◌then◌else◌, refl, sym, ap, ◌∙◌, arith, ltb-false, le-ltb, lt-ltb, eqb-true}
+use Rattle.std.proofs.Common.{eq-eqb, subst}
 use Rattle.pr_device.specs.declared.place.Place.{Place}
 use Rattle.pr_device.specs.declared.place.Place.TheVariants.{Between, Sent, Opening, Bits}
 use Rattle.pr_device.specs.declared.timing.Timing.{Timing}
@@ -21,10 +23,6 @@ before-where : (b : Bool) (m later : ℕ) → IsBefore later (where_true b m) �
 before-where true m later h k = h
 before-where false m later h k = absurd (let i : false ≡ true = k in cc)
 
-not-false : (b : Bool) → b ≡ false → not b ≡ true
-not-false false h = refl
-not-false true h = absurd (let k : true ≡ false = h in cc)
-
 -- two bounds of an answer, while neither is passed
 answer-stays : (x : Bool) (d e now later : ℕ) → now ≤ later → d ≤ e
     → IsBefore later (if nat_lt now d then where_true x d else where_true (x && nat_lt now e) e)
@@ -32,7 +30,8 @@ answer-stays : (x : Bool) (d e now later : ℕ) → now ≤ later → d ≤ e
 answer-stays false d e now later i j h = refl
 answer-stays true d e now later i j h = by (nat_lt now d) (nat_lt now e) refl refl h
   where
-    by : (p q : Bool) → nat_lt now d ≡ p → nat_lt now e ≡ q → IsBefore later (if p then where_true true d else where_true (true && q) e)
+    by : (p q : Bool) → nat_lt now d ≡ p → nat_lt now e ≡ q
+        → IsBefore later (if p then where_true true d else where_true (true && q) e)
         → (not (nat_lt later d) && nat_lt later e) ≡ (not p && q)
     by true q a b k = ap (λ v. not v && nat_lt later e) (lt-ltb later d k)
     by false true a b k =
@@ -52,13 +51,15 @@ before-after b a d later h k = before-where b (a + d) later (subst (IsBefore lat
 
 -- between two bytes
 between-stays : (t : Timing) (before clock atn : Bool) (since : Option ℕ) (now later : ℕ)
-    → IsBefore later (after_where (not atn && not (if atn then not clock else calls t before since now)) since t.attention)
-    → (if atn then not clock else calls t (if atn then not clock else calls t before since now) since later) ≡ (if atn then not clock else calls t before since now)
+    → IsBefore later (after_where (not atn && not (if atn then not clock else calls t before since now)) since
+    t.attention)
+    → (if atn then not clock else calls t (if atn then not clock else calls t before since now) since later)
+    ≡ (if atn then not clock else calls t before since now)
 between-stays t before clock true since now later h = refl
 between-stays t before clock false None now later h = refl
 between-stays t before clock false (Some a) now later h =
     let held : Bool = before || not (nat_lt now (a + t.attention)) in
-    stays-up held later (a + t.attention) (λ k. before-after (not held) a t.attention later h (not-false held k))
+    stays-up held later (a + t.attention) (λ k. before-after (not held) a t.attention later h (ap not k))
 
 -- before a byte
 last-false : (a b x : Bool) → ((a || b) && x) ≡ false → b ≡ true → x ≡ false
@@ -66,8 +67,8 @@ last-false true b x h k = h
 last-false false true x h k = h
 last-false false false x h k = absurd (let i : false ≡ true = k in cc)
 
-open-stays : (before h : Bool) (look m now later : ℕ) → ((before || now == look) && nat_lt now m) ≡ h → look ≤ now → now ≤ later → IsBefore later (where_true h m)
-    → ((h || later == look) && nat_lt later m) ≡ h
+open-stays : (before h : Bool) (look m now later : ℕ) → ((before || now == look) && nat_lt now m) ≡ h → look ≤ now
+    → now ≤ later → IsBefore later (where_true h m) → ((h || later == look) && nat_lt later m) ≡ h
 open-stays before true look m now later e p i w = lt-ltb later m w
 open-stays before false look m now later e p i w = by (later == look) refl
   where
@@ -80,21 +81,23 @@ open-stays before false look m now later e p i w = by (later == look) refl
         le-ltb later m (omega arith)
 
 -- where somebody speaks to the device
-near-stays : (t : Timing) (until : ℕ) (before : Bool) (s : Standing) (p : Place) (now later : ℕ) → IsPast p now → now ≤ later
-    → IsBefore later (wake_at t until (pulls_at t until before s p now) s p now)
+near-stays : (t : Timing) (until : ℕ) (before : Bool) (s : Standing) (p : Place) (now later : ℕ) → IsPast p now
+    → now ≤ later → IsBefore later (wake_at t until (pulls_at t until before s p now) s p now)
     → pulls_at t until (pulls_at t until before s p now) s p later ≡ pulls_at t until before s p now
 near-stays t until before s Between now later c i h = between-stays t before s.clock s.atn s.since now later h
 near-stays t until before s (Sent pull) now later c i h =
     let held : Bool = before || not (nat_lt now (pull + t.accept)) in
-    stays-up held later (pull + t.accept) (λ k. before-where (not held) (pull + t.accept) later h (not-false held k))
+    stays-up held later (pull + t.accept) (λ k. before-where (not held) (pull + t.accept) later h (ap not k))
 near-stays t until before s (Opening look None eoi) now later c i h =
-    open-stays before ((before || now == look) && nat_lt now (max (look + t.hold) until)) look (max (look + t.hold) until) now later refl c i h
+    open-stays before ((before || now == look) && nat_lt now (max (look + t.hold) until)) look
+    (max (look + t.hold) until) now later refl c i h
 near-stays t until before s (Opening look (Some free) eoi) now later c i h =
     answer-stays s.atn (free + t.wait) (free + t.wait + t.answer) now later i (omega arith) h
 near-stays t until before s (Bits eoi count byte) now later c i h = refl
 
 -- where nobody does
-away-stays : (t : Timing) (before : Bool) (since : Option ℕ) (now later : ℕ) → IsBefore later (after_where (leaves t before since now) since t.leave)
+away-stays : (t : Timing) (before : Bool) (since : Option ℕ) (now later : ℕ)
+    → IsBefore later (after_where (leaves t before since now) since t.leave)
     → leaves t (leaves t before since now) since later ≡ leaves t before since now
 away-stays t before None now later h = refl
 away-stays t before (Some r) now later h =
@@ -104,7 +107,8 @@ away-stays t before (Some r) now later h =
 -- at the wake it does the other thing
 turns-up : (h : Bool) (next m : ℕ) → where_true (not h) m ≡ Some next → (h || not (nat_lt next m)) ≡ not h
 turns-up true next m e = absurd (let k : Some next ≡ None = sym e in cc)
-turns-up false next m e = let j : Some m ≡ Some next = e in let k : m ≡ next = cc in ap not (le-ltb next m (omega arith))
+turns-up false next m e = let j : Some m ≡ Some next = e in let k : m ≡ next =
+    cc in ap not (le-ltb next m (omega arith))
 
 turns-down : (h : Bool) (next m : ℕ) → where_true h m ≡ Some next → (h && nat_lt next m) ≡ not h
 turns-down true next m e = let j : Some m ≡ Some next = e in let k : m ≡ next = cc in le-ltb next m (omega arith)
@@ -112,7 +116,8 @@ turns-down false next m e = absurd (let k : Some next ≡ None = sym e in cc)
 
 between-turns : (t : Timing) (before clock atn : Bool) (since : Option ℕ) (now next : ℕ)
     → after_where (not atn && not (if atn then not clock else calls t before since now)) since t.attention ≡ Some next
-    → (if atn then not clock else calls t (if atn then not clock else calls t before since now) since next) ≡ not (if atn then not clock else calls t before since now)
+    → (if atn then not clock else calls t (if atn then not clock else calls t before since now) since next)
+    ≡ not (if atn then not clock else calls t before since now)
 between-turns t before clock true since now next e = absurd (let k : Some next ≡ None = sym e in cc)
 between-turns t true clock false None now next e = absurd (let k : Some next ≡ None = sym e in cc)
 between-turns t false clock false None now next e = absurd (let k : Some next ≡ None = sym e in cc)
@@ -147,14 +152,17 @@ near-turns : (t : Timing) (until : ℕ) (before : Bool) (s : Standing) (p : Plac
     → wake_at t until (pulls_at t until before s p now) s p now ≡ Some next
     → pulls_at t until (pulls_at t until before s p now) s p next ≡ not (pulls_at t until before s p now)
 near-turns t until before s Between now next a h = between-turns t before s.clock s.atn s.since now next h
-near-turns t until before s (Sent pull) now next a h = turns-up (before || not (nat_lt now (pull + t.accept))) next (pull + t.accept) h
+near-turns t until before s (Sent pull) now next a h =
+    turns-up (before || not (nat_lt now (pull + t.accept))) next (pull + t.accept) h
 near-turns t until before s (Opening look None eoi) now next a h =
-    open-turns ((before || now == look) && nat_lt now (max (look + t.hold) until)) look (max (look + t.hold) until) next h
+    open-turns ((before || now == look) && nat_lt now (max (look + t.hold) until)) look
+    (max (look + t.hold) until) next h
 near-turns t until before s (Opening look (Some free) eoi) now next a h =
     answer-turns s.atn (free + t.wait) (free + t.wait + t.answer) now next (omega arith) h
 near-turns t until before s (Bits eoi count byte) now next a h = absurd (let i : Some next ≡ None = sym h in cc)
 
-away-turns : (t : Timing) (before : Bool) (since : Option ℕ) (now next : ℕ) → after_where (leaves t before since now) since t.leave ≡ Some next
+away-turns : (t : Timing) (before : Bool) (since : Option ℕ) (now next : ℕ)
+    → after_where (leaves t before since now) since t.leave ≡ Some next
     → leaves t (leaves t before since now) since next ≡ not (leaves t before since now)
 away-turns t before None now next h = absurd (let i : Some next ≡ None = sym h in cc)
 away-turns t before (Some r) now next h =
@@ -168,8 +176,8 @@ ruled t until s away before now = if away then leaves t before s.since now else 
 abbrev woken : Timing → ℕ → Standing → Bool → Bool → ℕ → Option ℕ
 woken t until s away held now = if away then after_where held s.since t.leave else wake_at t until held s s.place now
 
-all-stays : (t : Timing) (until : ℕ) (before : Bool) (s : Standing) (now later : ℕ) (b : Bool) → IsPast s.place now → now ≤ later
-    → IsBefore later (woken t until s b (ruled t until s b before now) now)
+all-stays : (t : Timing) (until : ℕ) (before : Bool) (s : Standing) (now later : ℕ) (b : Bool) → IsPast s.place now
+    → now ≤ later → IsBefore later (woken t until s b (ruled t until s b before now) now)
     → ruled t until s b (ruled t until s b before now) later ≡ ruled t until s b before now
 all-stays t until before s now later true c i h = away-stays t before s.since now later h
 all-stays t until before s now later false c i h = near-stays t until before s s.place now later c i h

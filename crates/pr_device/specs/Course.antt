@@ -1,6 +1,7 @@
 -- Trusted: a talker and devices on one line. The edges before a moment say what each device does then: `WakesSuffice`
 -- says that this is what a device does that `Device::step` shows each edge, and that is called at its wakes.
-use Rattle.std.specs.Prelude.{◌≡◌, ℕ, ◌+◌, ◌<◌, ◌≤◌, nat_lt, Bool, true, false, not, ◌&&◌, ◌||◌, ◌==◌, if◌then◌else◌, cond, List, [], ◌∷◌, ◌++◌, map, drop, Option, Some, None}
+use Rattle.std.specs.Prelude.{◌≡◌, ℕ, ◌+◌, ◌<◌, ◌≤◌, nat_lt, Bool, true, false, not, ◌&&◌, ◌||◌, ◌==◌, if◌then◌else◌}
+use Rattle.std.specs.Prelude.{cond, List, [], ◌∷◌, ◌++◌, map, drop, Option, Some, None}
 use Rattle.pr_wire.specs.declared.Edge.{Edge}
 use Rattle.pr_wire.specs.Levels.{edge_at}
 use Rattle.pr_wire.specs.Pieces.{FrameTimes, SecondFrame, Ending, pulse_edges, bit_edges, ending_edges}
@@ -23,8 +24,8 @@ abbrev pub Each : (Party → Type 0) → List Party → Type 0
 Each P [] = Unit {0}
 Each P (p ∷ ps) = P p × Each P ps
 
--- whether a device pulls DATA at a moment, after these edges, the latest first: it acts at the last edge, by what it did
--- until then, and at the moment, by what it did from the edge on
+-- whether a device pulls DATA at a moment, after these edges, the latest first: it acts at the last edge, by what it
+-- did until then, and at the moment, by what it did from the edge on
 abbrev pub pulling : Party → List Edge → ℕ → Bool
 pulling p [] now = false
 pulling p (e ∷ history) now =
@@ -103,7 +104,8 @@ IsBetweenBytes Between = Unit {0}
 IsBetweenBytes (Sent pull) = Unit {0}
 IsBetweenBytes _ = ⊥
 
--- a device expects a byte at a moment: CLOCK is pulled between two bytes, and the device pulls DATA if somebody speaks to it
+-- a device expects a byte at a moment: CLOCK is pulled between two bytes, and the device pulls DATA if somebody speaks
+-- to it
 pub record ExpectsByte (atn : Bool) (history : List Edge) (now : ℕ) (p : Party) : Type 0 where
   pub atn_is : atn_of history ≡ atn
   pub clock_is : clock_of history ≡ false
@@ -135,11 +137,13 @@ second_for ack (Some byte) numbers parties =
 abbrev pub attention_moves : Bool → ℕ → Option ℕ → ℕ → FrameTimes → Option SecondFrame → Ending → List Move
 attention_moves line a answer look first second end =
     released (edge_at a false false line)
-    ∷ (answer_moves answer look ++ (sent_moves false look first ++ (second_moves second ++ map released (ending_edges end))))
+    ∷ (answer_moves answer look
+    ++ (sent_moves false look first ++ (second_moves second ++ map released (ending_edges end))))
 
 -- after ATN's release a device that is spoken to holds DATA, and another one leaves it
 pub record HasLeft (history : List Edge) (since : ℕ) (p : Party) : Type 0 where
   pub atn_is : atn_of history ≡ true
   pub clock_is : clock_of history ≡ false
   pub place_is : place_after p.timing.wait history ≡ Between
-  pub does : (now : ℕ) → pulling p history now ≡ (not (is_away (standing p.timing.wait p.device history)) || nat_lt now (since + p.timing.leave))
+  pub does : (now : ℕ) → pulling p history now
+      ≡ (not (is_away (standing p.timing.wait p.device history)) || nat_lt now (since + p.timing.leave))

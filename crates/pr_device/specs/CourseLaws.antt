@@ -1,12 +1,14 @@
 -- Laws: what a talker and devices on one line make. The functions of src/laws.rt prove them, and callers take them
 -- from there.
-use Rattle.std.specs.Prelude.{◌≡◌, ℕ, ◌+◌, ◌≤◌, Bool, true, false, not, if◌then◌else◌, List, [], ◌∷◌, map, Option, Some, None}
+use Rattle.std.specs.Prelude.{◌≡◌, ℕ, ◌+◌, ◌≤◌, Bool, true, false, not, if◌then◌else◌, List, [], ◌∷◌, map, Option, Some}
+use Rattle.std.specs.Prelude.{None}
 use Rattle.pr_wire.specs.declared.Edge.{Edge}
 use Rattle.pr_wire.specs.Pieces.{FrameTimes, SecondFrame, last_ack}
 use Rattle.pr_bus.specs.Timed.{frame_times, greatest, least}
 use Rattle.pr_device.specs.Following.{atn_of}
 use Rattle.pr_device.specs.Timing.{IsTiming}
-use Rattle.pr_device.specs.Course.{Party, Each, Move, AreMade, after_moves, sent_moves, attention_moves, second_for, one_pulls, heeding, hearer, ExpectsByte, HasLeft}
+use Rattle.pr_device.specs.Course.{Party, Each, Move, AreMade, after_moves, sent_moves, attention_moves, second_for}
+use Rattle.pr_device.specs.Course.{one_pulls, heeding, hearer, ExpectsByte, HasLeft}
 
 -- the moments of a frame that the talker of the timed trace sends, from CLOCK's release on, to the devices that heed it
 abbrev pub frame_for : Bool → List Edge → List Party → (look byte : ℕ) → List ℕ → FrameTimes
@@ -20,7 +22,8 @@ moves_for atn eoi history parties look byte numbers =
 
 -- a frame whose moments are the sums of the timed trace is made by the talker and the devices, any number of them, of
 -- which those hear it to which somebody speaks; and 100 microseconds after it they expect the next one
-pub record FrameIsMade (atn eoi : Bool) (history : List Edge) (parties : List Party) (look byte : ℕ) (numbers : List ℕ) : Type 0 where
+pub record FrameIsMade (atn eoi : Bool) (history : List Edge) (parties : List Party) (look byte : ℕ)
+    (numbers : List ℕ) : Type 0 where
   pub made : (end : ℕ) → AreMade parties history (moves_for atn eoi history parties look byte numbers) end
   pub after : (now : ℕ) → (frame_for eoi history parties look byte numbers).ack + 100 ≤ now
       → Each (ExpectsByte atn (after_moves history (moves_for atn eoi history parties look byte numbers)) now) parties
@@ -28,7 +31,8 @@ pub record FrameIsMade (atn eoi : Bool) (history : List Edge) (parties : List Pa
 -- only data bytes have end-or-identify, and somebody must hear the frame
 abbrev pub FramesAreMade : Type 0
 FramesAreMade =
-    (atn eoi : Bool) (history : List Edge) (parties : List Party) (look byte : ℕ) (numbers : List ℕ) (p : Party) (others : List Party)
+    (atn eoi : Bool) (history : List Edge) (parties : List Party) (look byte : ℕ) (numbers : List ℕ) (p : Party)
+    (others : List Party)
     → (eoi ≡ true → atn ≡ true) → heeding history parties ≡ p ∷ others → Each (λ (q : Party). IsTiming q.timing) parties
     → Each (ExpectsByte atn history look) parties → FrameIsMade atn eoi history parties look byte numbers
 
@@ -85,6 +89,8 @@ pub record CallIsMade (c : Call) (history : List Edge) (parties : List Party) : 
 -- any devices, at least one
 abbrev pub CallsAreMade : Type 0
 CallsAreMade =
-    (c : Call) (history : List Edge) (p : Party) (others : List Party) → Each (λ (q : Party). IsTiming q.timing) (p ∷ others)
+    (c : Call) (history : List Edge) (p : Party) (others : List Party)
+    → Each (λ (q : Party). IsTiming q.timing) (p ∷ others)
     → atn_of history ≡ true → one_pulls (p ∷ others) history c.atn ≡ c.held → c.atn + 1000 ≤ c.look
-    → last_ack (first_frame c (p ∷ others)).ack (next_frame c (p ∷ others)) + 100 ≤ c.release → CallIsMade c history (p ∷ others)
+    → last_ack (first_frame c (p ∷ others)).ack (next_frame c (p ∷ others)) + 100 ≤ c.release
+    → CallIsMade c history (p ∷ others)

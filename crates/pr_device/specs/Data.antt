@@ -1,5 +1,6 @@
 -- Trusted: what a device does to DATA, and when it wants to be called again.
-use Rattle.std.specs.Prelude.{ℕ, ◌+◌, ◌==◌, nat_lt, max, Bool, true, false, not, ◌&&◌, ◌||◌, if◌then◌else◌, List, Option, Some, None}
+use Rattle.std.specs.Prelude.{ℕ, ◌+◌, ◌==◌, nat_lt, max, Bool, true, false, not, ◌&&◌, ◌||◌, if◌then◌else◌, List}
+use Rattle.std.specs.Prelude.{Option, Some, None}
 use Rattle.pr_wire.specs.declared.Edge.{Edge}
 use Rattle.pr_receiver.specs.Heard.{is_listening}
 use Rattle.pr_device.specs.declared.timing.Timing.{Timing}
@@ -51,7 +52,8 @@ pulls_at t until before s (Opening look (Some free) eoi) now =
     s.atn && (not (nat_lt now (free + t.wait)) && nat_lt now (free + t.wait + t.answer))
 pulls_at t until before s (Bits eoi count byte) now = false
 
--- whether a device pulls DATA from a moment on; `before` is whether it pulled DATA until then, and `until` how long it prints
+-- whether a device pulls DATA from a moment on; `before` is whether it pulled DATA until then, and `until` how long it
+-- prints
 abbrev pub pulls : Timing → ℕ → Bool → Standing → ℕ → Bool
 pulls t until before s now =
     if is_away s then leaves t before s.since now else pulls_at t until before s s.place now

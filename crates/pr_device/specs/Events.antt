@@ -42,7 +42,8 @@ event_of device before frame =
 abbrev pub events_of : ℕ → List Frame → List Event
 events_of device frames = flat_map (λ p. option_to_list (event_of device p.0 p.1)) (with_before [] frames)
 
--- what an event is for a printer: a LISTEN selects the graphic/upper case set, secondary address 7 the lower/upper case set
+-- what an event is for a printer: a LISTEN selects the graphic/upper case set, secondary address 7 the lower/upper case
+-- set
 abbrev pub input_of_event : Event → Option Input
 input_of_event Listen = Some (input.Select false)
 input_of_event (Second number) = if number == 7 then Some (input.Select true) else None

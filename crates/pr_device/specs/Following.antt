@@ -4,7 +4,8 @@
 -- listener have changed places). Where ATN changes, what had begun is over. `TalkersAreHeard` says what this comes to.
 --
 -- A history is the list of the moments that a device was shown, the latest first. All lines are released before them.
-use Rattle.std.specs.Prelude.{ℕ, ◌+◌, ◌/◌, ◌==◌, nat_lt, Bool, true, false, not, ◌&&◌, ◌||◌, if◌then◌else◌, List, [], ◌∷◌, ◌++◌, Option, Some, None}
+use Rattle.std.specs.Prelude.{ℕ, ◌+◌, ◌/◌, ◌==◌, nat_lt, Bool, true, false, not, ◌&&◌, ◌||◌, if◌then◌else◌, List, []}
+use Rattle.std.specs.Prelude.{◌∷◌, ◌++◌, Option, Some, None}
 use Rattle.std.specs.Option.{option_to_list}
 use Rattle.pr_wire.specs.declared.Edge.{Edge}
 use Rattle.pr_wire.specs.declared.Frame.{Frame}

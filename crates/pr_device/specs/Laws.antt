@@ -1,5 +1,6 @@
--- Laws: what a device hears of talkers and traces. The functions of src/laws.rt prove them, and callers take them from there.
-use Rattle.std.specs.Prelude.{◌≡◌, ℕ, ◌+◌, ◌<◌, ◌≤◌, Bool, true, false, List, Some, None, not, reverse, []}
+-- Laws: what a device hears of talkers and traces. The functions of src/laws.rt prove them, and callers take them from
+-- there.
+use Rattle.std.specs.Prelude.{◌≡◌, ℕ, ◌+◌, ◌<◌, ◌≤◌, Bool, true, false, List, Some, None, not, map, reverse, []}
 use Rattle.pr_wire.specs.declared.Edge.{Edge}
 use Rattle.pr_wire.specs.declared.Frame.{Frame}
 use Rattle.pr_wire.specs.Pieces.{Spells}
@@ -12,7 +13,8 @@ use Rattle.pr_device.specs.Events.{events_of, inputs_of_events}
 use Rattle.pr_device.specs.Following.{said}
 use Rattle.pr_device.specs.Seen.{events_with}
 use Rattle.pr_device.specs.Course.{Party, Each, Move, AreMade, after_moves, pulling}
-use Rattle.pr_device.specs.Shown.{Ascend, CanBeCalled, Moment, AreInTime, IsBefore, changes_shown, moments_shown, does_after, wake_after, time_after}
+use Rattle.pr_device.specs.Shown.{GoForward, CanBeCalled, Moment, AreInTime, IsBefore, changes_shown, moments_shown}
+use Rattle.pr_device.specs.Shown.{does_after, wake_after, time_after}
 use Rattle.pr_device.specs.Pairs.{SharesTheLine}
 use Rattle.pr_device.specs.Timing.{IsTiming}
 use Rattle.pr_device.specs.Talkers.{Turn, AreTurns, moments_of, frames_sent}
@@ -47,7 +49,8 @@ pub record KeepsToDelays (t : Timing) (until : ℕ) (before : Bool) (s : Standin
   pub called : (since : ℕ) → s.atn ≡ false → s.place ≡ Between → s.since ≡ Some since → since + 1000 ≤ now
       → pulls t until before s now ≡ true
   -- and 80 after a byte it has acknowledged
-  pub accepted : (pull : ℕ) → is_away s ≡ false → s.place ≡ Sent pull → pull + 80 ≤ now → pulls t until before s now ≡ true
+  pub accepted : (pull : ℕ) → is_away s ≡ false → s.place ≡ Sent pull → pull + 80 ≤ now
+      → pulls t until before s now ≡ true
   -- before a byte it has released DATA when its delay is over and it does not print
   pub released : (look : ℕ) (eoi : Bool) → is_away s ≡ false → s.place ≡ Opening look None eoi → look + t.hold ≤ now
       → until ≤ now → pulls t until before s now ≡ false
@@ -55,9 +58,11 @@ pub record KeepsToDelays (t : Timing) (until : ℕ) (before : Bool) (s : Standin
   pub answers : (look free : ℕ) (eoi : Bool) → is_away s ≡ false → s.place ≡ Opening look (Some free) eoi
       → pulls t until before s now ≡ true → (s.atn ≡ true) × (free + 200 ≤ now) × (now < free + 450)
   -- it does not touch the bits
-  pub bits : (eoi : Bool) (count byte : ℕ) → is_away s ≡ false → s.place ≡ Bits eoi count byte → pulls t until before s now ≡ false
+  pub bits : (eoi : Bool) (count byte : ℕ) → is_away s ≡ false → s.place ≡ Bits eoi count byte
+      → pulls t until before s now ≡ false
   -- and has released DATA 60 microseconds after ATN's release, if it does not listen
-  pub leaves : (since : ℕ) → is_away s ≡ true → s.since ≡ Some since → since + 60 ≤ now → pulls t until before s now ≡ false
+  pub leaves : (since : ℕ) → is_away s ≡ true → s.since ≡ Some since → since + 60 ≤ now
+      → pulls t until before s now ≡ false
 
 -- whatever the delays, a device keeps to them
 abbrev pub DelaysAreKept : Type 0
@@ -73,7 +78,8 @@ abbrev pub IsPast : Place → ℕ → Type 0
 IsPast (Opening look free eoi) now = look ≤ now
 IsPast _ now = Unit {0}
 
--- as long as things stand as they do, the device does to DATA what it does now, until its wake, and then the other thing
+-- as long as things stand as they do, the device does to DATA what it does now, until its wake, and then the other
+-- thing
 pub record StaysUntilTheWake (t : Timing) (until : ℕ) (before : Bool) (s : Standing) (now : ℕ) : Type 0 where
   pub stays : (later : ℕ) → now ≤ later → IsBefore later (wake t until (pulls t until before s now) s now)
       → pulls t until (pulls t until before s now) s later ≡ pulls t until before s now
@@ -97,5 +103,10 @@ WakesSuffice =
 -- `pulling` says
 abbrev pub DevicesCanBeCalled : Type 0
 DevicesCanBeCalled =
-    (parties : List Party) (ms : List Move) (end : ℕ) → Each (λ (p : Party). IsTiming p.timing) parties → Ascend 0 ms
-    → AreMade parties [] ms end → Each (λ (p : Party). CanBeCalled p (after_moves [] ms)) parties
+    (parties : List Party) (ms : List Move) (end : ℕ) → Each (λ (p : Party). IsTiming p.timing) parties
+    → GoForward 0 (map (λ (m : Move). m.edge) ms) → AreMade parties [] ms end
+    → Each (λ (p : Party). CanBeCalled p (after_moves [] ms)) parties
+
+-- the moments of a lawful trace do not go back
+abbrev pub LawfulTracesGoForward : Type 0
+LawfulTracesGoForward = (edges : List Edge) (frames : List Frame) → Spells edges frames → GoForward 0 edges

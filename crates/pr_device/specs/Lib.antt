@@ -1,5 +1,6 @@
 pub mod Timing
 pub mod Events
+pub mod Printing
 pub mod Following
 pub mod Data
 pub mod Spoken

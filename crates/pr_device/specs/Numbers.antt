@@ -25,11 +25,13 @@ abbrev pub item_numbers : Party → List Item → Item → List ℕ
 item_numbers p before (item.Attention byte second) =
     number_for At p.timing.attention ∷ (number_for H p.timing.hold ∷ (number_for F p.timing.accept
     ∷ (second_numbers p.timing second
-    ++ (if is_listener p.device (before ++ item.Attention byte second ∷ []) then [] else number_for Dr p.timing.leave ∷ []))))
+    ++ (if is_listener p.device (before ++ item.Attention byte second ∷ []) then []
+    else number_for Dr p.timing.leave ∷ []))))
 item_numbers p before (item.Sent byte eoi) =
     if is_listener p.device before
     then number_for H p.timing.hold ∷ (number_for Ye p.timing.wait
-    ∷ (if eoi then number_for Ei p.timing.answer ∷ (number_for F p.timing.accept ∷ []) else number_for F p.timing.accept ∷ []))
+    ∷ (if eoi then number_for Ei p.timing.answer ∷ (number_for F p.timing.accept ∷ [])
+    else number_for F p.timing.accept ∷ []))
     else []
 
 -- the numbers that it takes in items

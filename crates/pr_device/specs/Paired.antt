@@ -8,7 +8,8 @@ use Rattle.pr_wire.specs.Levels.{edge_at}
 use Rattle.pr_wire.specs.Delays.{delay_at}
 use Rattle.pr_wire.specs.Pieces.{Piece, call_edge, ending_edges}
 use Rattle.pr_wire.specs.Pieces.Piece.{Unanswered, Attention, DataByte, Dropped}
-use Rattle.pr_bus.specs.Timed.{Lines, Free, Pulled, Due, TimedPrinter, TimedBus, done, due_edges, between, printer_takes}
+use Rattle.pr_bus.specs.Timed.{Lines, Free, Pulled, Due, TimedPrinter, TimedBus, done, due_edges, between}
+use Rattle.pr_bus.specs.Timed.{printer_takes}
 use Rattle.pr_device.specs.Course.{Party, Move, released, sent_moves, answer_moves, second_moves}
 
 -- a condition of each device and its printer in the timed trace
@@ -55,10 +56,12 @@ StandFor parties w (x ∷ xs) = Both (StandsFor w.before x) parties w.printers �
 -- the moves of a piece, if there is one, after these lines
 abbrev pub piece_moves : Lines → Option Piece → List Move
 piece_moves l None = []
-piece_moves l (Some (Unanswered a release)) = released (call_edge (between l) a) ∷ (released (edge_at release true true true) ∷ [])
+piece_moves l (Some (Unanswered a release)) =
+    released (call_edge (between l) a) ∷ (released (edge_at release true true true) ∷ [])
 piece_moves l (Some (Attention a answer look first second end)) =
     released (call_edge (between l) a)
-    ∷ (answer_moves answer look ++ (sent_moves false look first ++ (second_moves second ++ map released (ending_edges end))))
+    ∷ (answer_moves answer look
+    ++ (sent_moves false look first ++ (second_moves second ++ map released (ending_edges end))))
 piece_moves l (Some (DataByte look sent)) = sent_moves true look sent
 piece_moves l (Some (Dropped look)) = released (edge_at look true true true) ∷ []
 

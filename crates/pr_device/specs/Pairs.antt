@@ -1,5 +1,5 @@
--- Trusted: what two devices do to one line together. The moments are those of the timed trace of pr_bus: the least or the
--- greatest of the two devices' delays after the same moment.
+-- Trusted: what two devices do to one line together. The moments are those of the timed trace of pr_bus: the least or
+-- the greatest of the two devices' delays after the same moment.
 use Rattle.std.specs.Prelude.{◌≡◌, ℕ, ◌+◌, nat_lt, min, max, Bool, true, false, not, ◌&&◌, ◌||◌, Some, None}
 use Rattle.pr_device.specs.declared.place.Place.TheVariants.{Between, Sent, Opening}
 use Rattle.pr_device.specs.declared.timing.Timing.{Timing}
@@ -18,7 +18,8 @@ pub record SharesTheLine (t u : Timing) (s : Standing) (now : ℕ) : Type 0 wher
   pub held : (look : ℕ) (eoi : Bool) → is_away s ≡ false → s.place ≡ Opening look None eoi
       → pair_pulls t u true s now ≡ nat_lt now (look + max t.hold u.hold)
   -- the answer to end-or-identify, after DATA's release
-  pub answered : (look free : ℕ) (eoi before : Bool) → is_away s ≡ false → s.atn ≡ true → s.place ≡ Opening look (Some free) eoi
+  pub answered : (look free : ℕ) (eoi before : Bool) → is_away s ≡ false → s.atn ≡ true
+      → s.place ≡ Opening look (Some free) eoi
       → pair_pulls t u before s now
       ≡ (not (nat_lt now (free + min t.wait u.wait)) && nat_lt now (free + max (t.wait + t.answer) (u.wait + u.answer)))
   -- the acknowledgement, after CLOCK's last pull

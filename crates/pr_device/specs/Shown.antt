@@ -3,7 +3,7 @@ use Rattle.std.specs.Prelude.{◌≡◌, ℕ, ◌<◌, ◌≤◌, Bool, true, fa
 use Rattle.pr_wire.specs.declared.Edge.{Edge}
 use Rattle.pr_wire.specs.declared.Levels.{Levels}
 use Rattle.pr_device.specs.Data.{pulls, wake, standing}
-use Rattle.pr_device.specs.Course.{Party, Move}
+use Rattle.pr_device.specs.Course.{Party}
 
 -- what a device is shown: a change of the lines, or a call at its wake, with the lines as they are
 pub data Moment : Type 0 where
@@ -62,7 +62,7 @@ pub record CanBeCalled (p : Party) (edges : List Edge) : Type 0 where
   pub changes : changes_shown moments ≡ edges
   pub in_time : AreInTime p moments
 
--- the moments of moves do not go back
-abbrev pub Ascend : ℕ → List Move → Type 0
-Ascend now [] = Unit {0}
-Ascend now (m ∷ ms) = (now ≤ m.edge.time) × Ascend m.edge.time ms
+-- the moments of edges do not go back
+abbrev pub GoForward : ℕ → List Edge → Type 0
+GoForward now [] = Unit {0}
+GoForward now (e ∷ es) = (now ≤ e.time) × GoForward e.time es

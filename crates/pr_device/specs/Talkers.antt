@@ -1,7 +1,8 @@
--- Trusted: the moves of a talker, as a device that is shown the lines sees them: the KERNAL's, and those of the profile.
--- Other moments may lie between any two moves, and DATA may change at any of them: only DATA's level at a bit's moment
--- counts, and what DATA does before a byte, where it is the sign of end-or-identify.
-use Rattle.std.specs.Prelude.{◌≡◌, ℕ, ◌+◌, nat_lt, Bool, true, false, not, ◌&&◌, ◌||◌, if◌then◌else◌, List, [], ◌∷◌, ◌++◌, length, map}
+-- Trusted: the moves of a talker, as a device that is shown the lines sees them: the KERNAL's, and those of the
+-- profile. Other moments may lie between any two moves, and DATA may change at any of them: only DATA's level at a
+-- bit's moment counts, and what DATA does before a byte, where it is the sign of end-or-identify.
+use Rattle.std.specs.Prelude.{◌≡◌, ℕ, ◌+◌, nat_lt, Bool, true, false, not, ◌&&◌, ◌||◌, if◌then◌else◌, List, [], ◌∷◌}
+use Rattle.std.specs.Prelude.{◌++◌, length, map}
 use Rattle.pr_wire.specs.declared.Edge.{Edge}
 use Rattle.pr_wire.specs.declared.Frame.{Frame}
 use Rattle.pr_wire.specs.Levels.{byte_of}
@@ -11,7 +12,8 @@ abbrev pub Stay : (atn clock : Bool) → List Edge → Type 0
 Stay atn clock [] = Unit {0}
 Stay atn clock (e ∷ es) = (e.levels.atn ≡ atn) × (e.levels.clock ≡ clock) × Stay atn clock es
 
--- a bit: CLOCK is released, when DATA's level is the bit, and pulled; then DATA is set to the next bit, at once or later
+-- a bit: CLOCK is released, when DATA's level is the bit, and pulled; then DATA is set to the next bit, at once or
+-- later
 pub record BitMoves : Type 0 where
   pub up : Edge
   pub high : List Edge

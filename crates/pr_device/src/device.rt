@@ -78,19 +78,24 @@ impl Device {
         requires soon { now < 2 ^ 63 }
         // what it hears
         ensures event { (history : List Edge) → HasSeen history self.old →
-            result.event ≡ event_at (timing_of self.old).wait (device_of self.old) history (record { time = now; levels = levels }) }
-        ensures seen { (history : List Edge) → HasSeen history self.old → HasSeen (record { time = now; levels = levels } ∷ history) self.new }
+            result.event ≡ event_at (timing_of self.old).wait (device_of self.old) history
+            (record { time = now; levels = levels }) }
+        ensures seen { (history : List Edge) → HasSeen history self.old →
+            HasSeen (record { time = now; levels = levels } ∷ history) self.new }
         // what it does to DATA
         ensures data { (history : List Edge) → HasSeen history self.old →
             result.pulls_data ≡ pulls (timing_of self.old) (busy_until self.old) (is_pulling self.old)
-            (standing (timing_of self.old).wait (device_of self.old) (record { time = now; levels = levels } ∷ history)) now }
+            (standing (timing_of self.old).wait (device_of self.old)
+            (record { time = now; levels = levels } ∷ history)) now }
         ensures pulls { is_pulling self.new ≡ result.pulls_data }
         ensures called { (history : List Edge) → HasSeen history self.old → result.pulls_data ≡ true →
-            is_spoken_to (timing_of self.old) (standing (timing_of self.old).wait (device_of self.old) (record { time = now; levels = levels } ∷ history)) now ≡ true }
+            is_spoken_to (timing_of self.old) (standing (timing_of self.old).wait (device_of self.old)
+            (record { time = now; levels = levels } ∷ history)) now ≡ true }
         // when it wants to be called again
         ensures wake { (history : List Edge) → HasSeen history self.old →
             result.wake ≡ wake (timing_of self.old) (busy_until self.old) result.pulls_data
-            (standing (timing_of self.old).wait (device_of self.old) (record { time = now; levels = levels } ∷ history)) now }
+            (standing (timing_of self.old).wait (device_of self.old)
+            (record { time = now; levels = levels } ∷ history)) now }
         ensures later { IfSome result.wake (λ moment. now < moment) }
         // what never changes
         ensures device { device_of self.new ≡ device_of self.old }
@@ -116,7 +121,8 @@ impl Device {
 
     /// Returns whether the device listens: it was called, and no UNLISTEN has come since.
     pub fn listens(&self) -> bool
-        ensures { (history : List Edge) → HasSeen history self.now → result ≡ is_listening (device_of self.now) (said (timing_of self.now).wait history) }
+        ensures { (history : List Edge) → HasSeen history self.now →
+            result ≡ is_listening (device_of self.now) (said (timing_of self.now).wait history) }
     {
         self.state.listener.listens
     }

@@ -1,9 +1,10 @@
 //! What a device hears of a byte.
 
 ghost use Rattle.std.specs.Prelude.{◌≡◌, ◌≤◌};
-ghost use Rattle.pr_device.specs.Events.{command_event, secondary_event, event_by};
+ghost use Rattle.pr_device.specs.Events.{command_event, secondary_event, event_by, input_of_event};
 
 use pr_base::{LISTEN, UNLISTEN};
+use pr_page::Input;
 use pr_receiver::Listener;
 use pr_wire::Frame;
 
@@ -26,6 +27,22 @@ pub enum Event {
     },
     /// The device was listening, and no longer is.
     Unlisten,
+}
+
+impl Event {
+    /// Returns the input that the event is for a printer ([`pr_page::Printer::take`]): a call selects the
+    /// graphic/upper case set, secondary address 7 the lower/upper case set, and a data byte is itself; none
+    /// for other events (VIC-1525 User's Manual). So a printer gets what a receiver of pr_receiver gives.
+    pub fn input(self) -> Option<Input>
+        ensures { result ≡ input_of_event self }
+    {
+        match self {
+            Event::Listen => Some(Input::Select(false)),
+            Event::Second(7) => Some(Input::Select(true)),
+            Event::Byte { byte, .. } => Some(Input::Byte(byte)),
+            _ => None,
+        }
+    }
 }
 
 /// What a command says to a device that is called directly before, by its upper half.

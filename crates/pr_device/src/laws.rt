@@ -1,8 +1,10 @@
 //! Laws of the definitions, with nothing to run. A caller whose proof needs one calls the function.
 
-ghost use Rattle.pr_device.specs.Laws.{DelaysAreKept, DevicesCanBeCalled, HistoriesAreHeard, PairsShareTheLine, TalkersAreHeard, TracesAreHeard, TracesSayWhatTheySpell, WakesAreActs, WakesSuffice};
+ghost use Rattle.pr_device.specs.Laws.{DelaysAreKept, DevicesCanBeCalled, HistoriesAreHeard, LawfulTracesGoForward};
+ghost use Rattle.pr_device.specs.Laws.{PairsShareTheLine, TalkersAreHeard, TracesAreHeard, TracesSayWhatTheySpell};
+ghost use Rattle.pr_device.specs.Laws.{WakesAreActs, WakesSuffice};
 ghost use Rattle.pr_device.specs.CourseLaws.{CallsAreMade, FramesAreMade};
-ghost use Rattle.pr_device.specs.PairLaws.{PairsMakeTraces, TimedTracesAreMade};
+ghost use Rattle.pr_device.specs.PairLaws.{PairsCanBeCalled, PairsMakeTraces, TimedTracesAreMade, TimedTracesGoForward};
 
 use pr_bus::laws::timed_traces_spell;
 use pr_receiver::{frames_are_heard_in_turn, traces_give_what_is_heard};
@@ -108,4 +110,23 @@ pub fn pairs_make_traces()
     ensures { PairsMakeTraces }
 {
     timed_traces_are_made();
+}
+
+/// The law of moments: those of a lawful trace do not go back, and so not those of the timed trace of any
+/// items.
+pub fn traces_go_forward()
+    ensures lawful { LawfulTracesGoForward }
+    ensures timed { TimedTracesGoForward }
+{
+    timed_traces_spell();
+}
+
+/// The law of the pair's calls: while the timed trace of any items is made, each of the devices 4 and 5 that
+/// is present can be called at its wakes, and what it then does makes the trace ([`wakes_suffice`]).
+pub fn pairs_can_be_called()
+    ensures { PairsCanBeCalled }
+{
+    pairs_make_traces();
+    devices_can_be_called();
+    traces_go_forward();
 }

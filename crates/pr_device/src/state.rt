@@ -129,7 +129,8 @@ impl State {
     /// Whether the device, to which somebody speaks, pulls DATA from a moment on.
     fn pulls_at(&self, now: u64) -> bool
         requires { IsSound self.now }
-        ensures { result ≡ pulls_at self.now.timing self.now.until self.now.pulls (standing_of self.now) self.now.place now }
+        ensures { result ≡ pulls_at self.now.timing self.now.until self.now.pulls (standing_of self.now)
+            self.now.place now }
     {
         match self.place {
             Place::Between if self.atn => !self.clock,
@@ -170,7 +171,8 @@ impl State {
     /// stay.
     fn wake_at(&self, now: u64) -> Option<u64>
         requires { IsSound self.now }
-        ensures { result ≡ wake_at self.now.timing self.now.until self.now.pulls (standing_of self.now) self.now.place now }
+        ensures { result ≡ wake_at self.now.timing self.now.until self.now.pulls (standing_of self.now)
+            self.now.place now }
     {
         match self.place {
             Place::Between if !self.atn && !self.pulls => after(self.since, self.timing.attention),

@@ -12,5 +12,8 @@ returns-clause-said c = traces-say
 pub returns-clause-heard : goal.returns-clause-heard
 returns-clause-heard c = λ wait device edges frames s.
     let e : events_with wait device (reverse edges) ≡ events_of device frames =
-    histories-heard wait device (reverse edges) ∙ ap (events_of device) (traces-say wait edges frames s) in
-    (e, ap inputs_of_events e ∙ (inputs-heard device frames ∙ sym (c.traces_give_what_is_heard.ensures.heard device edges frames s)))
+    histories-heard wait device (reverse edges) ∙ ap (events_of device) (traces-say wait edges frames s) in (
+      e,
+      ap inputs_of_events e
+          ∙ (inputs-heard device frames ∙ sym (c.traces_give_what_is_heard.ensures.heard device edges frames s)),
+    )
