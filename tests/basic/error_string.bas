@@ -1,0 +1,5 @@
+10 OPEN 4,4:A$="-=*=-"
+20 PRINT#4,LEN(A$)
+30 A$=A$+A$
+40 IF LEN(A$)<90 THEN PRINT#4,A$
+50 GOTO 20

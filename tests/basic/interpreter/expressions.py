@@ -1,0 +1,288 @@
+"""Expressions: each part is worked out by itself, with the variables of a run."""
+
+from __future__ import annotations
+
+from collections.abc import Callable
+from dataclasses import dataclass
+from functools import cached_property
+from typing import TYPE_CHECKING, Union
+
+from .text import Name
+from .values import (
+    ZERO,
+    BasicError,
+    Constant,
+    NotCertain,
+    Number,
+    Refused,
+    Value,
+    absolute,
+    add,
+    divide,
+    exact,
+    integer_part,
+    multiply,
+    negated,
+    number_in,
+    power,
+    sign_number,
+    signed_whole,
+    square_root,
+    subtract,
+    text_of,
+    used_at,
+    whole,
+)
+
+if TYPE_CHECKING:
+    from basic import Run
+
+Slot = tuple[dict, object]  # of a value: where it is kept, and by what key
+
+
+@dataclass(frozen=True)
+class Expression:
+    """A part of an expression; `place` is that of its sign, its name or its first character."""
+
+    place: int
+
+    def evaluate(self, run: Run) -> Value:
+        raise NotImplementedError
+
+    @property
+    def gives_text(self) -> bool:
+        return False
+
+    def strings(self) -> tuple[int, int]:
+        """How many strings the machine has to keep at once while it works this out, and how many are left: 1 or 0."""
+        return 0, 0
+
+
+@dataclass(frozen=True)
+class Whole(Expression):
+    """A whole expression, at its first character."""
+
+    part: Expression
+
+    @cached_property
+    def is_too_complex(self) -> bool:
+        """Whether the machine would have to keep more strings at once than it can."""
+        return self.part.strings()[0] > 3
+
+    def evaluate(self, run: Run) -> Value:
+        if self.is_too_complex:
+            raise BasicError("FORMULA TOO COMPLEX")
+        return self.part.evaluate(run)
+
+
+@dataclass(frozen=True)
+class Literal(Expression):
+    """A constant or a string."""
+
+    written: Union[Constant, bytes]
+
+    def evaluate(self, run: Run) -> Value:
+        if isinstance(self.written, bytes):
+            return self.written
+        with used_at(self.place):
+            return self.written.number
+
+    @property
+    def gives_text(self) -> bool:
+        return isinstance(self.written, bytes)
+
+    def strings(self) -> tuple[int, int]:
+        return (1, 1) if self.gives_text else (0, 0)
+
+
+@dataclass(frozen=True)
+class Variable(Expression):
+    """A variable, or an array's element if it has indices."""
+
+    name: Name
+    indices: tuple[Expression, ...] = ()
+
+    @property
+    def gives_text(self) -> bool:
+        return self.name.kind == "$"
+
+    def is_system(self) -> bool:
+        return not self.indices and (self.name.letters, self.name.kind) in (("TI", ""), ("TI", "$"), ("ST", ""))
+
+    def slot(self, run: Run) -> Slot:
+        """Where its value is kept."""
+        if not self.indices:
+            return run.variables, self.name
+        with used_at(self.place):
+            return run.element(self.name, tuple(whole(run.number(it), 0, 32767) for it in self.indices), self.place)
+
+    def evaluate(self, run: Run) -> Value:
+        if self.is_system():
+            return run.system_variable(self.name, self.place)
+        values, key = self.slot(run)
+        return values.get(key, b"" if self.name.kind == "$" else ZERO)
+
+    def strings(self) -> tuple[int, int]:
+        return max((it.strings()[0] for it in self.indices), default=0), 0
+
+
+@dataclass(frozen=True)
+class Unary(Expression):
+    """Minus or NOT."""
+
+    word: str
+    operand: Expression
+
+    def evaluate(self, run: Run) -> Value:
+        value = run.number(self.operand)
+        with used_at(self.place):
+            return negated(value) if self.word == "-" else exact(~signed_whole(value))
+
+    def strings(self) -> tuple[int, int]:
+        return self.operand.strings()[0], 0
+
+
+OPERATIONS: dict[str, Callable[[Number, Number], Number]] = {
+    "^": power,
+    "*": multiply,
+    "/": divide,
+    "+": add,
+    "-": subtract,
+    "AND": lambda a, b: exact(signed_whole(a) & signed_whole(b)),
+    "OR": lambda a, b: exact(signed_whole(a) | signed_whole(b)),
+}
+
+
+@dataclass(frozen=True)
+class Binary(Expression):
+    """Two operands and an operator, or a comparison that accepts some of <, = and >."""
+
+    word: str
+    left: Expression
+    right: Expression
+
+    def evaluate(self, run: Run) -> Value:
+        left = self.left.evaluate(run)
+        if isinstance(left, bytes) and self.word in OPERATIONS and self.word != "+":
+            raise BasicError("TYPE MISMATCH")
+        right = self.right.evaluate(run)
+        with used_at(self.place):
+            if isinstance(left, bytes) and isinstance(right, bytes):
+                return self.of_strings(left, right)
+            if isinstance(left, bytes) or isinstance(right, bytes):
+                raise BasicError("TYPE MISMATCH")
+            if self.word in OPERATIONS:
+                return OPERATIONS[self.word](left, right)
+            return self.compared(left.orders(right))
+
+    @property
+    def gives_text(self) -> bool:
+        return self.word == "+" and self.left.gives_text
+
+    def of_strings(self, left: bytes, right: bytes) -> Value:
+        if self.word != "+":
+            return self.compared({"<" if left < right else ">" if left > right else "="})
+        if len(left + right) > 255:
+            raise BasicError("STRING TOO LONG")
+        return left + right
+
+    def compared(self, orders: set[str]) -> Number:
+        """-1 where the comparison accepts all that may be, 0 where it accepts nothing of it."""
+        accepted = orders & set(self.word)
+        if accepted and accepted != orders:
+            raise NotCertain
+        return exact(-1 if accepted else 0)
+
+    def strings(self) -> tuple[int, int]:
+        (most, left), (more, _) = self.left.strings(), self.right.strings()
+        return max(most, left + more, self.gives_text), int(self.gives_text)
+
+
+@dataclass(frozen=True)
+class Call(Expression):
+    """A function of the language."""
+
+    word: str
+    arguments: tuple[Expression, ...]
+
+    def evaluate(self, run: Run) -> Value:
+        values = [it.evaluate(run) for it in self.arguments]
+        if any(isinstance(it, bytes) != (self.word in OF_STRINGS and not at) for at, it in enumerate(values)):
+            raise BasicError("TYPE MISMATCH")
+        if self.word in INEXACT:
+            raise Refused(self.place, f"{self.word} is not certain")
+        with used_at(self.place):
+            return run.column() if self.word == "POS" else FUNCTIONS[self.word](*values)
+
+    @property
+    def gives_text(self) -> bool:
+        return self.word.endswith("$")
+
+    def strings(self) -> tuple[int, int]:
+        most = held = 0
+        for it in self.arguments:
+            more, left = it.strings()
+            most, held = max(most, held + more), held + left
+        return max(most, self.gives_text), int(self.gives_text)
+
+
+OF_STRINGS = ("LEN", "VAL", "ASC", "LEFT$", "RIGHT$", "MID$")
+INEXACT = ("USR", "FRE", "RND", "LOG", "EXP", "COS", "SIN", "TAN", "ATN", "PEEK")
+COUNTS = {"LEFT$": (2, 2), "RIGHT$": (2, 2), "MID$": (2, 3)}  # of arguments; others have one
+
+
+def first_byte(text: bytes) -> Number:
+    if not text:
+        raise BasicError("ILLEGAL QUANTITY")
+    return exact(text[0])
+
+
+def right(text: bytes, count: Number) -> bytes:
+    return text[max(len(text) - whole(count), 0) :]
+
+
+def middle(text: bytes, first: Number, count: Number = exact(255)) -> bytes:
+    at = whole(first, 1)
+    return text[at - 1 :][: whole(count)]
+
+
+FUNCTIONS: dict[str, Callable[..., Value]] = {
+    "SGN": sign_number,
+    "INT": integer_part,
+    "ABS": absolute,
+    "SQR": square_root,
+    "LEN": lambda text: exact(len(text)),
+    "STR$": text_of,
+    "VAL": lambda text: number_in(text)[0],
+    "ASC": first_byte,
+    "CHR$": lambda value: bytes([whole(value)]),
+    "LEFT$": lambda text, count: text[: whole(count)],
+    "RIGHT$": right,
+    "MID$": middle,
+}
+
+
+@dataclass(frozen=True)
+class OwnCall(Expression):
+    """A function that DEF FN defines."""
+
+    name: Name
+    argument: Expression
+
+    def evaluate(self, run: Run) -> Value:
+        value = run.number(self.argument)
+        if self.name not in run.functions:
+            raise BasicError("UNDEF'D FUNCTION")
+        if run.depth > 8:
+            raise Refused(self.place, "the stack may be full")
+        parameter, body = run.functions[self.name]
+        before = run.variables.get(parameter, ZERO)
+        run.variables[parameter] = value
+        run.depth += 1
+        found = run.number(body)
+        run.depth -= 1
+        run.variables[parameter] = before
+        return found
+
+    def strings(self) -> tuple[int, int]:
+        return self.argument.strings()[0], 0
