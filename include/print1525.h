@@ -19,6 +19,9 @@
  *     print1525_receiver_..       what comes to a device on any bus, edge by edge
  *     print1525_strict_..         the same by this project's own timing alone, edge by edge, or in a list
  *
+ *     Devices of the serial bus that answer, for emulators and adapters; these calls take no memory
+ *     print1525_device_..         what a device does to DATA and what it hears, moment by moment
+ *
  *     A printer that is watched; these calls take no memory
  *     print1525_printer_..        the marks of each byte as it comes, and the pixels of a part of the page
  *
@@ -54,9 +57,10 @@
  *
  * WHAT A CALLER CARRIES.
  * - Threads: no call keeps any state, so several threads may make calls at once.
- * - Stack: at most 4096 bytes of it for print1525_decoder_.., _receiver_.., _strict_.., _printer_.. and the calls under
- *   `Words` above; at most PRINT1525_STACK for each other call, print1525_edges among them. Where functions of the C
- *   library are bound at their first call (without `-z now`), the dynamic linker needs some 2500 bytes more then.
+ * - Stack: at most 4096 bytes of it for print1525_decoder_.., _receiver_.., _strict_.., _device_.., _printer_.. and the
+ *   calls under `Words` above; at most PRINT1525_STACK for each other call, print1525_edges among them. Where functions
+ *   of the C library are bound at their first call (without `-z now`), the dynamic linker needs some 2500 bytes more
+ *   then.
  * - Memory: malloc, realloc and free of one allocator, aligned as C demands. Where they give none, a call fails with
  *   PRINT1525_FAULT_NO_MEMORY and has freed what it took.
  * - Signal handlers: the calls with at most 4096 bytes of stack, which take no memory, and no others.
@@ -138,7 +142,8 @@ enum print1525_fault {
     PRINT1525_FAULT_TOO_LATE = 14,
     PRINT1525_FAULT_BAD_SHAPE = 15,
     PRINT1525_FAULT_TRUNCATED = 16,
-    /* refused: of an edge of any bus, earlier than the one before it; `place` is 0, since nobody counts them */
+    /* refused: of an edge or a moment of any bus, earlier than the one before it; `place` is 0, since nobody counts
+     * them */
     PRINT1525_FAULT_GOES_BACK = 17,
     /* refused: a number that means no device or no setting; `place` is 0 */
     PRINT1525_FAULT_NO_SUCH_WORDS = 20,
@@ -147,6 +152,7 @@ enum print1525_fault {
     PRINT1525_FAULT_NO_SUCH_STATUS = 23,
     PRINT1525_FAULT_NO_SUCH_FORMAT = 24, /* or the format shows all of the pages, and not a printer or a sheet alone */
     PRINT1525_FAULT_NO_SUCH_SET = 25,
+    PRINT1525_FAULT_NO_SUCH_TIMING = 26,
     /* refused: a number that means no input of a printer; `place` is its index, from 0 */
     PRINT1525_FAULT_NO_SUCH_INPUT = 28,
     /* refused: a number that means no format of a recording, or no BASIC error; `place` is 0 */
@@ -556,7 +562,9 @@ enum print1525_received_kind {
     PRINT1525_RECEIVED_SELECT = 2,  /* a secondary address directly after LISTEN to the device: to a VIC-1525 number 7
                                      * selects the lower/upper case set */
     PRINT1525_RECEIVED_LISTEN = 3,  /* LISTEN to the device: to a VIC-1525 it selects the graphic/upper case set */
-    PRINT1525_RECEIVED_UNLISTEN = 4 /* UNLISTEN, while the device listens */
+    PRINT1525_RECEIVED_UNLISTEN = 4, /* UNLISTEN, while the device listens */
+    PRINT1525_RECEIVED_OPEN = 5,    /* of print1525_device_step alone: the secondary address of OPEN ($F0 on), */
+    PRINT1525_RECEIVED_CLOSE = 6    /* and that of CLOSE ($E0 on), directly after LISTEN to the device */
 };
 
 /* What comes to a device. */
@@ -589,6 +597,66 @@ PRINT1525_CALL int print1525_receiver_begin(print1525_receiver *receiver, uint8_
  * before it (17), with PRINT1525_NOTHING_RECEIVED. */
 PRINT1525_CALL int print1525_receiver_edge(print1525_receiver *receiver, const print1525_edge *edge,
                                            print1525_received *received, print1525_details *details);
+
+/* ------------------------------------------------------------------------------------- devices that answer -- */
+
+/* How long a device waits before each thing that it does to DATA, in microseconds; 0 is the typical delay. In brackets
+ * the least, the typical and the greatest one. */
+typedef struct {
+    uint16_t attention; /* from ATN's pull to DATA's pull (1, 100, 1000) */
+    uint16_t hold;      /* from CLOCK's release before a byte to DATA's release (1, 50, 10000) */
+    uint16_t wait;      /* from DATA's release to its pull, with end-or-identify (200, 250, 250) */
+    uint16_t answer;    /* how long that answer lasts (80, 80, 200) */
+    uint16_t accept;    /* from CLOCK's last pull in a byte to DATA's pull: the byte is acknowledged (1, 20, 80) */
+    uint16_t leave;     /* from ATN's release to DATA's release, if the device does not listen (1, 20, 60) */
+} print1525_timing;
+
+/* A device: what the library keeps of one between two moments. Its numbers are the library's own. Copy, save and load
+ * its bytes freely; their version is among them. A device of another version, or memory that is no device, is refused
+ * as no such device (21); all other numbers mean some device. */
+typedef struct {
+    uint64_t kept[8];
+} print1525_device;
+
+/* `wake` of a device that does nothing until a line changes. */
+#define PRINT1525_NO_WAKE UINT64_MAX
+
+/* What a device does at a moment, and what it hears then. */
+typedef struct {
+    uint64_t wake;            /* when to show it the lines again, if none changes before; or PRINT1525_NO_WAKE */
+    uint8_t pulls_data;       /* 1: it pulls DATA from this moment on; 0: it does not */
+    print1525_received heard; /* with CLOCK's last pull in a byte what the byte says to the device, else nothing */
+} print1525_step;
+
+/* How many bytes a device has, for programs in other languages and for saved ones: sizeof(print1525_device). */
+PRINT1525_CALL size_t print1525_device_size(void);
+
+/* Begins a device of 4 to 30, to which no moment was shown: all lines are released, it does not listen, and it pulls
+ * nothing.
+ *
+ * Reads: timing, or of NULL the typical delays.
+ * Refuses, with the device as it was: NULL (80), the address (21), and a delay outside its bounds (26). */
+PRINT1525_CALL int print1525_device_begin(print1525_device *device, uint8_t address, const print1525_timing *timing,
+                                          print1525_details *details);
+
+/* Shows a device the lines at a moment, and answers with what it does to DATA and what it hears. Call it for each
+ * device whenever a line changes, also where a device has changed DATA, and at each `wake`. DATA's level is that of the
+ * wire: it is pulled as long as anybody pulls it, this device too.
+ *
+ * Reads: a device that was begun; a moment in microseconds below 2^63 that is not earlier than the last one, and the
+ * levels of the lines. The same moment may be shown several times.
+ * Gives: the step. The device keeps pulling, or not, until the next step.
+ * Refuses, with the device as it was: NULL (80), with nothing written but details; numbers that are no device's (21);
+ * and a moment that is earlier than the last one, or is 2^63 or more (17). With these two the step pulls nothing, hears
+ * nothing and has no wake. */
+PRINT1525_CALL int print1525_device_step(print1525_device *device, const print1525_edge *moment, print1525_step *step,
+                                         print1525_details *details);
+
+/* Lets a device print until a moment: before the next byte it holds DATA until then, and the talker waits. It hears
+ * what comes meanwhile. Once it has released DATA before a byte, it does not pull it again for that.
+ *
+ * Refuses: NULL. */
+PRINT1525_CALL int print1525_device_busy(print1525_device *device, uint64_t until);
 
 /* ------------------------------------------------------------------------------ receivers of this very timing -- */
 
@@ -769,6 +837,9 @@ PRINT1525_OWN_SIZE(print1525_reading, 104);
 PRINT1525_OWN_SIZE(print1525_decoder, 192);
 PRINT1525_OWN_SIZE(print1525_received, 3);
 PRINT1525_OWN_SIZE(print1525_receiver, 200);
+PRINT1525_OWN_SIZE(print1525_timing, 12);
+PRINT1525_OWN_SIZE(print1525_device, 64);
+PRINT1525_OWN_SIZE(print1525_step, 16);
 PRINT1525_OWN_SIZE(print1525_strict_place, 24);
 PRINT1525_OWN_SIZE(print1525_strict, 56);
 PRINT1525_OWN_SIZE(print1525_mark, 16);
@@ -858,6 +929,12 @@ void print1525_plain_decode_edge(print1525_decoder *decoder, const print1525_edg
 void print1525_plain_decode_end(const print1525_decoder *decoder, print1525_reading *reading,
                                 print1525_plain_numbers *answer);
 
+void print1525_plain_device_begin(print1525_device *device, uint8_t address, const print1525_timing *timing,
+                                  print1525_plain_numbers *answer);
+void print1525_plain_device_step(print1525_device *device, uint64_t now, uint8_t atn, uint8_t clock, uint8_t data,
+                                 print1525_step *step, print1525_plain_numbers *answer);
+void print1525_plain_device_busy(print1525_device *device, uint64_t until);
+
 /* How many of some bytes a printer has taken, and how many marks they make. */
 typedef struct {
     size_t taken;
@@ -909,6 +986,7 @@ PRINT1525_CALL const char *print1525_strerror(int fault) {
     case PRINT1525_FAULT_NO_SUCH_STATUS: return "no such status";
     case PRINT1525_FAULT_NO_SUCH_FORMAT: return "no such format";
     case PRINT1525_FAULT_NO_SUCH_SET: return "no such character set";
+    case PRINT1525_FAULT_NO_SUCH_TIMING: return "no such timing";
     case PRINT1525_FAULT_NO_SUCH_INPUT: return "no such input";
     case PRINT1525_FAULT_NO_SUCH_RECORDING: return "no such recording";
     case PRINT1525_FAULT_NO_SUCH_STOP: return "no such error";
@@ -1580,6 +1658,37 @@ PRINT1525_CALL int print1525_receiver_edge(print1525_receiver *receiver, const p
     print1525_plain_receiver_edge(receiver, &read, &came, &answer);
     *received = came;
     return print1525_own_bus_answer(details, answer);
+}
+
+PRINT1525_CALL size_t print1525_device_size(void) { return sizeof(print1525_device); }
+
+PRINT1525_CALL int print1525_device_begin(print1525_device *device, uint8_t address, const print1525_timing *timing,
+                                          print1525_details *details) {
+    print1525_timing read = {0, 0, 0, 0, 0, 0};
+    print1525_plain_numbers answer;
+    if (device == NULL) return print1525_own_refuse(details, PRINT1525_FAULT_NULL_POINTER);
+    if (timing != NULL) read = *timing;
+    print1525_plain_device_begin(device, address, &read, &answer);
+    return print1525_own_answer(details, answer);
+}
+
+PRINT1525_CALL int print1525_device_step(print1525_device *device, const print1525_edge *moment, print1525_step *step,
+                                         print1525_details *details) {
+    print1525_edge read;
+    print1525_step does;
+    print1525_plain_numbers answer;
+    if (device == NULL || moment == NULL || step == NULL)
+        return print1525_own_refuse(details, PRINT1525_FAULT_NULL_POINTER);
+    read = *moment;
+    print1525_plain_device_step(device, read.time, read.atn, read.clock, read.data, &does, &answer);
+    *step = does;
+    return print1525_own_answer(details, answer);
+}
+
+PRINT1525_CALL int print1525_device_busy(print1525_device *device, uint64_t until) {
+    if (device == NULL) return PRINT1525_REFUSED;
+    print1525_plain_device_busy(device, until);
+    return PRINT1525_DONE;
 }
 
 PRINT1525_CALL int print1525_strict_begin(print1525_strict *strict, uint8_t device) {

@@ -221,6 +221,28 @@ private:
     print1525_receiver state{};
 };
 
+// A device on the bus that hears and answers: what it does to DATA at a moment, and what it hears then.
+class device {
+public:
+    explicit device(std::uint8_t address, const print1525_timing &timing = {}) {
+        print1525_details details{};
+        if (print1525_device_begin(&kept, address, &timing, &details) != PRINT1525_DONE) throw error(details);
+    }
+    // The device whose state() was kept.
+    explicit device(const print1525_device &state) : kept(state) {}
+    print1525_step step(const print1525_edge &moment) {
+        print1525_details details{};
+        print1525_step does{};
+        if (print1525_device_step(&kept, &moment, &does, &details) != PRINT1525_DONE) throw error(details);
+        return does;
+    }
+    void busy(std::uint64_t until) { print1525_device_busy(&kept, until); }
+    const print1525_device &state() const { return kept; }
+
+private:
+    print1525_device kept{};
+};
+
 // A printer that is watched: the marks that bytes make, as they come.
 class watched_printer {
 public:

@@ -8,7 +8,8 @@
 bytes, and settings by their names in print1525.h. Each gives a Result: the text as bytes, and the BASIC error that stopped
 the run, if one did. Where the call refuses, it raises print1525.Refused with the program's words, and with the text of what
 a recording says before its fault; MemoryError where there is no memory. `edges` gives the edges of a recording in any
-format. `decode` reads edges one by one, and so does `receive`, which gives what comes to a device.
+format. `decode` reads edges one by one, and so does `receive`, which gives what comes to a device. A Device answers on the
+bus too.
 
 The library is found by its name, or by PRINT1525_LIBRARY in the environment. As a program:
 
@@ -44,7 +45,7 @@ NAMES = {
 }
 NUMBERS = ("sheet", "start", "rate")
 SIGNALS = ("atn", "clock", "data")
-RECEIVED = (None, "byte", "select", "listen", "unlisten")
+RECEIVED = (None, "byte", "select", "listen", "unlisten", "open", "close")
 KINDS = (None, "acknowledged", "unacknowledged", "last", "incomplete-atn", "incomplete-silence", "incomplete-end")
 
 
@@ -260,6 +261,67 @@ def receive(edges, device=4):
             raise Refused(details)
         if details.length:
             yield RECEIVED[received.kind], received.byte, bool(received.eoi)
+
+
+class Timing(Structure):
+    """The delays of a device in microseconds; 0 is the typical one."""
+
+    _fields_ = [(name, c_uint16) for name in ("attention", "hold", "wait", "answer", "accept", "leave")]
+
+
+class DeviceState(Structure):
+    _fields_ = [("kept", c_uint64 * 8)]
+
+
+class StepMade(Structure):
+    _fields_ = [("wake", c_uint64), ("pulls_data", c_uint8), ("heard", Received)]
+
+
+class Step(NamedTuple):
+    """Whether a device pulls DATA from a moment on; when it wants to be shown the lines again, or None; and what it hears: its
+    kind, or None, the byte or the secondary address, and whether the byte is the last of its sender."""
+
+    pulls_data: bool
+    wake: Optional[int]
+    kind: Optional[str]
+    byte: int
+    is_last: bool
+
+
+NO_WAKE = 2**64 - 1
+_LIBRARY.print1525_device_begin.argtypes = [POINTER(DeviceState), c_uint8, POINTER(Timing), POINTER(Details)]
+_LIBRARY.print1525_device_step.argtypes = [POINTER(DeviceState), POINTER(Edge), POINTER(StepMade), POINTER(Details)]
+_LIBRARY.print1525_device_busy.argtypes = [POINTER(DeviceState), c_uint64]
+
+
+class Device:
+    """A device on the bus that hears and answers, with these delays (Timing); or the one whose `state` was kept."""
+
+    def __init__(self, address=4, state=None, **delays):
+        self._kept, details = DeviceState(), Details()
+        if state is not None:
+            self._kept = DeviceState.from_buffer_copy(state)
+            return
+        timing = Timing(**{name: _number(it, 65535, name) for name, it in delays.items()})
+        if _LIBRARY.print1525_device_begin(byref(self._kept), _number(address, 255, "a device"), byref(timing), byref(details)) != DONE:
+            raise Refused(details)
+
+    @property
+    def state(self):
+        """All that the library keeps of the device, as bytes."""
+        return bytes(self._kept)
+
+    def step(self, now, atn, clock, data):
+        """Shows the device the lines at a moment: 0 is pulled, 1 released."""
+        made, details = StepMade(), Details()
+        if _LIBRARY.print1525_device_step(byref(self._kept), byref(Edge(now, atn, clock, data)), byref(made), byref(details)) != DONE:
+            raise Refused(details)
+        wake = None if made.wake == NO_WAKE else made.wake
+        return Step(bool(made.pulls_data), wake, RECEIVED[made.heard.kind], made.heard.byte, bool(made.heard.eoi))
+
+    def busy(self, until):
+        """Lets the device print until a moment: it holds DATA before the next byte."""
+        _LIBRARY.print1525_device_busy(byref(self._kept), _number(until, NO_WAKE, "a moment"))
 
 
 class Mark(Structure):

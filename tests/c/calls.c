@@ -992,6 +992,8 @@ static void try_edge_pointers(void) {
     print1525_strict strict, strict_before;
     print1525_decoder decoder, decoder_before, other;
     print1525_receiver receiver;
+    print1525_device device;
+    print1525_step step = {77, 77, {77, 77, 77}};
     print1525_received came = {77, 77, 77};
     print1525_reading reading;
     print1525_details details;
@@ -1000,8 +1002,9 @@ static void try_edge_pointers(void) {
     memset(&strict, 0, sizeof strict);
     memset(&decoder, 0, sizeof decoder);
     memset(&receiver, 0, sizeof receiver);
-    if (print1525_strict_begin(NULL, 4) != PRINT1525_REFUSED || print1525_decoder_begin(NULL) != PRINT1525_REFUSED || print1525_receiver_begin(NULL, 4) != PRINT1525_REFUSED)
+    if (print1525_strict_begin(NULL, 4) != PRINT1525_REFUSED || print1525_decoder_begin(NULL) != PRINT1525_REFUSED || print1525_receiver_begin(NULL, 4) != PRINT1525_REFUSED || print1525_device_busy(NULL, 9) != PRINT1525_REFUSED)
         is_wrong("a NULL pointer begun", 0);
+    if (print1525_device_begin(&device, 4, NULL, NULL) != PRINT1525_DONE) is_wrong("a device begun", 0);
     if (print1525_strict_begin(&strict, 4) != PRINT1525_DONE || print1525_decoder_begin(&decoder) != PRINT1525_DONE) is_wrong("a beginning", 0);
     strict_before = strict;
     decoder_before = decoder;
@@ -1022,12 +1025,16 @@ static void try_edge_pointers(void) {
     REFUSES(print1525_receiver_edge(NULL, &first, &came, &details));
     REFUSES(print1525_receiver_edge(&receiver, NULL, &came, &details));
     REFUSES(print1525_receiver_edge(&receiver, &first, NULL, &details));
+    REFUSES(print1525_device_begin(NULL, 4, NULL, &details));
+    REFUSES(print1525_device_step(NULL, &first, &step, &details));
+    REFUSES(print1525_device_step(&device, NULL, &step, &details));
+    REFUSES(print1525_device_step(&device, &first, NULL, &details));
     REFUSES(print1525_decoder_end(NULL, &reading, &details));
     REFUSES(print1525_decoder_end(&decoder, NULL, &details));
 #undef REFUSES
     if (print1525_strict_edge(NULL, NULL, NULL, NULL) != PRINT1525_REFUSED || print1525_decoder_edge(NULL, NULL, NULL, NULL) != PRINT1525_REFUSED) is_wrong("no details", 0);
     if (memcmp(&strict, &strict_before, sizeof strict) != 0 || memcmp(&decoder, &decoder_before, sizeof decoder) != 0 || input != NO_INPUT ||
-        inputs[0] != NO_INPUT || came.kind != 77 || !is_untouched((const uint8_t *)(const void *)&reading, sizeof reading))
+        inputs[0] != NO_INPUT || came.kind != 77 || step.wake != 77 || !is_untouched((const uint8_t *)(const void *)&reading, sizeof reading))
         is_wrong("something is changed beside a NULL pointer", 0);
     /* A list without edges or inputs. */
     print1525_strict_edges(4, NULL, 0, inputs, 4, &details);

@@ -95,7 +95,7 @@ static const struct {
     {"strict", SMALL_STACK}, {"strict list", SMALL_STACK}, {"words", SMALL_STACK}, {"readings", PRINT1525_STACK}, {"readings as JSON", PRINT1525_STACK},
     {"reprint", PRINT1525_STACK}, {"check as a story", PRINT1525_STACK}, {"check as JSON", PRINT1525_STACK}, {"explain script", PRINT1525_STACK},
     {"explain stop", PRINT1525_STACK}, {"explain trace", PRINT1525_STACK}, {"explain reading", PRINT1525_STACK}, {"edges", PRINT1525_STACK},
-    {"a sheet", PRINT1525_STACK}, {"receiver", SMALL_STACK}, {"printer, byte by byte", SMALL_STACK}, {"printer, bytes", SMALL_STACK}, {"printer, page", SMALL_STACK},
+    {"a sheet", PRINT1525_STACK}, {"receiver and device", SMALL_STACK}, {"printer, byte by byte", SMALL_STACK}, {"printer, bytes", SMALL_STACK}, {"printer, page", SMALL_STACK},
     {"printer, draw", SMALL_STACK}, {"pages with characters", PRINT1525_STACK}, {"raw with characters", PRINT1525_STACK},
 };
 #define CALLS ((int)(sizeof calls / sizeof *calls))
@@ -134,12 +134,14 @@ static void make_printed(int call, uint8_t *buffer, size_t room, print1525_detai
     }
 }
 
-/* The calls from 18 on: recordings, explanations, and a receiver. */
+/* The calls from 18 on: recordings, explanations, a receiver and a device. */
 static void make_more(int call, uint8_t *buffer, size_t room, print1525_details *details) {
     static const char bad[] = "REM\nOPEN 4,4:PRONT#4\n";
     print1525_settings settings = PRINT1525_SETTINGS_INIT;
     print1525_receiver receiver;
     print1525_received received = {0, 0, 0};
+    print1525_device device;
+    print1525_step step;
     size_t index;
     settings.intervals = 1;
     if (call == 18 || call == 19) {
@@ -173,6 +175,10 @@ static void make_more(int call, uint8_t *buffer, size_t room, print1525_details 
         print1525_receiver_begin(&receiver, 4);
         for (index = 0; index < COUNT; index++) print1525_receiver_edge(&receiver, &edges[index], &received, details);
         buffer[0] = received.kind;
+        print1525_device_begin(&device, 4, NULL, details);
+        for (index = 0; index < COUNT; index++) print1525_device_step(&device, &edges[index], &step, details);
+        buffer[1] = step.pulls_data;
+        details->length = 2;
     }
 }
 

@@ -504,6 +504,139 @@ static void try_names(void) {
     if (output[6] != 0 || output[7] != 0 || output[8] != 0) is_wrong(&row, "another end of the names", &end);
 }
 
+/* ---- A device on the bus. ---- */
+
+/* A moment that a device is shown, and what it does then. At a moment with a byte, the byte's bits come: CLOCK is
+ * pulled for 70 microseconds and released for 20, eight times, and then pulled. */
+typedef struct {
+    uint64_t now;
+    uint8_t atn, clock, data;
+    int byte; /* or -1 */
+    uint8_t pulls_data;
+    uint64_t wake;
+    print1525_received heard;
+} moment_row;
+
+#define NO_BYTE -1
+#define NOTHING {0, 0, 0}
+
+/* Device 4 is called, prints until 5000 and hears an A with end-or-identify, at typical delays: AT 100, H 50, YE 250,
+ * EI 80 and F 20 (docs/TIMING.md). */
+static const moment_row moment_rows[] = {
+    {0, 1, 1, 1, NO_BYTE, 0, PRINT1525_NO_WAKE, NOTHING},
+    {1000, 0, 0, 1, NO_BYTE, 0, 1100, NOTHING}, /* ATN is pulled */
+    {1100, 0, 0, 1, NO_BYTE, 1, PRINT1525_NO_WAKE, NOTHING},
+    {1100, 0, 0, 0, NO_BYTE, 1, PRINT1525_NO_WAKE, NOTHING},
+    {2000, 0, 1, 0, NO_BYTE, 1, 2050, NOTHING}, /* ready to send */
+    {2050, 0, 1, 0, NO_BYTE, 0, PRINT1525_NO_WAKE, NOTHING},
+    {2050, 0, 1, 1, NO_BYTE, 0, PRINT1525_NO_WAKE, NOTHING},
+    {2090, 0, 0, 1, 36, 0, 2830, {PRINT1525_RECEIVED_LISTEN, 0, 0}},
+    {2830, 0, 0, 1, NO_BYTE, 1, PRINT1525_NO_WAKE, NOTHING}, /* acknowledged */
+    {2930, 1, 0, 0, NO_BYTE, 1, PRINT1525_NO_WAKE, NOTHING},
+    {3030, 1, 1, 0, NO_BYTE, 1, 5000, NOTHING}, /* it prints until 5000 */
+    {5000, 1, 1, 0, NO_BYTE, 0, PRINT1525_NO_WAKE, NOTHING},
+    {5000, 1, 1, 1, NO_BYTE, 0, 5250, NOTHING},
+    {5250, 1, 1, 1, NO_BYTE, 1, 5330, NOTHING}, /* the answer to end-or-identify */
+    {5250, 1, 1, 0, NO_BYTE, 1, 5330, NOTHING},
+    {5330, 1, 1, 0, NO_BYTE, 0, PRINT1525_NO_WAKE, NOTHING},
+    {5330, 1, 1, 1, NO_BYTE, 0, PRINT1525_NO_WAKE, NOTHING},
+    {5360, 1, 0, 1, 65, 0, 6100, {PRINT1525_RECEIVED_BYTE, 65, 1}},
+    {6100, 1, 0, 1, NO_BYTE, 1, PRINT1525_NO_WAKE, NOTHING},
+    {6100, 1, 0, 0, NO_BYTE, 1, PRINT1525_NO_WAKE, NOTHING},
+};
+
+static void device_is_wrong(const char *what, uint64_t now) {
+    fprintf(stderr, "WRONG: a device, %s, at %lu\n", what, (unsigned long)now);
+    wrong = 1;
+}
+
+static print1525_step shown(print1525_device *device, uint64_t now, uint8_t atn, uint8_t clock, uint8_t data) {
+    print1525_step step = {SEVEN, SEVEN, {SEVEN, SEVEN, SEVEN}};
+    print1525_plain_numbers answer = before;
+    print1525_plain_device_step(device, now, atn, clock, data, &step, &answer);
+    if (answer.code != 0 || answer.fault != 0 || answer.place != 0 || answer.length != 0)
+        device_is_wrong("another answer", now);
+    return step;
+}
+
+/* Whether a step is refused with this fault, with the device as it was and nothing done. */
+static void is_refused(print1525_device *device, uint64_t now, size_t fault) {
+    const print1525_device kept = *device;
+    print1525_step step = {SEVEN, SEVEN, {SEVEN, SEVEN, SEVEN}};
+    print1525_plain_numbers answer = before;
+    print1525_plain_device_step(device, now, 1, 1, 1, &step, &answer);
+    if (answer.code != 2 || answer.fault != fault || answer.place != 0 || answer.length != 0)
+        device_is_wrong("another refusal", now);
+    if (step.wake != PRINT1525_NO_WAKE || step.pulls_data != 0 || step.heard.kind != 0 || step.heard.byte != 0 ||
+        step.heard.eoi != 0 || memcmp(&kept, device, sizeof kept) != 0)
+        device_is_wrong("it does something with a refusal", now);
+}
+
+/* Whether a beginning is refused with this fault, with the device as it was. */
+static void is_not_begun(uint8_t address, const print1525_timing *timing, size_t fault) {
+    print1525_device device, kept;
+    print1525_plain_numbers answer = before;
+    memset(&device, SEVEN, sizeof device);
+    kept = device;
+    print1525_plain_device_begin(&device, address, timing, &answer);
+    if (answer.code != 2 || answer.fault != fault || answer.place != 0 || answer.length != 0 ||
+        memcmp(&kept, &device, sizeof kept) != 0)
+        device_is_wrong("it is begun", address);
+}
+
+static void try_device(void) {
+    static const print1525_timing typical = {0, 0, 0, 0, 0, 0}, least = {1, 1, 200, 80, 1, 1},
+                                  greatest = {1000, 10000, 250, 200, 80, 60}, too_long = {0, 10001, 0, 0, 0, 0},
+                                  too_short = {0, 0, 199, 0, 0, 0};
+    print1525_device device, saved, other;
+    print1525_plain_numbers answer = before;
+    uint8_t bytes_of_it[sizeof device];
+    size_t n, bit;
+    is_not_begun(3, &typical, 21);
+    is_not_begun(31, &too_long, 21);
+    is_not_begun(4, &too_long, 26);
+    is_not_begun(30, &too_short, 26);
+    print1525_plain_device_begin(&device, 30, &least, &answer);
+    if (answer.code != 0) device_is_wrong("the least delays", 30);
+    print1525_plain_device_begin(&device, 30, &greatest, &answer);
+    if (answer.code != 0) device_is_wrong("the greatest delays", 30);
+    print1525_plain_device_begin(&device, 4, &typical, &answer);
+    if (answer.code != 0 || answer.fault != 0) device_is_wrong("typical delays", 4);
+    for (n = 0; n < COUNT(moment_rows); n++) {
+        const moment_row *const row = &moment_rows[n];
+        print1525_step step;
+        uint64_t now = row->now;
+        if (n == 10) print1525_plain_device_busy(&device, 5000);
+        /* (It is saved, loaded, and goes on by itself.) */
+        memcpy(bytes_of_it, &device, sizeof device);
+        memcpy(&saved, bytes_of_it, sizeof saved);
+        for (bit = 0; bit < 8 && row->byte != NO_BYTE; bit++, now += 90) {
+            const uint8_t level = (uint8_t)(row->byte >> bit & 1);
+            step = shown(&device, now, row->atn, 0, level);
+            if (step.pulls_data != 0 || step.heard.kind != 0) device_is_wrong("a bit", now);
+            step = shown(&device, now + 70, row->atn, 1, level);
+            if (step.pulls_data != 0 || step.heard.kind != 0) device_is_wrong("a bit", now + 70);
+        }
+        step = shown(&device, now, row->atn, row->clock, row->data);
+        if (step.pulls_data != row->pulls_data || step.wake != row->wake) device_is_wrong("what it does", now);
+        if (memcmp(&step.heard, &row->heard, sizeof step.heard) != 0) device_is_wrong("what it hears", now);
+        if (row->byte != NO_BYTE) continue;
+        shown(&saved, now, row->atn, row->clock, row->data);
+        if (memcmp(&saved, &device, sizeof saved) != 0) device_is_wrong("a copy", now);
+    }
+    is_refused(&device, 6099, 17);
+    is_refused(&device, (uint64_t)1 << 63, 17);
+    /* Memory of zeros is no device; nor is one of another version, of no address or of another delay. */
+    memset(&other, 0, sizeof other);
+    is_refused(&other, 9000, 21);
+    for (n = 0; n < 3; n++) {
+        uint8_t *const byte = (uint8_t *)(void *)&other + (n == 0 ? 52 : n == 1 ? 53 : 41);
+        other = device;
+        *byte = (uint8_t)(*byte + 40);
+        is_refused(&other, 9000, 21);
+    }
+}
+
 /* ---- Whole answers. ---- */
 
 typedef struct {
@@ -590,5 +723,6 @@ int main(void) {
     for (n = 0; n < COUNT(answer_rows); n++) try_answer(&answer_rows[n]);
     try_runs();
     try_names();
+    try_device();
     return wrong;
 }

@@ -323,6 +323,41 @@ static void try_receiver(uint8_t *memories[6]) {
     }
 }
 
+static void try_device(uint8_t *memories[6]) {
+    print1525_device *const device = (print1525_device *)(void *)(memories[0] + ROOM - sizeof *device);
+    print1525_step *const step = (print1525_step *)(void *)(memories[1] + ROOM - sizeof *step);
+    print1525_details *const details = (print1525_details *)(void *)(memories[2] + ROOM - sizeof *details);
+    print1525_edge *const edge = (print1525_edge *)(void *)(memories[3] + ROOM - sizeof *edge);
+    print1525_timing *const timing = (print1525_timing *)(void *)(memories[4] + ROOM - sizeof *timing);
+    const uint8_t address = (uint8_t)(below(9) ? 4 + below(2) : drawn());
+    uint64_t time = below(1000);
+    size_t count;
+    memset(timing, 0, sizeof *timing);
+    if (below(3) == 0) timing->hold = (uint16_t)(below(9) ? 1 + below(10000) : drawn());
+    test_details("device_begin", print1525_device_begin(device, address, below(3) ? timing : NULL, details), details, 0, 0);
+    if (address < 4 || address > 30 ? details->fault != PRINT1525_FAULT_NO_SUCH_DEVICE : details->fault != PRINT1525_FAULT_NONE && timing->hold <= 10000)
+        is_wrong("device_begin", "the address");
+    if (details->status != PRINT1525_DONE) memset(device, 0, sizeof *device);
+    if (print1525_device_size() != sizeof *device) is_wrong("device_size", "the size");
+    for (count = below(60); count > 0; count--) {
+        print1525_device kept, other;
+        print1525_step again;
+        print1525_details told;
+        if (below(30) == 0) damage(device, sizeof *device);
+        if (below(9) == 0 && print1525_device_busy(device, below(9) ? time + below(5000) : drawn()) != PRINT1525_DONE) is_wrong("device_busy", "the status");
+        *edge = made_edge(&time);
+        kept = other = *device;
+        test_details("device_step", print1525_device_step(device, edge, step, details), details, 0, 0);
+        if (details->status != PRINT1525_DONE && memcmp(&kept, device, sizeof kept) != 0) is_wrong("device_step", "a device that refuses");
+        if (details->status != PRINT1525_DONE && (step->pulls_data != 0 || step->wake != PRINT1525_NO_WAKE || step->heard.kind != 0)) is_wrong("device_step", "a refusal");
+        if (step->wake <= edge->time && details->status == PRINT1525_DONE) is_wrong("device_step", "the wake");
+        if (step->pulls_data > 1 || step->heard.kind > PRINT1525_RECEIVED_CLOSE || step->heard.eoi > 1) is_wrong("device_step", "the step");
+        print1525_device_step(&other, edge, &again, &told);
+        if (memcmp(&told, details, sizeof told) != 0 || again.wake != step->wake || again.pulls_data != step->pulls_data || again.heard.kind != step->heard.kind || again.heard.byte != step->heard.byte)
+            is_wrong("device_step", "another answer");
+    }
+}
+
 static void try_strict(uint8_t *memories[6]) {
     print1525_strict *const strict = (print1525_strict *)(void *)(memories[0] + ROOM - sizeof *strict);
     uint16_t *const input = (uint16_t *)(void *)(memories[1] + ROOM - sizeof *input);
@@ -506,12 +541,13 @@ int main(int words, char **word) {
     state = (words > 1 ? strtoul(word[1], NULL, 10) : 1) * 0x9E3779B97F4A7C15u | 1;
     for (index = 0; index < 6; index++) memories[index] = guard();
     for (round_now = 0; round_now < rounds; round_now++) {
-        switch (below(11)) {
+        switch (below(12)) {
         case 0: try_decoder(memories); break;
         case 1: try_strict(memories); break;
         case 2: try_receiver(memories); break;
         case 3: try_printer(memories); break;
         case 4: try_words(memories); break;
+        case 5: try_device(memories); break;
         default: try_text(memories); break;
         }
     }

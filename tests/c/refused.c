@@ -366,6 +366,8 @@ static void try_edges(void) {
     static const print1525_edge edges[] = {{0, 1, 1, 1}, {100, 0, 1, 1}, {1100, 0, 0, 1}, {1110, 0, 0, 0}, {1300, 0, 1, 0}, {1310, 0, 1, 1}};
     print1525_decoder decoder;
     print1525_receiver receiver;
+    print1525_device device;
+    print1525_step step;
     print1525_strict strict;
     print1525_reading reading;
     print1525_received received;
@@ -379,10 +381,13 @@ static void try_edges(void) {
     refused_to = MOST;
     print1525_decoder_begin(&decoder);
     print1525_receiver_begin(&receiver, 4);
+    if (print1525_device_begin(&device, 4, NULL, &details) != PRINT1525_DONE) is_wrong("a device that begins", details.fault);
     print1525_strict_begin(&strict, 4);
     for (index = 0; index < sizeof edges / sizeof *edges; index++) {
         if (print1525_decoder_edge(&decoder, &edges[index], &reading, &details) != PRINT1525_DONE) is_wrong("a decoder", details.fault);
         if (print1525_receiver_edge(&receiver, &edges[index], &received, &details) != PRINT1525_DONE) is_wrong("a receiver", details.fault);
+        if (print1525_device_step(&device, &edges[index], &step, &details) != PRINT1525_DONE) is_wrong("a device", details.fault);
+        print1525_device_busy(&device, edges[index].time + 9);
         print1525_strict_edge(&strict, &edges[index], &input, &details);
     }
     print1525_decoder_end(&decoder, &reading, &details);

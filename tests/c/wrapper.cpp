@@ -134,10 +134,26 @@ static void watched_printers() {
     CHECK(message_of([&] { print1525::pixels(marks, {0, 0, SIZE_MAX, SIZE_MAX}); }) == print1525_strerror(PRINT1525_FAULT_TOO_LARGE));
 }
 
+static void devices() {
+    print1525::device device(4), quick(5, {1, 1, 200, 80, 1, 1});
+    print1525_step step = device.step({0, 1, 1, 1});
+    CHECK(step.pulls_data == 0 && step.wake == PRINT1525_NO_WAKE && step.heard.kind == PRINT1525_NOTHING_RECEIVED);
+    CHECK(device.step({1000, 0, 0, 1}).wake == 1100 && quick.step({1000, 0, 0, 1}).wake == 1001);
+    print1525::device saved(device.state());
+    CHECK(device.step({1100, 0, 0, 1}).pulls_data == 1 && saved.step({1100, 0, 0, 1}).pulls_data == 1);
+    saved.busy(9000);
+    CHECK(device.step({2000, 0, 1, 0}).wake == 2050 && saved.step({2000, 0, 1, 0}).wake == 9000);
+    CHECK(message_of([&] { device.step({1999, 0, 1, 0}); }) == "time goes back");
+    CHECK(message_of([] { print1525::device(31); }) == "no such device");
+    CHECK(message_of([] { print1525::device(4, {0, 10001, 0, 0, 0, 0}); }) == "no such timing");
+    CHECK(message_of([] { print1525::device(print1525_device{}).step({0, 1, 1, 1}); }) == "no such device");
+}
+
 int main(int, char **words) {
     texts();
     printers(words[1]);
     recordings();
     watched_printers();
+    devices();
     return failed;
 }

@@ -3,3 +3,4 @@ pub mod InputTexts
 pub mod InputNumbers
 pub mod Lines
 pub mod Middles
+mod DevicesStored

@@ -5,6 +5,8 @@ pub mod Program
 pub mod Lengths
 pub mod Numbers
 pub mod EdgeDelays
+pub mod DeviceKept
+pub mod Devices
 pub mod Giving
 pub mod Listings
 pub mod Printing

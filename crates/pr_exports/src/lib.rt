@@ -19,6 +19,10 @@
 //!   without a word on the text. A recording that cannot be read to its end answers its fault, and the text of what comes
 //!   before it too.
 //!
+//! - `devices` has a device on the bus that hears and answers, for emulators and adapters in C. Between two calls it is
+//!   in the numbers of `device_numbers`, with their version. A step restores and stores it, which copies a few numbers,
+//!   and refuses numbers that are no device's. It takes no memory.
+//!
 //! `settings` gives the numbers that a caller passes their meaning, `answer` has what is answered, and `faults` the numbers
 //! of faults.
 //!
@@ -28,6 +32,8 @@
 
 mod answer;
 mod delays;
+mod device_numbers;
+mod devices;
 mod explanations;
 mod faults;
 mod lengths;
@@ -42,6 +48,11 @@ mod settings;
 
 pub use answer::{Answer, TextGiven};
 pub use delays::print1525_edge_delays;
+pub use device_numbers::{WireDevice, WireStep, WireTiming, devices_come_back};
+pub use devices::{
+    NotBegun, NotShown, begin_device, print1525_device_begin, print1525_device_busy,
+    print1525_device_step, show_device,
+};
 pub use explanations::{
     print1525_explain_reading, print1525_explain_script, print1525_explain_stop,
     print1525_explain_trace,
