@@ -1,10 +1,11 @@
 //! A device on the bus.
 
-ghost use Rattle.std.specs.Prelude.{◌≡◌, ◌<◌, ◌≤◌, ◌^◌, ◌∷◌, [], true, false, List, None, IfSome};
+ghost use Rattle.std.specs.Prelude.{◌≡◌, ◌<◌, ◌≤◌, ◌^◌, ◌∷◌, [], true, false, ◌↔◌, List, None, IfSome, IsSome};
 ghost use Rattle.pr_wire.specs.declared.Edge.{Edge};
 ghost use Rattle.pr_device.specs.Data.{pulls, standing, wake};
 ghost use Rattle.pr_receiver.specs.Heard.{is_listening};
 ghost use Rattle.pr_device.specs.Following.{said};
+ghost use Rattle.pr_device.specs.Sound.{IsSound};
 ghost use Rattle.pr_device.specs.Seen.{HasSeen, busy_until, device_of, event_at, is_pulling, timing_of};
 ghost use Rattle.pr_device.specs.Spoken.{is_spoken_to};
 ghost use Rattle.pr_device.specs.Timing.{IsTiming};
@@ -125,5 +126,26 @@ impl Device {
             result ≡ is_listening (device_of self.now) (said (timing_of self.now).wait history) }
     {
         self.state.listener.listens
+    }
+
+    /// Returns all that the device keeps, of which [`Device::from_state`] makes it again.
+    pub fn state(&self) -> State
+        ensures value { result ≡ self.now }
+        ensures sound { IsSound result }
+    {
+        self.state
+    }
+
+    /// Makes the device that keeps this; `None` where no device does: its number is not one of 4 to 30, a
+    /// delay lies outside its bounds, or a moment that it keeps is 2^63 or more. It takes no memory.
+    pub fn from_state(state: State) -> Option<Device>
+        ensures value { IfSome result (λ device. device ≡ state) }
+        ensures sound { IsSome result ↔ IsSound state }
+    {
+        if state.is_sound() {
+            Some(Device { state })
+        } else {
+            None
+        }
     }
 }

@@ -36,6 +36,7 @@ mod timing;
 
 pub use device::Device;
 pub use event::Event;
+pub use place::Place;
 pub use printing::{Speed, printing_time};
-pub use state::Step;
+pub use state::{State, Step};
 pub use timing::Timing;

@@ -1,14 +1,17 @@
 //! What a device keeps: it follows the lines, hears, and answers.
 
-ghost use Rattle.std.specs.Prelude.{◌≡◌, ◌<◌, ◌^◌};
+ghost use Rattle.std.specs.Prelude.{◌≡◌, ◌<◌, ◌^◌, ◌↔◌, IsTrue};
 ghost use Rattle.pr_device.specs.Data.{after, calls, is_away, leaves, pulls, pulls_at, wake, wake_at};
-ghost use Rattle.pr_device.specs.Sound.{Acts, Hears, IsMoment, IsSound, ended_by, followed, standing_of};
+ghost use Rattle.pr_device.specs.Sound.{Acts, Hears, IsMoment, IsPlace, IsSound, ended_by, followed, standing_of};
 
 use crate::event::{Event, event_by};
 use crate::place::Place;
 use crate::timing::Timing;
 use pr_receiver::Listener;
 use pr_wire::{Edge, Frame};
+
+/// Moments are less than this, so that delays may be added (microseconds).
+const MOMENTS: u64 = 1 << 63;
 
 /// What a device does at a moment, and what it hears then.
 #[derive(Clone, Copy, Debug, PartialEq, Eq)]
@@ -49,7 +52,37 @@ fn after(moment: Option<u64>, delay: u16) -> Option<u64>
     Some(moment? + u64::from(delay))
 }
 
+/// Whether a moment, if there is one, is so early that a delay may be added.
+fn is_moment(moment: Option<u64>) -> bool
+    ensures { IsTrue result ↔ IsMoment moment }
+{
+    match moment {
+        None => true,
+        Some(moment) => moment < MOMENTS,
+    }
+}
+
+/// Whether the moments of a place are.
+fn is_place(place: Place) -> bool
+    ensures { IsTrue result ↔ IsPlace place }
+{
+    match place {
+        Place::Between | Place::Bits { .. } => true,
+        Place::Sent(pull) => pull < MOMENTS,
+        Place::Opening { look, free, .. } => look < MOMENTS && is_moment(free),
+    }
+}
+
 impl State {
+    /// Whether a device keeps this.
+    pub(crate) fn is_sound(&self) -> bool
+        ensures { IsTrue result ↔ IsSound self.now }
+    {
+        let address = self.listener.device;
+        let is_device = 4 <= address && address <= 30;
+        is_device && self.timing.is_within_bounds() && is_moment(self.since) && is_place(self.place)
+    }
+
     /// Follows the lines to a moment, and gives the byte that it ends.
     pub(crate) fn follow(&mut self, edge: Edge) -> Option<Frame>
         requires sound { IsSound self.old }
