@@ -24,5 +24,6 @@ pub mod SpanLemmas
 pub mod SumLemmas
 pub mod SymbolLemmas
 pub mod ThenLemmas
+pub mod ValueLemmas
 pub mod WholeLemmas
 pub mod WithinLemmas

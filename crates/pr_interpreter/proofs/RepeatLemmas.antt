@@ -40,8 +40,8 @@ pub repeated_more : {A : Type 0} (more : List Lexeme → Bool) (item : List Lexe
     → new ≡ found ++ a ∷ []
     → repeated more item new (taken + n) 0 (drop n ls) ≡ repeated more item found taken 0 ls
 unfolding repeated
-repeated_more more item found new taken [] a n e is some h put = absurd (omega arith)
-repeated_more more item found new taken (l ∷ ls) a n e is some h put =
+repeated_more {A = A} more item found new taken [] a n e is some h put = absurd (omega arith)
+repeated_more {A = A} more item found new taken (l ∷ ls) a n e is some h put =
     ap (λ (xs : List A). repeated more item xs (taken + n) 0 (drop n (l ∷ ls))) put
     ∙ (sym (one_less more item (found ++ a ∷ []) taken n l ls some h) ∙ rw (e, is) refl)
 

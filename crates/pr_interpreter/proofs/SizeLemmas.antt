@@ -69,7 +69,8 @@ unfolding operand_code
 code_goes_on s c place =
     let own = either_goes_on (c == 165) (Next s (OwnName place)) (function_turn s c place) tt
     (function_goes_on s c place) in
-    let no = either_goes_on (c == 168) (Next (with_waiting s (Applies Not) place) Operand) (own_code s c place) tt own in
+    let no = either_goes_on (c == 168) (Next (with_waiting s (Applies Not) place) Operand) (own_code s c place) tt
+    own in
     let minus = either_goes_on (c == 171) (Next (with_waiting s (Applies Negate) place) Operand) (not_code s c place)
     tt no in
     let plus = either_goes_on (c == 170) (Next s Operand) (minus_code s c place) tt minus in

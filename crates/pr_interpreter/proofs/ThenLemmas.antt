@@ -18,7 +18,8 @@ first_refused first ls more fault e = rw e refl
 
 -- the second part is refused
 pub second_refused : {A B : Type 0} (first : Read A) (ls : List Lexeme) (more : A → List Lexeme → Read B) (a : A)
-    (n : ℕ) (fault : ProgramFault) → first ≡ Ok (a, n) → more a (drop n ls) ≡ Err fault → and_then first ls more ≡ Err fault
+    (n : ℕ) (fault : ProgramFault) → first ≡ Ok (a, n) → more a (drop n ls) ≡ Err fault
+    → and_then first ls more ≡ Err fault
 unfolding and_then
 second_refused first ls more a n fault e is = rw (e, is) refl
 

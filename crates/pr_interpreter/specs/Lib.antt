@@ -19,3 +19,4 @@ pub mod Reading
 pub mod Spans
 pub mod Statements
 pub mod Symbols
+pub mod Values

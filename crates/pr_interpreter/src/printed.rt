@@ -20,11 +20,7 @@ const SPC: u8 = 166;
 
 /// Reads a value and the parenthesis after it.
 #[tactic(auto, unfolding(crate::specs::Reading::and_then, crate::specs::Statements::bracketed))]
-fn bracketed(
-    alloc: Global,
-    lexemes: &[Lexeme],
-    end: usize,
-) -> Result<(Nodes, usize), ProgramFault>
+fn bracketed(alloc: Global, lexemes: &[Lexeme], end: usize) -> Result<(Nodes, usize), ProgramFault>
     ensures ok { IfOk result (λ r. bracketed end lexemes.now ≡ Ok r) }
     ensures err { IfErr result (λ fault. FaultsAs fault (bracketed end lexemes.now)) }
     ensures within { IfOk result (λ r. r.1 ≤ length lexemes.now) }

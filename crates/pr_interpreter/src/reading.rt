@@ -46,13 +46,7 @@ fn word_code(word: Word) -> u8
 {
     match word {
         Word::Code(code) => code,
-        Word::Comparison(order) => {
-            if is_equal(order) {
-                EQUAL
-            } else {
-                0
-            }
-        }
+        Word::Comparison(order) => { if is_equal(order) { EQUAL } else { 0 } }
         Word::Constant(_)
         | Word::Named(_)
         | Word::Text { .. }
@@ -198,11 +192,7 @@ pub fn variable(lexemes: &[Lexeme], end: usize) -> Result<(Name, usize), Program
 }
 
 /// Reads a value.
-pub fn value(
-    alloc: Global,
-    lexemes: &[Lexeme],
-    end: usize,
-) -> Result<(Nodes, usize), ProgramFault>
+pub fn value(alloc: Global, lexemes: &[Lexeme], end: usize) -> Result<(Nodes, usize), ProgramFault>
     ensures ok { IfOk result (λ r. expression end lexemes.now ≡ Ok r) }
     ensures err { IfErr result (λ fault. FaultsAs fault (expression end lexemes.now)) }
     ensures some { IfOk result (λ r. 0 < r.1) }

@@ -10,7 +10,8 @@ use crate::lexemes::{Lexeme, Word};
 use crate::names::Name;
 use crate::printed::{file_items, items};
 use crate::reading::{
-    EQUAL, at_end, front_code, front_line, line, no_statement, put, value, value_after, values, variable,
+    EQUAL, at_end, front_code, front_line, line, no_statement, put, value, value_after, values,
+    variable,
 };
 use crate::statements::{Nodes, Statement, Way};
 use crate::targets::{line_after, line_list, target, targets};
@@ -172,11 +173,7 @@ fn define_value(
 }
 
 /// Reads a name after a code.
-fn variable_after(
-    code: u8,
-    lexemes: &[Lexeme],
-    end: usize,
-) -> Result<(Name, usize), ProgramFault>
+fn variable_after(code: u8, lexemes: &[Lexeme], end: usize) -> Result<(Name, usize), ProgramFault>
     requires { 0 < code }
     ensures ok { IfOk result (λ r. after code variable end lexemes.now ≡ Ok r) }
     ensures err { IfErr result (λ fault. FaultsAs fault (after code variable end lexemes.now)) }

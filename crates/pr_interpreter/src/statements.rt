@@ -52,10 +52,16 @@ pub enum Statement {
     /// Nothing is done: no statement at all, REM or DATA.
     Nothing,
     /// LET, which needs no keyword.
-    Let { target: Target, value: Nodes },
+    Let {
+        target: Target,
+        value: Nodes,
+    },
     /// IF: if the condition is not 0, the statements after it in the line are done, or it goes on at a line; else it
     /// goes on at the next line.
-    If { condition: Nodes, line: Option<u16> },
+    If {
+        condition: Nodes,
+        line: Option<u16>,
+    },
     For {
         variable: Name,
         from: Nodes,
@@ -63,9 +69,14 @@ pub enum Statement {
         step: Option<Nodes>,
     },
     /// NEXT for each of these variables; without one for that of the last FOR.
-    Next { variables: Sequence<Target> },
+    Next {
+        variables: Sequence<Target>,
+    },
     /// GOTO (or GO TO) and GOSUB.
-    Go { way: Way, line: u16 },
+    Go {
+        way: Way,
+        line: u16,
+    },
     Return,
     /// ON .. GOTO, or ON .. GOSUB: the value says which of the lines counts, from 1.
     On {
@@ -73,10 +84,14 @@ pub enum Statement {
         way: Way,
         lines: Sequence<u16>,
     },
-    Read { targets: Sequence<Target> },
+    Read {
+        targets: Sequence<Target>,
+    },
     Restore,
     /// DIM: each index is the greatest that the array will have.
-    Dim { arrays: Sequence<Target> },
+    Dim {
+        arrays: Sequence<Target>,
+    },
     /// DEF FN, for a function of one variable.
     Define {
         name: Name,
@@ -84,7 +99,9 @@ pub enum Statement {
         value: Nodes,
     },
     /// PRINT.
-    Print { items: Sequence<Item> },
+    Print {
+        items: Sequence<Item>,
+    },
     /// PRINT#.
     PrintFile {
         file: Nodes,
@@ -96,11 +113,18 @@ pub enum Statement {
         items: Sequence<Item>,
     },
     /// OPEN, with its file number and up to three further values.
-    Open { values: Sequence<Nodes> },
+    Open {
+        values: Sequence<Nodes>,
+    },
     /// CLOSE; values after the file number count for nothing.
-    Close { values: Sequence<Nodes> },
+    Close {
+        values: Sequence<Nodes>,
+    },
     /// POKE.
-    Poke { address: Nodes, value: Nodes },
+    Poke {
+        address: Nodes,
+        value: Nodes,
+    },
     /// CLR.
     Clear,
     Stop,

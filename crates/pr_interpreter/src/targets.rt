@@ -161,11 +161,7 @@ pub fn targets(
 }
 
 /// Reads a line number after a code.
-pub fn line_after(
-    code: u8,
-    lexemes: &[Lexeme],
-    end: usize,
-) -> Result<(u16, usize), ProgramFault>
+pub fn line_after(code: u8, lexemes: &[Lexeme], end: usize) -> Result<(u16, usize), ProgramFault>
     requires { 0 < code }
     ensures ok { IfOk result (λ r. after code line end lexemes.now ≡ Ok r) }
     ensures err { IfErr result (λ fault. FaultsAs fault (after code line end lexemes.now)) }
@@ -180,11 +176,7 @@ pub fn line_after(
 }
 
 /// Reads a line number after a comma. Returns how many lexemes both have.
-fn take_line(
-    found: &mut Vec<u16>,
-    lexemes: &[Lexeme],
-    end: usize,
-) -> Result<usize, ProgramFault>
+fn take_line(found: &mut Vec<u16>, lexemes: &[Lexeme], end: usize) -> Result<usize, ProgramFault>
     requires { front_code lexemes.now ≡ 44 }
     ensures ok { IfOk result (λ n. LeadsOn begins_comma (after 44 line end) found.old.items found.new.items n lexemes.now) }
     ensures err { IfErr result (λ fault. FaultsAs fault (after 44 line end lexemes.now)) }
@@ -197,11 +189,7 @@ fn take_line(
 }
 
 /// Reads further line numbers, each after a comma. Returns how many lexemes they have.
-fn more_lines(
-    found: &mut Vec<u16>,
-    lexemes: &[Lexeme],
-    end: usize,
-) -> Result<usize, ProgramFault>
+fn more_lines(found: &mut Vec<u16>, lexemes: &[Lexeme], end: usize) -> Result<usize, ProgramFault>
     ensures ok { IfOk result (λ n. others_of line found.old.items end lexemes.now ≡ Ok (found.new.items, n)) }
     ensures err { IfErr result (λ fault. FaultsAs fault (others_of line found.old.items end lexemes.now)) }
     ensures within { IfOk result (λ n. n ≤ length lexemes.now) }

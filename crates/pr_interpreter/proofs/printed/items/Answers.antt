@@ -1,8 +1,13 @@
-use Rattle.std.proofs.Common.{◌≡◌, ◌∙◌, true, false, drop, sym, rules}
+use Rattle.std.proofs.Common.{◌≡◌, ◌∙◌, ℕ, true, false, List, drop, sym, ap, rules, Ok}
 use Rattle.std.proofs.lemmas.List.{take_rest}
+use Rattle.pr_interpreter.specs.declared.statements.Item.{Item}
+use Rattle.pr_interpreter.specs.Reading.{Read}
 use Rattle.pr_interpreter.specs.Statements.{has_item, item, items}
 use Rattle.pr_interpreter.proofs.RepeatLemmas.{item_some, repeated_ends, repeated_faults, repeated_on}
 use Rattle.pr_interpreter.proofs.printed.items.Goals as goal
+
+abbrev items_read : List Item → ℕ → Read (List Item)
+items_read found n = Ok (found, n)
 
 pub more-preserved : goal.more-preserved
 more-preserved c = record {
@@ -27,5 +32,6 @@ returns-clause-ok c =
     let front = rw (take_rest c.args.lexemes.now c.more.passed) at c.has_item.ensures in
     let none : has_item (drop c.more.passed c.args.lexemes.now) ≡ false = sym front ∙ c.more-test.false in
     sym c.more.invariant.found
-    ∙ repeated_ends has_item (item c.args.end) c.more.found.items c.more.passed
+    ∙ (repeated_ends has_item (item c.args.end) c.more.found.items c.more.passed
     (drop c.more.passed c.args.lexemes.now) none
+    ∙ ap (λ (found : List Item). items_read found c.more.passed) (sym c.from_vec.ensures))

@@ -1,5 +1,6 @@
-use Rattle.std.proofs.Common.{◌≡◌, ◌∙◌, ℕ, ◌-◌, ◌<◌, length, drop, sym, ap, arith, rules, length-drop}
+use Rattle.std.proofs.Common.{◌≡◌, ◌∙◌, ℕ, ◌<◌, List, length, drop, sym, ap, arith, rules, length-drop}
 use Rattle.std.proofs.lemmas.List.{take_rest}
+use Rattle.pr_interpreter.specs.declared.statements.Statement.{Statement}
 use Rattle.pr_interpreter.specs.Reading.{is_some}
 use Rattle.pr_interpreter.specs.Statements.{next_of_line, statements}
 use Rattle.pr_interpreter.proofs.RepeatLemmas.{none_is, repeated_ends, repeated_faults, repeated_on, some_is, statements_read}
@@ -29,4 +30,5 @@ returns-clause-ok c =
     sym c.more.invariant.found
     ∙ (repeated_ends is_some (next_of_line c.args.end) c.more.found.items c.more.passed
     (drop c.more.passed c.args.lexemes.now) (none_is _ _ c.more-test.false)
-    ∙ ap (λ (n : ℕ). statements_read c.more.found.items n) all)
+    ∙ (ap (λ (n : ℕ). statements_read c.more.found.items n) all
+    ∙ ap (λ (found : List Statement). statements_read found (length c.args.lexemes.now)) (sym c.from_vec.ensures)))
