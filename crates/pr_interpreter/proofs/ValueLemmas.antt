@@ -21,8 +21,8 @@ order_greater a b i h k more =
 pub order_more : (a b : List ℕ) (i : ℕ) → i < length a → i < length b → get_or b i 0 ≤ get_or a i 0
     → get_or a i 0 ≤ get_or b i 0
     → text_order (drop (i + 1) a) (drop (i + 1) b) ≡ text_order (drop i a) (drop i b)
-order_more a b i h k no none =
-    rw (drop-cons a i 0 h, drop-cons b i 0 k, le-ltb _ _ no, le-ltb _ _ none, add-one i) refl
+order_more a b i h k below above =
+    rw (drop-cons a i 0 h, drop-cons b i 0 k, le-ltb _ _ below, le-ltb _ _ above, add-one i) refl
 
 -- the first string ends
 pub order_short : (a b : List ℕ) (i : ℕ) → length a ≤ i → i < length b → text_order (drop i a) (drop i b) ≡ is_less
