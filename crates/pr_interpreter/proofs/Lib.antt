@@ -14,10 +14,16 @@ pub mod NumeralLemmas
 pub mod OrderLemmas
 pub mod PrintingLawLemmas
 pub mod PrintingLemmas
+pub mod ProgramLemmas
 pub mod RangeLemmas
 pub mod ReaderLemmas
+pub mod RepeatLemmas
 pub mod SignLemmas
+pub mod SizeLemmas
 pub mod SpanLemmas
 pub mod SumLemmas
 pub mod SymbolLemmas
+pub mod ThenLemmas
+pub mod ValueLemmas
 pub mod WholeLemmas
+pub mod WithinLemmas

@@ -2,6 +2,7 @@ pub mod Constants
 pub mod Decimals
 pub mod ExpressionLaws
 pub mod Expressions
+pub mod Faults
 pub mod LexemeLaws
 pub mod Lexemes
 pub mod LineLaws
@@ -12,6 +13,10 @@ pub mod Numbers
 pub mod Numerals
 pub mod Printing
 pub mod PrintingLaws
+pub mod Programs
 pub mod Reader
+pub mod Reading
 pub mod Spans
+pub mod Statements
 pub mod Symbols
+pub mod Values

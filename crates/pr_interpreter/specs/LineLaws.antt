@@ -25,3 +25,12 @@ LinesAscend = (text : List ℕ) (lines : List Line) → program_lines text ≡ O
 abbrev pub TypedLinesCount : Type 0
 TypedLinesCount = (l : Line) (lines : List Line) (number : ℕ)
     → line_of number (enter l lines) ≡ (if l.number == number then typed_line l else line_of number lines)
+
+-- the places of a line are in a text of so many bytes
+pub record IsWithin (size : ℕ) (l : Line) : Type 0 where
+  pub order : l.start ≤ l.end
+  pub within : l.end ≤ size
+
+abbrev pub AreWithin : ℕ → List Line → Type 0
+AreWithin size [] = Unit {0}
+AreWithin size (x ∷ xs) = IsWithin size x × AreWithin size xs

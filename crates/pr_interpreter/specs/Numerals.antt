@@ -97,4 +97,5 @@ constant_of r e =
       more = r.more;
       tens = tens (up + r.further) down;
       roundings = scalings up down + 2 * r.further;
+      plain = not r.point && (e.size == 0);
     }

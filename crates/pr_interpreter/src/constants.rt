@@ -30,6 +30,8 @@ pub struct Constant {
     /// How often the machine may round while it reads the constant: once for each multiplication and division by ten,
     /// and twice for each further digit.
     pub roundings: u16,
+    /// Whether it is digits alone, without a point and an exponent.
+    pub plain: bool,
 }
 
 /// Returns the exponent of a power of ten.

@@ -22,4 +22,8 @@ pub enum ProgramFault {
     LargeLineNumber(usize),
     /// At this place is what no expression can have there: the machine reports `?SYNTAX ERROR`.
     NoExpression(usize),
+    /// At this place is what no statement has there: the machine reports `?SYNTAX ERROR`.
+    NoStatement(usize),
+    /// At this place is the keyword of a statement that a run does not take, as INPUT or SYS.
+    NotTaken(usize),
 }

@@ -19,6 +19,10 @@
 //!   constants, and `comparisons`. `specs/Symbols.antt` and `specs/Lexemes.antt` define them.
 //! - `expressions` has the nodes of expressions, and `reader` reads them from lexemes; `specs/Expressions.antt` defines
 //!   how.
+//! - `statements` has the statements of a line, `statement_reader` reads them (with `reading`, `targets` and `printed`),
+//!   and `program` reads the lines of a text with their statements; `specs/Reading.antt`, `specs/Statements.antt` and
+//!   `specs/Programs.antt` define how.
+//! - `values` has what operators give of two numbers or two strings; `specs/Values.antt` defines it.
 //! - `laws` has what is proved of the definitions: what the machine may answer to a calculation
 //!   (`specs/Machine.antt`) is in the number that the calculation gives, for all values in its operands; what is
 //!   printed of a number is so for each of its values; the lines of a text are sorted.
@@ -60,11 +64,18 @@ mod names;
 mod number;
 mod numerals;
 mod orders;
+mod printed;
 mod printing;
+mod program;
 mod reader;
+mod reading;
 mod span;
+mod statement_reader;
+mod statements;
 mod sums;
 mod symbols;
+mod targets;
+mod values;
 mod whole_numbers;
 
 pub use constants::{Constant, Tens, value_of};
@@ -77,8 +88,12 @@ pub use names::{Kind, Name};
 pub use number::{Number, Sign, product, quotient};
 pub use orders::{Order, order_of};
 pub use printing::text_of;
+pub use program::{ProgramLine, read_program};
 pub use reader::{Expression, read_expression};
 pub use span::{Span, answer};
+pub use statement_reader::read_statements;
+pub use statements::{Item, Nodes, Part, Statement, Target, Way};
 pub use sums::sum;
 pub use symbols::Writing;
+pub use values::{BasicError, Stop, Value, of_numbers, of_texts};
 pub use whole_numbers::{Whole, floor};

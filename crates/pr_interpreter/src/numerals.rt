@@ -248,5 +248,6 @@ pub fn constant_of(numeral: Numeral, exponent: Exponent) -> Constant
         more: numeral.more,
         tens: tens(up + further, down),
         roundings: scalings(up, down) + 2 * further,
+        plain: !numeral.point && exponent.size == 0,
     }
 }
