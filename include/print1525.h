@@ -33,9 +33,10 @@
  * This file is the manual. docs/C.md shows how to build and link, and a program for each purpose. include/print1525.hpp
  * wraps the calls for C++17; examples/ has wrappers for Python and Rust.
  *
- * The calls are proved: each gives exactly what its definition says (docs/C.md says where the definitions are); of an
- * explanation only its place is. Not proved is the last part of this file: the functions that unpack settings or say
- * them as words of a command line, refuse pointers and call them.
+ * The library is for 64-bit processors whose numbers have their lowest byte first. Each call is a function of the last
+ * part of this file, which is tested only: it unpacks settings or says them as words of a command line, refuses
+ * pointers, and calls proved functions (print1525_plain_..). These give exactly what their definitions say (docs/C.md
+ * says where these are); of an explanation only its place is proved.
  *
  * ANSWERS. A call returns an exit status of the program print1525 (enum print1525_status), and writes all of its
  * details, unless they are NULL. A text is at the front of the buffer, without a zero byte after it; the rest of the
@@ -244,8 +245,8 @@ enum print1525_from {
     PRINT1525_FROM_MAGAZINE = 3,
     PRINT1525_FROM_AUTO = 4
 };
-/* `page`: a line for each row and mark, lines of 80 columns, an SVG document, the paper of one printer as a PNG file, or a
- * PDF document of all sheets. */
+/* `page`: a line for each row and mark, lines of 80 columns, an SVG document, the paper of one printer as a PNG file,
+ * or a PDF document of all sheets. */
 enum print1525_page {
     PRINT1525_PAGE_LIST = 0,
     PRINT1525_PAGE_TEXT = 1,
@@ -253,8 +254,8 @@ enum print1525_page {
     PRINT1525_PAGE_PNG = 3,
     PRINT1525_PAGE_PDF = 4
 };
-/* `paper` of a document: continuous paper of 9.5 by 11 inches, the same with its holes and perforations, A4 with a sheet
- * in true size in its middle, or letter with a sheet at 95 %. A PNG file has holes or none. */
+/* `paper` of a document: continuous paper of 9.5 by 11 inches, the same with its holes and perforations, A4 with a
+ * sheet in true size in its middle, or letter with a sheet at 95 %. A PNG file has holes or none. */
 enum print1525_paper {
     PRINT1525_PAPER_CONTINUOUS = 0,
     PRINT1525_PAPER_HOLES = 1,
@@ -344,11 +345,11 @@ typedef struct {
  * (which change no page) and characters.
  * Gives: the text that `print1525 pages` writes. Status 1 comes with the BASIC error that stopped the run; what was
  * printed until then is in the text.
- * Refuses: present (22), mode (23) and page with printer, sheet, top, paper and scale (24), in this order: SVG and PNG show any
- * part of the pages, PDF one printer, and the others all of them; characters, by their first bad line (52); from (60) and a
- * listing, as print1525_listing; a script above the limit (9), or by its first fault (1 to 7); after the run a sheet
- * that does not exist (50), with how many there are, and a document that is too large or a PNG file of more than 1,000,000
- * lines of pixels (51). */
+ * Refuses: present (22), mode (23) and page with printer, sheet, top, paper and scale (24), in this order: SVG and PNG
+ * show any part of the pages, PDF one printer, and the others all of them; characters, by their first bad line (52);
+ * from (60) and a listing, as print1525_listing; a script above the limit (9), or by its first fault (1 to 7); after
+ * the run a sheet that does not exist (50), with how many there are, and a document that is too large or a PNG file of
+ * more than 1,000,000 lines of pixels (51). */
 PRINT1525_CALL int print1525_pages(const void *script, size_t length, const print1525_settings *settings, void *buffer,
                                    size_t capacity, print1525_details *details);
 
@@ -374,8 +375,8 @@ PRINT1525_CALL int print1525_listing(const void *listing, size_t length, const p
  *
  * Reads: at most 4,294,967,295 bytes; set, page, printer, sheet, top, paper, scale and characters.
  * Gives: the text that `print1525 raw` writes, the page as that of printer 4.
- * Refuses: set (25) and page with printer, sheet, top, paper and scale (24), in this order; characters, by their first bad line
- * (52); then bytes above the limit (9); and a picture (50, 51), as print1525_pages. */
+ * Refuses: set (25) and page with printer, sheet, top, paper and scale (24), in this order; characters, by their first
+ * bad line (52); then bytes above the limit (9); and a picture (50, 51), as print1525_pages. */
 PRINT1525_CALL int print1525_raw(const void *bytes, size_t length, const print1525_settings *settings, void *buffer,
                                  size_t capacity, print1525_details *details);
 
@@ -385,12 +386,14 @@ enum print1525_input { PRINT1525_SELECT_UPPER = 256, PRINT1525_SELECT_LOWER = 25
 /* Prints what a printer receives: bytes, and between them selections of a character set.
  *
  * Reads: at most 4,294,967,296 inputs; page, printer, sheet, top, paper, scale and characters. An emulator gives
- * PRINT1525_SELECT_UPPER for each LISTEN to the printer, and PRINT1525_SELECT_LOWER directly after it if secondary address 7 follows, as for
- * a file opened by OPEN 4,4,7. Before the first selection the graphic/upper case set is selected.
+ * PRINT1525_SELECT_UPPER for each LISTEN to the printer, and PRINT1525_SELECT_LOWER directly after it if secondary
+ * address 7 follows, as for a file opened by OPEN 4,4,7. Before the first selection the graphic/upper case set is
+ * selected.
  * Gives: the text of the page, as that of printer 4. Of a selection and bytes after it this is what print1525_raw
  * gives for that set and these bytes.
- * Refuses: page with printer, sheet, top, paper and scale (24); characters, by their first bad line (52); inputs above the limit
- * (9); then the first number above 257 (28) with its index, before any memory is taken; and a picture (50, 51). */
+ * Refuses: page with printer, sheet, top, paper and scale (24); characters, by their first bad line (52); inputs above
+ * the limit (9); then the first number above 257 (28) with its index, before any memory is taken; and a picture (50,
+ * 51). */
 PRINT1525_CALL int print1525_print(const uint16_t *inputs, size_t length, const print1525_settings *settings,
                                    void *buffer, size_t capacity, print1525_details *details);
 
@@ -420,10 +423,10 @@ PRINT1525_CALL int print1525_readings(const void *recording, size_t length, cons
  *
  * Reads: a recording, as print1525_readings; page, printer, sheet, top, paper, scale and characters.
  * Gives: the text that `print1525 decode --as text` and the others write, with page as its format.
- * Refuses: recording with inverted (29), page with printer, sheet, top, paper and scale (24), in this order; characters, by
- * their first bad line (52); a recording of more than 4,000,000,000 bytes (9); a picture (50, 51), as print1525_pages,
- * also where the recording has a fault too; and a recording, as print1525_readings, with the pages of what comes before the
- * fault. */
+ * Refuses: recording with inverted (29), page with printer, sheet, top, paper and scale (24), in this order;
+ * characters, by their first bad line (52); a recording of more than 4,000,000,000 bytes (9); a picture (50, 51), as
+ * print1525_pages, also where the recording has a fault too; and a recording, as print1525_readings, with the pages of
+ * what comes before the fault. */
 PRINT1525_CALL int print1525_reprint(const void *recording, size_t length, const print1525_settings *settings,
                                      void *buffer, size_t capacity, print1525_details *details);
 
@@ -864,8 +867,8 @@ void print1525_plain_answer(const uint8_t *words, size_t words_length, uint8_t e
                             size_t characters_length, uint8_t *output, size_t capacity, uint8_t *messages,
                             size_t messages_capacity, print1525_plain_end *end);
 
-/* The names of the files that words name, each with a byte in front and a byte 0 behind, or a byte 0 alone where there is
- * none: that which is read, that which is written, and that of characters. */
+/* The names of the files that words name, each with a byte in front and a byte 0 behind, or a byte 0 alone where there
+ * is none: that which is read, that which is written, and that of characters. */
 void print1525_plain_names(const uint8_t *words, size_t words_length, uint8_t *names, size_t capacity, uint8_t *messages,
                            size_t messages_capacity, print1525_plain_end *end);
 
