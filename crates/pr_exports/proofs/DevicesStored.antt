@@ -104,9 +104,9 @@ pub shown-next : (history : List Edge) (e : Edge) (old new : WireDevice) (s next
     → s ≡ state_by old → new ≡ stored e.time next → IsSound next → HasSeen (e ∷ history) next
     → step.event ≡ event_at (timing_of s).wait (device_of s) history e
     → step.pulls_data ≡ pulls (timing_of s) (busy_until s) (is_pulling s)
-        (standing (timing_of s).wait (device_of s) (e ∷ history)) e.time
+    (standing (timing_of s).wait (device_of s) (e ∷ history)) e.time
     → step.wake ≡ wake (timing_of s) (busy_until s) step.pulls_data
-        (standing (timing_of s).wait (device_of s) (e ∷ history)) e.time
+    (standing (timing_of s).wait (device_of s) (e ∷ history)) e.time
     → is_pulling next ≡ step.pulls_data → device_of next ≡ device_of s → timing_of next ≡ timing_of s
     → busy_until next ≡ busy_until s
     → IsShown history e old new step
