@@ -208,6 +208,11 @@ int OS(clock_gettime)(int clock, int64_t now[2]) {
     now[0] = ticks.QuadPart / rate.QuadPart, now[1] = ticks.QuadPart % rate.QuadPart * 1000000000 / rate.QuadPart;
     return 0;
 }
+/* A folder's name without the slash at its end, of which the run-time library makes no file; that of a drive keeps it. */
+static void trim(wchar_t *wide) {
+    const size_t length = wcslen(wide);
+    if (length > 1 && wide[length - 1] == L'/' && wide[length - 2] != L':') wide[length - 1] = 0;
+}
 int OS(statx)(int fd, const char *path, int flags, unsigned mask, struct known *found) {
     struct __stat64 known;
     wchar_t wide[PATH_SIZE];
@@ -216,6 +221,7 @@ int OS(statx)(int fd, const char *path, int flags, unsigned mask, struct known *
         if (_fstat64(fd, &known)) return fail(errno);
     } else {
         if (!widen(path, wide)) return -1;
+        trim(wide);
         if (_wstat64(wide, &known)) return fail(errno);
     }
     memset(found, 0, sizeof *found);
