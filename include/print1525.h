@@ -127,10 +127,11 @@ enum print1525_fault {
     /* refused: of an edge or a moment of any bus, earlier than the one before it; `place` is 0, since nobody counts
      * them */
     PRINT1525_FAULT_GOES_BACK = 17,
-    /* refused: a number that means no device, character set or timing; `place` is 0 */
+    /* refused: a number that means no device, character set, timing or pixels; `place` is 0 */
     PRINT1525_FAULT_NO_SUCH_DEVICE = 21,
     PRINT1525_FAULT_NO_SUCH_SET = 25,
     PRINT1525_FAULT_NO_SUCH_TIMING = 26,
+    PRINT1525_FAULT_NO_SUCH_PIXELS = 27,
     /* refused: a number that means no input of a printer; `place` is its index, from 0 */
     PRINT1525_FAULT_NO_SUCH_INPUT = 28,
     /* refused: of a recording: a dump or a table; `place` is the line, from 1 */
@@ -395,10 +396,10 @@ typedef struct {
     uint8_t pixels; /* one of enum print1525_pixels */
 } print1525_region;
 
-/* Gives the smallest region that has all pixels of some marks, on the page: what a window shows anew when a byte has
- * made them. Without a mark, and where all of them are beside the page, its width and height are 0.
+/* Gives the smallest region of the page that has the places of some marks: what a window shows anew when a byte has
+ * made them. Without a mark, and where all of them are beside the page, it has no width and height.
  *
- * Reads: marks, in any order; of the region its stride and pixels, which stay as they are.
+ * Reads: marks, in any order. The region's stride and pixels stay as they are.
  * Refuses, with the region as it was: NULL (80). */
 int print1525_printer_changed(const print1525_mark *marks, size_t length, print1525_region *region,
                               print1525_details *details);
@@ -410,7 +411,7 @@ int print1525_printer_changed(const print1525_mark *marks, size_t length, print1
  * With all marks of a page whose lines have ended they are the pixels of its PNG file. Characters are this project's
  * own. Capacity counts the bytes from the region's first pixel on. It takes time for the marks and the pixels.
  * Refuses, with the pixels as they were: NULL (80), OVERLAP (81), a region that needs 2^63 bytes or more (9), and a
- * stride that is smaller than a line, or pixels that mean nothing (82). Too small a capacity fails (91). */
+ * stride that is smaller than a line, or pixels that mean nothing (27). Too small a capacity fails (91). */
 int print1525_printer_page(const print1525_mark *marks, size_t length, const print1525_region *region, void *pixels,
                            size_t capacity, print1525_details *details);
 

@@ -24,6 +24,7 @@ const char *print1525_strerror(int fault) {
     case PRINT1525_FAULT_NO_SUCH_DEVICE: return "no such device";
     case PRINT1525_FAULT_NO_SUCH_SET: return "no such character set";
     case PRINT1525_FAULT_NO_SUCH_TIMING: return "no such timing";
+    case PRINT1525_FAULT_NO_SUCH_PIXELS: return "no such pixels";
     case PRINT1525_FAULT_NO_SUCH_INPUT: return "no such input";
     case PRINT1525_FAULT_NO_ATN: return "no signal ATN";
     case PRINT1525_FAULT_NO_CLOCK: return "no signal CLOCK";
@@ -87,14 +88,16 @@ static const char *counted(int fault) {
 
 /* The names of settings, by their numbers. */
 static const char *setting_name(size_t number) {
-    static const char names[][11] = {"",      "as",     "from",    "present",   "status", "set",     "device", "paper",
-                                     "holes", "top",    "scale",   "bounds",    "intervals", "invert", "listening", "strict",
-                                     "explain", "sheet", "from_time", "rate", "delays", "names", "characters", "reserved"};
+    static const char names[][12] = {
+        "",       "as",    "from",   "present",   "status",    "set",    "device",  "paper", "holes",     "top",  "scale",  "bounds",
+        "intervals", "invert", "listening", "strict", "explain", "sheet", "from_time", "rate", "delays", "names", "characters",
+        "reserved",
+    };
     return number < sizeof names / sizeof *names ? names[number] : "";
 }
 
 size_t print1525_message(const print1525_details *details, char *text, size_t capacity) {
-    text_of_words to = {text, capacity, 0};
+    growing to = {text, capacity, 0};
     /* (read before anything is written: the text may lie over the details) */
     const int status = details != NULL ? details->status : PRINT1525_DONE;
     const int fault = details != NULL ? details->fault : PRINT1525_FAULT_NONE;
