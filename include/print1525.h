@@ -598,6 +598,13 @@ typedef struct {
     uint64_t reserved[4]; /* [23] 0 */
 } print1525_settings;
 
+/* All of them 0. `{0}` is the same in C; this is for C++ too. */
+#ifdef __cplusplus
+#define PRINT1525_SETTINGS_INIT {}
+#else
+#define PRINT1525_SETTINGS_INIT {0}
+#endif
+
 /* `place` of BAD_SETTING. */
 enum print1525_setting {
     PRINT1525_SETTING_AS = 1,
