@@ -7,7 +7,10 @@ use crate::{done, Error};
 #[derive(Clone, Copy, Debug, PartialEq, Eq)]
 pub enum Received {
     /// A data byte while the device listens, and whether it is the last of its sender (end-or-identify).
-    Byte { byte: u8, is_last: bool },
+    Byte {
+        byte: u8,
+        is_last: bool,
+    },
     /// The number of a secondary address directly after LISTEN.
     Select(u8),
     Listen,

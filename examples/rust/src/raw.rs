@@ -441,8 +441,6 @@ pub fn drawn(over: bool, marks: &[Mark], region: &Region, memory: &mut [u8]) -> 
     let mut details = Details::default();
     let call = if over { print1525_printer_draw } else { print1525_printer_page };
     // SAFETY: the slices live as long as the call, which writes within the memory.
-    unsafe {
-        call(marks.as_ptr(), marks.len(), region, memory.as_mut_ptr().cast(), memory.len(), &mut details)
-    };
+    unsafe { call(marks.as_ptr(), marks.len(), region, memory.as_mut_ptr().cast(), memory.len(), &mut details) };
     details
 }

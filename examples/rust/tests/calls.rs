@@ -1,5 +1,5 @@
 //! The package over the library.
-use print1525::{changed, draw, fault, paint, pages, Decoder, Device, Edge, Mark, Pixels, Printer};
+use print1525::{changed, draw, fault, pages, paint, Decoder, Device, Edge, Mark, Pixels, Printer};
 use print1525::{As, Listening, Present, Received, Receiver, Region, Set, Settings, Timing, SHEET};
 
 const HELLO: &[u8] = b"OPEN 4,4\nPRINT#4,\"HI\"\n";
