@@ -437,7 +437,7 @@ static void test_one_by_one(print1525_printer *other, const uint8_t *bytes, size
 static size_t try_bytes(print1525_printer *printer, print1525_mark *marks, size_t room, print1525_details *details, uint8_t *memories[6]) {
     const print1525_printer before = *printer;
     print1525_printer other = before;
-    size_t count, taken = 0, length = 77;
+    size_t count, used = 0, length = 77;
     const uint8_t *const bytes = made_bytes(memories[4], &count);
     uint8_t copy[40];
     if (count) memcpy(copy, bytes, count);
@@ -447,18 +447,18 @@ static size_t try_bytes(print1525_printer *printer, print1525_mark *marks, size_
         if (status != PRINT1525_DONE && (details->fault != PRINT1525_FAULT_TOO_SMALL || !is_same_printer(&before, printer))) is_wrong("printer_byte", "a printer that refuses");
         if (length > PRINT1525_MARKS_OF_A_BYTE) is_wrong("printer_byte", "too many marks");
         if (status != PRINT1525_DONE) return 0;
-        taken = 1;
+        used = 1;
     } else {
-        taken = count;
-        test_details("printer_bytes", print1525_printer_bytes(printer, bytes, &taken, marks, room, &length, details), details, length, room, 0);
-        if (details->status != PRINT1525_DONE || taken > count) is_wrong("printer_bytes", "how many were taken");
-        if (count && room >= PRINT1525_MARKS_OF_A_BYTE && taken == 0) is_wrong("printer_bytes", "no byte is taken");
-        if (taken < count && length + PRINT1525_MARKS_OF_A_BYTE <= room) is_wrong("printer_bytes", "a byte that has room");
+        used = count;
+        test_details("printer_bytes", print1525_printer_bytes(printer, bytes, &used, marks, room, &length, details), details, length, room, 0);
+        if (details->status != PRINT1525_DONE || used > count) is_wrong("printer_bytes", "how many were used");
+        if (count && room >= PRINT1525_MARKS_OF_A_BYTE && used == 0) is_wrong("printer_bytes", "no byte is used");
+        if (used < count && length + PRINT1525_MARKS_OF_A_BYTE <= room) is_wrong("printer_bytes", "a byte that has room");
         if (count && memcmp(copy, bytes, count) != 0) is_wrong("printer_bytes", "the input");
     }
-    if (taken && printer->x > 480) is_wrong("printer_bytes", "the column");
+    if (used && printer->x > 480) is_wrong("printer_bytes", "the column");
     test_marks("printer_bytes", marks, length, before.y, printer->y);
-    test_one_by_one(&other, bytes, taken, marks, length, printer);
+    test_one_by_one(&other, bytes, used, marks, length, printer);
     return length;
 }
 
