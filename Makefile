@@ -108,10 +108,10 @@ $(TESTS): $(SOURCES)
 	@cd $(@D)/.. && rt test > out.log 2>&1 || { cat out.log; exit 1; }; rm -f out.log
 
 # The library for C programs, an archive and a shared library: the archives of two crates, the part of the toolchain's that calls
-# malloc, and the functions of the header.
+# malloc, and the C code of library/.
 lib: $(LIBRARY) $(LIBRARY:.a=.so)
 
-$(LIBRARY) $(LIBRARY:.a=.so) &: $(PARTS) tools/archive $(wildcard include/*.[ch])
+$(LIBRARY) $(LIBRARY:.a=.so) &: $(PARTS) tools/archive tests/c/header.py $(wildcard include/*.h library/*.[ch])
 	@tools/archive $(LIBRARY) $(PART_CRATES)
 
 $(PARTS) &: $(SOURCES) tools/crates.py tools/library
@@ -160,7 +160,7 @@ install: build lib
 $(LLVM_MODULES) &: $(SOURCES) tools/crates.py tools/llvm.py tools/port/modules
 	@tools/port/modules $(LLVM) $(PART_CRATES) print1525
 
-PORT_TOOLS := $(LLVM_MODULES) tools/llvm.py $(wildcard include/*.[ch]) \
+PORT_TOOLS := $(LLVM_MODULES) tools/llvm.py $(wildcard include/*.h library/*.[ch]) \
 	$(filter-out %/exports %/modules %/speed %/speed.c %/trusted.md,$(wildcard tools/port/* tools/port/mac/*))
 
 $(PORT)/universal/made: $(PORT)/arm64-macos/made $(PORT)/x86_64-macos/made

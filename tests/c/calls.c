@@ -20,7 +20,7 @@
  * header says, all memory has to be given back, and a refusal may change nothing; else a line beginning with WRONG is
  * written, and the status is 99. Linked with -Wl,--wrap=malloc,--wrap=realloc,--wrap=free. */
 #define _DEFAULT_SOURCE
-#include "print1525.h"
+#include "options.h"
 #include <stddef.h>
 #include <stdio.h>
 #include <stdlib.h>
@@ -297,32 +297,11 @@ static uint64_t number_at(const void *numbers, field f) {
     return number;
 }
 
-static void put_number(void *numbers, field f, uint64_t number) {
-    uint8_t *const bytes = (uint8_t *)numbers + f.at;
-    size_t index;
-    for (index = 0; index < f.size; index++) bytes[index] = (uint8_t)(number >> 8 * index);
-}
-
 static int are_same(const void *a, const void *b, const field *fields, size_t count) {
     size_t index;
     for (index = 0; index < count; index++)
         if (number_at(a, fields[index]) != number_at(b, fields[index])) return 0;
     return 1;
-}
-
-/* What a number is changed to: near it, and what the numbers of other places, devices and faults are. */
-#define OTHERS 26
-static uint64_t other_number(uint64_t old, size_t index) {
-    static const uint64_t numbers[] = {0, 1, 2, 3, 4, 5, 6, 7, 8, 9, 10, 11, 12, 15, 16, 30, 31, 77, 128, 255};
-    switch (index) {
-    case 20: return old + 1;
-    case 21: return old - 1;
-    case 22: return old + 61;
-    case 23: return old - 251;
-    case 24: return old + 1001;
-    case 25: return UINT64_MAX;
-    default: return numbers[index];
-    }
 }
 
 /* After how many of the edges numbers are changed. */
@@ -792,14 +771,6 @@ static void try_edge_pointers(void) {
     if (!is_answer(told_of(details, length), PRINT1525_REFUSED, PRINT1525_FAULT_NULL_POINTER, 0, 0)) is_wrong("too many edges", 0);
 }
 
-/* The number of a word of an option, or 200. */
-static uint8_t numbered(const char *const *names, const char *word) {
-    size_t index;
-    for (index = 0; names[index] != NULL; index++)
-        if (strcmp(names[index], word) == 0) return (uint8_t)index;
-    return 200;
-}
-
 /* A text that ends where memory ends. */
 static const char *text_at_end(const char *text) {
     const guarded made = guard(strlen(text) + 1);
@@ -818,43 +789,15 @@ static guarded file_of(const char *name) {
 
 /* The settings that the program's options say. */
 static void set(job *j, int words, char **word) {
-    static const char *const as[] = {"", "list", "text", "frames", "story", "json", "vcd", "svg", "png", "pdf", "bytes", NULL};
-    static const char *const from[] = {"", "auto", "text", "prg", "petcat", "magazine", "vcd", "csv", NULL}, *const present[] = {"both", "4", "5", "none", NULL};
-    static const char *const status[] = {"each", "kept", NULL}, *const sets[] = {"upper", "lower", NULL}, *const paper[] = {"continuous", "a4", "letter", NULL};
-    static const char *const bounds[] = {"profile", "guide", NULL}, *const listening[] = {"", "4", "5", "4,5", NULL};
-    print1525_settings *const s = &j->settings;
-    int at;
-    for (at = 2; at < words; at++) {
-        const char *const name = word[at], *value;
-        if (strcmp(name, "--holes") == 0) s->holes = 1;
-        else if (strcmp(name, "--intervals") == 0) s->intervals = 1;
-        else if (strcmp(name, "--invert") == 0) s->invert = 1;
-        else if (strcmp(name, "--strict") == 0) s->strict = 1;
-        else if (strcmp(name, "--explain") == 0) s->explain = 1;
-        else if (at + 1 == words) exit(97);
-        else {
-            value = word[++at];
-            if (strcmp(name, "--as") == 0) s->as = numbered(as, value);
-            else if (strcmp(name, "--from") == 0) s->from = numbered(from, value);
-            else if (strcmp(name, "--present") == 0) s->present = numbered(present, value);
-            else if (strcmp(name, "--status") == 0) s->status = numbered(status, value);
-            else if (strcmp(name, "--set") == 0) s->set = numbered(sets, value);
-            else if (strcmp(name, "--paper") == 0) s->paper = numbered(paper, value);
-            else if (strcmp(name, "--bounds") == 0) s->bounds = numbered(bounds, value);
-            else if (strcmp(name, "--listening") == 0) s->listening = numbered(listening, value);
-            else if (strcmp(name, "--device") == 0) s->device = (uint8_t)atoi(value);
-            else if (strcmp(name, "--top") == 0) s->top = (uint8_t)(strcmp(value, "0") == 0 ? PRINT1525_TOP_EDGE : atoi(value));
-            else if (strcmp(name, "--scale") == 0) s->scale = (uint8_t)atoi(value);
-            else if (strcmp(name, "--sheet") == 0) s->sheet = strtoul(value, NULL, 10);
-            else if (strcmp(name, "--from-time") == 0) s->from_time = strtoul(value, NULL, 10);
-            else if (strcmp(name, "--rate") == 0) s->rate = strtoul(value, NULL, 10);
-            else if (strcmp(name, "--delays") == 0) s->delays = text_at_end(value);
-            else if (strcmp(name, "--names") == 0) s->names = text_at_end(value);
-            else if (strcmp(name, "--characters") == 0) {
-                const guarded file = file_of(value);
-                s->characters = file.bytes;
-                s->characters_length = file.size;
-            } else exit(97);
+    int at, count;
+    for (at = 2; at < words; at += count) {
+        const char *const value = at + 1 < words ? text_at_end(word[at + 1]) : NULL;
+        count = value != NULL && strcmp(word[at], "--characters") == 0 ? 2 : set_option(&j->settings, word[at], value);
+        if (count == 0) exit(97);
+        if (value != NULL && strcmp(word[at], "--characters") == 0) {
+            const guarded file = file_of(value);
+            j->settings.characters = file.bytes;
+            j->settings.characters_length = file.size;
         }
     }
 }
