@@ -1,4 +1,4 @@
-"""The program's words, over standard input: python3 -m print1525 pages --as svg < SCRIPT. It reads and writes no other file."""
+"""The program's words, over standard input: python3 -m print1525 pages --as svg < SCRIPT."""
 
 import sys
 

@@ -1,9 +1,9 @@
-"""The serial bus: devices that answer, and what any bus says, edge by edge. Times are microseconds; a level is 0 for pulled and
-anything else for released. An object serves one thread at a time."""
+"""The serial bus: devices that answer, and what any bus says, edge by edge. Times are microseconds; a level is 0 for
+pulled and anything else for released. An object serves one thread at a time."""
 
 from __future__ import annotations
 
-from ctypes import byref
+from ctypes import byref, c_uint64
 from typing import Any, Iterable, Iterator, Literal, NamedTuple, Optional, get_args
 
 from . import _library
@@ -17,8 +17,8 @@ _NO_WAKE = 2**64 - 1
 
 
 class Received(NamedTuple):
-    """What comes to a device; the byte or the number of the secondary address, else 0; and whether the byte is the last of its
-    sender (end-or-identify)."""
+    """What comes to a device; the byte or the number of the secondary address, else 0; and whether the byte is the last
+    of its sender (end-or-identify)."""
 
     kind: Heard
     byte: int
@@ -37,8 +37,8 @@ class Timing(NamedTuple):
 
 
 class Step(NamedTuple):
-    """Whether a device pulls DATA from a moment on; when it wants to be shown the lines again if none changes before, or None;
-    and what it hears."""
+    """Whether a device pulls DATA from a moment on; when it wants to be shown the lines again if none changes before,
+    or None; and what it hears."""
 
     pulls_data: bool
     wake: Optional[int]
@@ -74,8 +74,8 @@ def _reading(made: _library.Reading) -> Optional[Reading]:
     if not made.kind:
         return None
     it = made.byte
-    times = (it.look, it.ready, it.answered, it.answer_ended, it.pull, it.shortest_low, it.longest_low, it.shortest_high, it.longest_high)
-    return Reading(_KINDS[made.kind - 1], it.byte, bool(it.command), bool(it.eoi), it.bits, *times, it.last_pull, made.end)
+    times = [getattr(it, name) for name, kind in it._fields_ if kind is c_uint64]
+    return Reading(_KINDS[made.kind - 1], it.byte, bool(it.command), bool(it.eoi), it.bits, *times, made.end)
 
 
 class _Kept:
@@ -121,8 +121,8 @@ class Device(_Edges):
         called("device_begin", byref(self._kept), fitting(address, 8, "an address"), byref(delays))
 
     def step(self, now: int, atn: int, clock: int, data: int) -> Step:
-        """Shows the device the lines at a moment: whenever one changes, and at each `wake`. DATA is pulled as long as anybody
-        pulls it, this device too."""
+        """Shows the device the lines at a moment: whenever one changes, and at each `wake`. DATA is pulled as long as
+        anybody pulls it, this device too."""
         made = self._show(_library.LIBRARY.device_step, now, (atn, clock, data), self._made)
         return Step(bool(made.pulls_data), None if made.wake == _NO_WAKE else made.wake, _received(made.heard))
 

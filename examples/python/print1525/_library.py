@@ -5,12 +5,13 @@ from __future__ import annotations
 import ctypes
 import os
 import sys
-from ctypes import POINTER, Structure, byref, c_char_p, c_int, c_int32, c_size_t, c_uint8, c_uint16, c_uint64, c_void_p
+from ctypes import POINTER, Structure, byref, c_char_p, c_int, c_int32, c_size_t, c_uint8, c_uint16, c_uint64
+from ctypes import c_void_p
 from typing import Any, Optional
 
 from ._faults import Fault
 
-# The first number of the library's version, which is in the names of its files; each later one may serve other programs.
+# The first number of the library's version, which is in the names of its files.
 MAJOR = 1
 FILES = {"win32": "print1525.dll", "darwin": f"libprint1525.{MAJOR}.dylib"}
 # A number that no named value has: the library refuses it.
@@ -23,7 +24,8 @@ class Details(Structure):
 
 class Settings(Structure):
     _fields_ = [(it, c_uint8) for it in ("as", "from", "present", "status", "set", "device", "paper", "holes")]
-    _fields_ += [(it, c_uint8) for it in ("top", "scale", "bounds", "intervals", "invert", "listening", "strict", "explain")]
+    _fields_ += [(it, c_uint8) for it in ("top", "scale", "bounds", "intervals", "invert", "listening", "strict")]
+    _fields_ += [("explain", c_uint8)]
     _fields_ += [(it, c_uint64) for it in ("sheet", "from_time", "rate")]
     _fields_ += [("delays", c_char_p), ("names", c_char_p), ("characters", c_char_p), ("characters_length", c_size_t)]
     _fields_ += [("reserved", c_uint64 * 4)]
@@ -74,7 +76,8 @@ class Mark(Structure):
 
 class Printer(Structure):
     _fields_ = [("y", c_uint64), ("x", c_uint16)]
-    _fields_ += [(it, c_uint8) for it in ("graphic", "wide", "reverse", "override_set", "lower", "pending", "parameter")]
+    _fields_ += [(it, c_uint8) for it in ("graphic", "wide", "reverse", "override_set", "lower", "pending")]
+    _fields_ += [("parameter", c_uint8)]
 
 
 class Region(Structure):
@@ -85,7 +88,7 @@ class Region(Structure):
 _GIVEN = [c_void_p, c_size_t, POINTER(Settings)]
 _MADE = [c_void_p, c_size_t, POINTER(c_size_t), POINTER(Details)]
 _SHOWN = [c_void_p, c_size_t, POINTER(Region)]
-# What each call takes; all but the last four return a status.
+# What each call takes; those return a status that RESULTS has not.
 CALLS: dict[str, list[Any]] = {
     "answer": [POINTER(c_char_p), c_void_p, c_size_t, *_MADE],
     **{it: [*_GIVEN, *_MADE] for it in ("pages", "bus", "check", "decode", "raw", "print", "listing", "edges")},
@@ -99,7 +102,7 @@ CALLS: dict[str, list[Any]] = {
     "receiver_edge": [POINTER(Receiver), POINTER(Edge), POINTER(Received), POINTER(Details)],
     "printer_begin": [POINTER(Printer), POINTER(Details)],
     "printer_select": [POINTER(Printer), c_uint8, POINTER(Details)],
-    "printer_bytes": [POINTER(Printer), c_void_p, POINTER(c_size_t), c_void_p, c_size_t, POINTER(c_size_t), POINTER(Details)],
+    "printer_bytes": [POINTER(Printer), c_void_p, POINTER(c_size_t), *_MADE],
     "printer_form_feed": [POINTER(Printer), POINTER(Details)],
     "printer_tear_off": [POINTER(Printer), POINTER(c_uint64), POINTER(Details)],
     "printer_changed": [*_SHOWN, POINTER(Details)],
@@ -112,7 +115,7 @@ RESULTS = {"message": c_size_t, "version": c_char_p}
 
 
 def place() -> str:
-    """Where the library is: what PRINT1525_LIBRARY says, beside the package or in its folder, or where the system looks."""
+    """Where the library is: as PRINT1525_LIBRARY says, in the package or beside it, or where the system looks."""
     given, name = os.environ.get("PRINT1525_LIBRARY"), FILES.get(sys.platform, f"libprint1525.so.{MAJOR}")
     here = os.path.dirname(os.path.abspath(__file__))
     beside = [os.path.join(it, name) for it in (here, os.path.dirname(here))]
@@ -152,9 +155,9 @@ def message(details: Details) -> str:
 class Refused(Exception):
     """Why a call refuses, in the library's words, as `line 3: unknown word`.
 
-    `fault` is one of Fault; `place` is the line, edge, input or setting that it names, else 0; `column` is that of a line,
-    else 0. `text` is what comes before the fault of a recording, or with explain=True the explanation; `edges` are
-    those before the fault, of `print1525.edges`."""
+    `fault` is one of Fault; `place` is the line, edge, input or setting that it names, else 0; `column` is that of a
+    line, else 0. `text` is what comes before the fault of a recording, or with explain=True the explanation; `edges`
+    are those before the fault, of `print1525.edges`."""
 
     def __init__(self, details: Details, text: bytes = b"", edges: Optional[list[Any]] = None):
         super().__init__(message(details))

@@ -20,8 +20,8 @@ _MARKS = 1024
 
 
 class Mark(NamedTuple):
-    """A mark on the paper: its row's distance from the top in 1/126 inch, the dot column at which it begins in 1/60 inch; its
-    kind, CELL or DOTS; a cell's code, or the dots of a column, bit 0 at the top; and how a cell looks."""
+    """A mark on the paper: its row's distance from the top in 1/126 inch, the dot column at which it begins in 1/60
+    inch; its kind, CELL or DOTS; a cell's code, or the dots of a column, bit 0 at the top; and how a cell looks."""
 
     y: int
     x: int
@@ -33,9 +33,10 @@ class Mark(NamedTuple):
 
 
 class Region(NamedTuple):
-    """A region of the paper in pixels, 120 to the inch across and 126 down, so that a dot is two by two; the paper is 960 columns
-    wide. In memory a line begins `stride` bytes after the one before it (0: with no byte between them), and a pixel is a byte
-    ("gray", 0 where a dot is, else 255), four bytes ("rgba") or a bit ("bits", 1 where a dot is, the highest bit first)."""
+    """A region of the paper in pixels, 120 to the inch across and 126 down, so that a dot is two by two; the paper is
+    960 columns wide. In memory a line begins `stride` bytes after the one before it (0: with no byte between them),
+    and a pixel is a byte ("gray", 0 where a dot is, else 255), four bytes ("rgba") or a bit ("bits", 1 where a dot is,
+    the highest bit first)."""
 
     x: int
     y: int
@@ -61,7 +62,7 @@ def _region(region: Region) -> _library.Region:
 
 
 class Printer(_Kept):
-    """A printer that is watched; or the one whose state was kept. It keeps no marks: keep those that are to be drawn again."""
+    """A printer that is watched; or the one whose state was kept. It keeps no marks: keep those to be drawn again."""
 
     def __init__(self, *, state: Optional[bytes] = None):
         self._kept = _library.Printer()
@@ -81,8 +82,8 @@ class Printer(_Kept):
         return self._kept.y
 
     def select(self, set: Set = "upper") -> None:
-        """Selects a character set: the graphic/upper case one with each LISTEN, the lower/upper case one with secondary address 7
-        directly after it."""
+        """Selects a character set: the graphic/upper case one with each LISTEN, the lower/upper case one with secondary
+        address 7 directly after it."""
         called("printer_select", byref(self._kept), numbered(set, get_args(Set)))
 
     def print(self, data: Union[bytes, bytearray, memoryview]) -> list[Mark]:
@@ -100,15 +101,15 @@ class Printer(_Kept):
         called("printer_form_feed", byref(self._kept))
 
     def tear_off(self) -> int:
-        """Tears off the sheets above the line, and gives how many they are: the `y` of the printer is smaller by SHEET for each,
-        and so should be that of each mark that was kept of the rest."""
+        """Tears off the sheets above the line, and gives how many they are: the `y` of the printer is smaller by SHEET
+        for each, and so should be that of each mark that was kept of the rest."""
         sheets = c_uint64()
         called("printer_tear_off", byref(self._kept), byref(sheets))
         return sheets.value
 
 
 def changed(marks: Sequence[Mark], stride: int = 0, pixels: Pixels = "gray") -> Region:
-    """The smallest region that has all pixels of some marks: what a window shows anew. Without a mark it has no width."""
+    """The smallest region that has all pixels of some marks: what a window shows anew. Of no mark it has no width."""
     made = _region(Region(0, 0, 0, 0, stride, pixels))
     called("printer_changed", _marks(marks), len(marks), byref(made))
     return Region(made.x, made.y, made.width, made.height, stride, pixels)
@@ -122,8 +123,9 @@ def pixels_of(marks: Sequence[Mark], region: Region) -> bytearray:
 
 
 def draw(marks: Sequence[Mark], region: Region, memory: Any) -> None:
-    """Draws marks over the pixels of a region: where a dot is they become black, all others stay as they were. The memory is a
-    bytearray, or whatever else has writable bytes without gaps; it begins with the region's first pixel."""
+    """Draws marks over the pixels of a region: where a dot is they become black, all others stay as they were. The
+    memory is a bytearray, or whatever else has writable bytes without gaps; it begins with the region's first
+    pixel."""
     _drawn("printer_draw", marks, region, memory)
 
 

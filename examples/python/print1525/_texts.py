@@ -24,8 +24,10 @@ Set = Literal["upper", "lower"]
 Paper = Literal["continuous", "a4", "letter"]
 Bounds = Literal["profile", "guide"]
 Listening = Literal["none", "4", "5", "both"]
-_NAMED = {"as": As, "from": From, "present": Present, "status": Status, "set": Set, "paper": Paper, "bounds": Bounds, "listening": Listening}
-_BITS = {**dict.fromkeys(("device", "scale", "holes", "intervals", "invert", "strict", "explain"), 8), "sheet": 64, "from_time": 64, "rate": 64}
+_NAMED = {"as": As, "from": From, "present": Present, "status": Status, "set": Set, "paper": Paper, "bounds": Bounds}
+_NAMED["listening"] = Listening
+_BITS = dict.fromkeys(("device", "scale", "holes", "intervals", "invert", "strict", "explain"), 8)
+_BITS |= dict.fromkeys(("sheet", "from_time", "rate"), 64)
 # `top` of paper whose first row is at its upper edge.
 _TOP_EDGE = 255
 
@@ -60,8 +62,8 @@ class Settings(TypedDict, total=False):
 
 
 class Answer(NamedTuple):
-    """What a call gives: its text; status 0, or 1 where a BASIC error stopped the run, or with `strict` something was left
-    out; and of that error its words, its number (one of Fault) and the statement that it stopped."""
+    """What a call gives: its text; status 0, or 1 where a BASIC error stopped the run, or with `strict` something was
+    left out; and of that error its words, its number (one of Fault) and the statement that it stopped."""
 
     text: bytes
     status: int = 0
@@ -126,8 +128,9 @@ def _text(call: Any, *given: Any) -> Answer:
 
 
 def answer(words: Sequence[Union[str, bytes]], data: Data = b"") -> Answer:
-    """What the program print1525 does with the words of a command line, as ["pages", "--as", "svg"], over an input. No file is
-    read or written: the word after --characters is the text of such a file. With --explain the text is what the program says."""
+    """What the program print1525 does with the words of a command line, as ["pages", "--as", "svg"], over an input. No
+    file is read or written: the word after --characters is the text of such a file. With --explain the text is what the
+    program says."""
     given, data = [_words(it) for it in words], _bytes(data)
     return _text(LIBRARY.answer, (c_char_p * (len(given) + 1))(*given), data, len(data))
 
@@ -168,8 +171,8 @@ def listing(program: Data, **settings: Unpack[Settings]) -> Answer:
 
 
 def print_inputs(inputs: Sequence[int], **settings: Unpack[Settings]) -> Answer:
-    """The page of what a printer receives: bytes, and between them SELECT_UPPER (for each LISTEN) and SELECT_LOWER (for secondary
-    address 7 directly after it)."""
+    """The page of what a printer receives: bytes, and between them SELECT_UPPER (for each LISTEN) and SELECT_LOWER (for
+    secondary address 7 directly after it)."""
     given = (c_uint16 * len(inputs))(*(fitting(it, 16, "an input") for it in inputs))
     return _text(LIBRARY.print, given, len(inputs), byref(_settings(settings)))
 

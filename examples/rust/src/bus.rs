@@ -66,8 +66,8 @@ impl Device {
         self.kept
     }
 
-    /// Shows the device the lines at a moment: whenever one changes, and at each wake. DATA is pulled as long as anybody
-    /// pulls it, this device too.
+    /// Shows the device the lines at a moment: whenever one changes, and at each wake. DATA is pulled as long as
+    /// anybody pulls it, this device too.
     pub fn step(&mut self, lines: Edge) -> Result<Step, Error> {
         let mut made = raw::Step::default();
         let details = raw::device_step(&mut self.kept, &lines, &mut made);

@@ -1,4 +1,4 @@
-//! The numbers of faults, which tools/faults makes of include/faults.txt. `STOP_..` are the BASIC errors that stop a run.
+//! The numbers of faults, which tools/faults makes of include/faults.txt; `STOP_..` are BASIC errors that stop a run.
 
 pub const UNKNOWN_WORD: i32 = 1;
 pub const BAD_NUMBER: i32 = 2;

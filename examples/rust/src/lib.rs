@@ -4,10 +4,10 @@
 //!     let picture = print1525::pages(b"OPEN 4,4\nPRINT#4,\"HELLO\"\n", &settings)?.text;
 //!     # Ok::<(), print1525::Error>(())
 //!
-//! [`pages`], [`bus()`], [`check`], [`decode`], [`raw()`], [`listing`] and [`print_inputs`] give an [`Answer`]: a text as
-//! bytes. [`Settings`] are the program's options, and [`answer`] takes the words of its command line. [`edges`] gives the
-//! edges of a recording; a [`Decoder`] and a [`Receiver`] say what edges mean. A [`Device`] is on a bus of yours and
-//! answers. A [`Printer`] gives the marks of each byte; [`draw`] and [`paint`] draw them.
+//! [`pages`], [`bus()`], [`check`], [`decode`], [`raw()`], [`listing`] and [`print_inputs`] give an [`Answer`]: a text
+//! as bytes. [`Settings`] are the program's options, and [`answer`] takes the words of its command line. [`edges`]
+//! gives the edges of a recording; a [`Decoder`] and a [`Receiver`] say what edges mean. A [`Device`] is on a bus of
+//! yours and answers. A [`Printer`] gives the marks of each byte; [`draw`] and [`paint`] draw them.
 //!
 //! Where a call refuses, it gives an [`Error`] with the library's words.
 #![deny(unsafe_code)]

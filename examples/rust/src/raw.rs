@@ -1,4 +1,4 @@
-//! The C library: its structures and its calls. All that is `unsafe` in this package is here; every function is safe to call.
+//! The C library: its structures and its calls. All that is `unsafe` in this package is here; every function is safe.
 #![allow(unsafe_code)]
 
 use std::ffi::{CStr, CString};
@@ -270,6 +270,8 @@ extern "C" {
     ) -> c_int;
 }
 
+pub type OfBytes = Call<*const c_void>;
+
 /// Settings as C has them, with the texts that they point at.
 pub struct Chosen<'a> {
     settings: Settings,
@@ -277,7 +279,8 @@ pub struct Chosen<'a> {
     _characters: PhantomData<&'a [u8]>,
 }
 
-/// A text for C. One with a zero byte in it is none, and in its place is one that no setting has: the library refuses it.
+/// A text for C. One with a zero byte in it is none: in its place is one that no setting has, which the library
+/// refuses.
 fn text_for_c(text: &str) -> Option<CString> {
     let given = CString::new(text).or_else(|_| CString::new("\u{1}")).ok();
     given.filter(|it| !it.as_bytes().is_empty())
@@ -301,9 +304,9 @@ impl<'a> Chosen<'a> {
 }
 
 /// Makes a call for a text: how long it is, or has to be, and what the call reports.
-pub fn text_of_bytes(call: Call<*const c_void>, given: &[u8], chosen: &Chosen, to: &mut [u8]) -> (usize, Details) {
+pub fn text_of_bytes(call: OfBytes, given: &[u8], chosen: &Chosen, to: &mut [u8]) -> (usize, Details) {
     let (mut length, mut details) = (0, Details::default());
-    // SAFETY: slices, settings and what these point at live as long as the call, which writes no more than there is room.
+    // SAFETY: slices, settings and what these point at live as long as the call, which writes within the room.
     unsafe {
         (call.0)(
             given.as_ptr().cast(),

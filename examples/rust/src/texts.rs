@@ -160,8 +160,8 @@ impl<'a> Settings<'a> {
     }
 }
 
-/// A text, and the BASIC error that stopped the run, if one did. The status is 1 then, and where with `strict` something
-/// of a recording was left out; else 0.
+/// A text, and the BASIC error that stopped the run, if one did. The status is 1 then, and where with `strict`
+/// something of a recording was left out; else 0.
 #[derive(Clone, Debug, Default, PartialEq, Eq)]
 pub struct Answer {
     pub text: Vec<u8>,
@@ -195,14 +195,14 @@ fn answered((text, details): (Vec<u8>, Details)) -> Result<Answer, Error> {
     }
 }
 
-fn of_bytes(call: raw::Call<*const std::os::raw::c_void>, given: &[u8], settings: &Settings) -> Result<Answer, Error> {
+fn of_bytes(call: raw::OfBytes, given: &[u8], settings: &Settings) -> Result<Answer, Error> {
     let chosen = settings.chosen();
     answered(filled(|to| raw::text_of_bytes(call, given, &chosen, to)))
 }
 
-/// What the program print1525 does with the words of a command line, as `["pages", "--as", "svg"]`, over an input. No file
-/// is read or written: the word after `--characters` is the text of such a file. With `--explain` the text is what the
-/// program says. (A word with a zero byte is on no command line: then no word is given.)
+/// What the program print1525 does with the words of a command line, as `["pages", "--as", "svg"]`, over an input. No
+/// file is read or written: the word after `--characters` is the text of such a file. With `--explain` the text is what
+/// the program says. (A word with a zero byte is on no command line: then no word is given.)
 pub fn answer(words: &[&str], input: &[u8]) -> Result<Answer, Error> {
     let words: Result<Vec<CString>, _> = words.iter().map(|&it| CString::new(it)).collect();
     let words = words.unwrap_or_default();
