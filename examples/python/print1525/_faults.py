@@ -25,6 +25,7 @@ class Fault(enum.IntEnum):
     NO_SUCH_DEVICE = 21
     NO_SUCH_SET = 25
     NO_SUCH_TIMING = 26
+    NO_SUCH_PIXELS = 27
     NO_SUCH_INPUT = 28
     NO_ATN = 31
     NO_CLOCK = 32

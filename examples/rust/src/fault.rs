@@ -19,6 +19,7 @@ pub const GOES_BACK: i32 = 17;
 pub const NO_SUCH_DEVICE: i32 = 21;
 pub const NO_SUCH_SET: i32 = 25;
 pub const NO_SUCH_TIMING: i32 = 26;
+pub const NO_SUCH_PIXELS: i32 = 27;
 pub const NO_SUCH_INPUT: i32 = 28;
 pub const NO_ATN: i32 = 31;
 pub const NO_CLOCK: i32 = 32;
