@@ -473,7 +473,7 @@ static void try_settings(void) {
     for (name = 0; name < 6; name++) {
         static const size_t most[] = {16777216, 16777216, (size_t)1 << 40, (size_t)1 << 40, 4294967295u, (size_t)1 << 32};
         j.settings = defaults;
-        j.input = (const uint8_t *)guard(0).bytes;
+        j.input = buffer.bytes + buffer.size; /* (nothing is there) */
         j.numbers = (const uint16_t *)(const void *)j.input;
         j.length = j.count = most[name] + 1;
         if (!is_answer(any_call(&j, name, buffer), PRINT1525_REFUSED, PRINT1525_FAULT_TOO_LARGE, 0, 0) || !is_untouched(buffer.bytes, buffer.size)) is_wrong("an input that is too large, call", name);
