@@ -497,7 +497,8 @@ static void try_pixels(const print1525_mark *marks, size_t length, print1525_det
     if (status != drawn_status || memcmp(details, &drawn_details, sizeof drawn_details) != 0) is_wrong("printer_draw", "another answer");
     if (status == PRINT1525_REFUSED && details->fault != PRINT1525_FAULT_TOO_LARGE && details->fault != PRINT1525_FAULT_NO_SUCH_PIXELS) is_wrong("printer_page", "the fault");
     if (status == PRINT1525_FAILED && size > 0 && region->pixels == kind && size <= room && region->width < 64) is_wrong("printer_page", "there is room");
-    size = status == PRINT1525_DONE && region->width < 64 && region->height < 64 ? size : 0;
+    if (status == PRINT1525_DONE && (region->width >= 64 || region->height >= 64)) return;
+    size = status == PRINT1525_DONE ? size : 0;
     if (!is_untouched(memories[1], ROOM - room) || !is_untouched(pixels + size, room - size)) is_wrong("printer_page", "the buffer");
     if (region->stride == 0 && kind != PRINT1525_BITS)
         for (index = 0; index < room; index++)
