@@ -163,14 +163,25 @@ static void option_number(growing *to, const char *name, uint64_t value) {
     add_number(to, value);
 }
 
+static const char *command_of(unsigned call) {
+    switch (call) {
+    case PAGES: return "pages";
+    case BUS: return "bus";
+    case CHECK: return "check";
+    case DECODE: return "decode";
+    default: return "raw";
+    }
+}
+
 /* Adds the words of a command line that say the settings of a call. */
 static void words_of(growing *to, unsigned call, const print1525_settings *s) {
-    static const char formats[][7] = {"", "list", "text", "frames", "story", "json", "vcd", "svg", "png", "pdf", "bytes"};
+    static const char formats[][7] = {"",    "list", "text", "frames", "story", "json",
+                                      "vcd", "svg",  "png",  "pdf",    "bytes"};
     static const char forms[][9] = {"", "auto", "text", "prg", "petcat", "magazine", "vcd", "csv"};
     static const char printers[][5] = {"", "4", "5", "none"}, papers[][7] = {"", "a4", "letter"};
     static const char listening[][4] = {"", "4", "5", "4,5"};
     word(to, "print1525");
-    word(to, call == PAGES ? "pages" : call == BUS ? "bus" : call == CHECK ? "check" : call == DECODE ? "decode" : "raw");
+    word(to, command_of(call));
     if (s->as) option(to, "--as", formats[s->as]);
     if (s->from) option(to, "--from", forms[s->from]);
     if (s->present) option(to, "--present", printers[s->present]);
@@ -344,8 +355,8 @@ int print1525_answer(const char *const *words, const void *input, size_t input_l
     return status;
 }
 
-/* Reports what a proved call with numbers answered, with its length; after a fault of the recording, how much comes before
- * it. */
+/* Reports what a proved call with numbers answered, with its length; after a fault of the recording, how much comes
+ * before it. */
 static int report_length(size_t *length, print1525_details *details, print1525_plain_numbers answer, size_t unit) {
     const int is_column = answer.code == 2 && (answer.fault == PRINT1525_FAULT_UNKNOWN_NAME ||
                                                answer.fault == PRINT1525_FAULT_BAD_CHARACTER);
@@ -421,9 +432,9 @@ int print1525_edges(const void *recording, size_t recording_length, const print1
     if (s->from == PRINT1525_FROM_TEXT) source = 0;
     if (s->from == PRINT1525_FROM_VCD) source = 1;
     if (s->from == PRINT1525_FROM_CSV) source = 2;
+    /* (No buffer has more edges than fit into memory.) */
     print1525_plain_edges((const uint8_t *)t.input, recording_length, source, atn, a, clock, c, data, d, s->invert,
-                          s->from_time, s->rate, (uint64_t *)t.buffer, capacity > SIZE_MAX / 2 ? SIZE_MAX : 2 * capacity,
-                          &answer);
+                          s->from_time, s->rate, (uint64_t *)t.buffer, 2 * capacity, &answer);
     count = answer.code == 0 || answer.code == 2 ? answer.length / 2 : 0;
     /* Each edge holds two numbers here: its time, and its three levels in one number, where its first level goes. */
     for (index = 0; index < count; index++) {
