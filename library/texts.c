@@ -206,22 +206,41 @@ static void words_of(growing *to, unsigned call, const print1525_settings *s) {
     if (s->characters_length > 0) option(to, "--characters", "given");
 }
 
-/* Does what the program does with these words. Where it explains, what it says on standard error is the text. */
-static int ask(const growing *words, int explains, const task *t, size_t *length, print1525_details *details) {
+/* Does what the program does with these words: what it writes goes into the first buffer, or what it says into the
+ * second. */
+static print1525_plain_end run(const growing *words, const task *t, void *output, size_t capacity, void *said,
+                               size_t said_capacity) {
     /* (No file of characters of more bytes is good, and its first bad line is in front of them.) */
     const size_t most = 65536, shapes = t->settings.characters_length;
-    uint8_t nothing[1], *const buffer = (uint8_t *)t->buffer;
+    uint8_t nothing[1];
     print1525_plain_end end;
-    size_t made;
-    print1525_plain_answer((const uint8_t *)words->text, words->length, (uint8_t)explains,
-                           explains ? PRINT1525_DONE : PRINT1525_REFUSED, (const uint8_t *)t->input, t->length,
-                           (const uint8_t *)t->characters, shapes < most ? shapes : most, explains ? nothing : buffer,
-                           explains ? 0 : t->capacity, explains ? buffer : nothing, explains ? t->capacity : 0, &end);
-    made = explains ? end.messages : end.output;
+    print1525_plain_answer((const uint8_t *)words->text, words->length, 0,
+                           output == NULL ? PRINT1525_DONE : PRINT1525_REFUSED, (const uint8_t *)t->input, t->length,
+                           (const uint8_t *)t->characters, shapes < most ? shapes : most,
+                           output == NULL ? nothing : (uint8_t *)output, capacity,
+                           said == NULL ? nothing : (uint8_t *)said, said_capacity, &end);
+    return end;
+}
+
+/* Gives what the program writes for these words; where it explains, what it says on standard error. */
+static int ask(const growing *words, int explains, const task *t, size_t *length, print1525_details *details) {
+    print1525_plain_end end = run(words, t, explains ? NULL : t->buffer, explains ? 0 : t->capacity, NULL, 0);
+    size_t made = explains ? end.messages : end.output;
+    if (explains && end.status != PRINT1525_FAILED && made > 0 && made <= t->capacity) {
+        /* (It says something also where it has no memory, which is no explanation: the buffer stays as it was then.) */
+        uint8_t *const said = (uint8_t *)malloc(made);
+        end.status = PRINT1525_FAILED;
+        end.messages = 0;
+        if (said != NULL) end = run(words, t, NULL, 0, said, made);
+        if (said != NULL && end.status != PRINT1525_FAILED && end.messages <= made) memcpy(t->buffer, said, end.messages);
+        made = end.messages;
+        free(said);
+    }
     if (explains && end.status == 4) end.status = PRINT1525_DONE;
     if (end.status == PRINT1525_FAILED) made = 0;
     tell_length(length, made);
-    if (end.status == 4 || (end.status != PRINT1525_FAILED && made > t->capacity))
+    if (end.status == PRINT1525_FAILED) return tell(details, PRINT1525_FAILED, PRINT1525_FAULT_NO_MEMORY, 0, 0);
+    if (end.status == 4 || made > t->capacity)
         return tell(details, PRINT1525_FAILED, PRINT1525_FAULT_TOO_SMALL, 0, 0);
     return tell(details, (int)end.status, (int)end.fault, end.place, end.column);
 }
