@@ -232,7 +232,8 @@ static int ask(const growing *words, int explains, const task *t, size_t *length
         end.status = PRINT1525_FAILED;
         end.messages = 0;
         if (said != NULL) end = run(words, t, NULL, 0, said, made);
-        if (said != NULL && end.status != PRINT1525_FAILED && end.messages <= made) memcpy(t->buffer, said, end.messages);
+        if (said != NULL && end.status != PRINT1525_FAILED && end.messages <= made)
+            memcpy(t->buffer, said, end.messages);
         made = end.messages;
         free(said);
     }
