@@ -585,8 +585,8 @@ typedef struct {
     uint8_t listening;  /* [14] --listening: enum print1525_listening (decode with pages and BYTES) */
     uint8_t strict;     /* [15] --strict: 1: status 1 where pages or bytes leave out something (decode with them) */
     uint8_t explain;    /* [16] --explain: 1: the text is what the program says with --explain, on standard error, in
-                         * place of what it writes: why the input is refused or the run stopped, and notes (pages, bus,
-                         * check, decode, raw) */
+                         * place of what it writes: why the input is refused or the run stopped, and notes; where
+                         * memory is refused it may say less (pages, bus, check, decode, raw) */
     uint64_t sheet;     /* [17] --sheet: this sheet alone, from 1; 0: all (SVG, PNG) */
     uint64_t from_time; /* [18] --from-time: the microsecond at which a dump or a table starts (check, decode, edges) */
     uint64_t rate;      /* [19] --rate: samples in a second, of a table without times; 0: it says it (the same) */

@@ -250,9 +250,10 @@ inline print1525_region changed(const std::vector<print1525_mark> &marks) {
 inline std::vector<std::uint8_t> pixels(const std::vector<print1525_mark> &marks, print1525_region region) {
     print1525_details details{};
     region.stride = region.pixels = 0;
-    std::vector<std::uint8_t> made(region.width < 1 << 24 && region.height < 1 << 24 ? region.width * region.height : 0);
-    if (print1525_printer_page(marks.data(), marks.size(), &region, made.data(), made.size(), &details) != PRINT1525_DONE)
-        throw error(details);
+    const bool is_large = region.width >= 1 << 24 || region.height >= 1 << 24;
+    std::vector<std::uint8_t> made(is_large ? 0 : region.width * region.height);
+    print1525_printer_page(marks.data(), marks.size(), &region, made.data(), made.size(), &details);
+    if (details.status != PRINT1525_DONE) throw error(details);
     return made;
 }
 

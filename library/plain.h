@@ -22,10 +22,10 @@ void print1525_plain_answer(const uint8_t *words, size_t words_length, uint8_t e
 
 /* What a call with numbers answers. */
 typedef struct {
-    size_t code;   /* 0 done, 1 a run that a BASIC error stopped, 2 refused, 3 out of memory, 4 the buffer is too small */
-    size_t fault;  /* of code 2 one of enum print1525_fault, or 24, 29 or 60, a number that is no setting (of print, edges
-                    * and listing); of code 1 100 and the number of the error */
-    size_t place;  /* of code 1 the statement */
+    size_t code;   /* 0 done, 2 refused, 3 out of memory, 4 the buffer is too small */
+    size_t fault;  /* of code 2 one of enum print1525_fault, or 24, 29 or 60, a number that is no setting (of print,
+                    * edges and listing) */
+    size_t place;
     size_t length; /* with the faults 63 and 64 the column */
 } print1525_plain_numbers;
 

@@ -46,7 +46,8 @@ int print1525_printer_bytes(print1525_printer *printer, const void *bytes, size_
     const uint8_t no_byte = 0;
     print1525_plain_run run = {0, 0};
     if (printer == NULL || taken == NULL) fault = PRINT1525_FAULT_NULL_POINTER;
-    if (fault == PRINT1525_FAULT_NONE && overlap(printer, sizeof *printer, marks, size)) fault = PRINT1525_FAULT_OVERLAP;
+    if (fault == PRINT1525_FAULT_NONE && overlap(printer, sizeof *printer, marks, size))
+        fault = PRINT1525_FAULT_OVERLAP;
     if (fault == PRINT1525_FAULT_NONE) {
         kept = *printer;
         print1525_plain_printer_bytes(&kept, bytes == NULL ? &no_byte : (const uint8_t *)bytes, count,
@@ -180,7 +181,8 @@ static int draw_all(int is_over, const print1525_mark *marks, size_t length, con
     if (fault != PRINT1525_FAULT_NONE) return refuse(details, fault);
     read = *region;
     if (read.stride == 0) read.stride = line_size(&read);
-    if (read.pixels > PRINT1525_BITS || read.stride < line_size(&read)) return refuse(details, PRINT1525_FAULT_NO_SUCH_PIXELS);
+    if (read.pixels > PRINT1525_BITS || read.stride < line_size(&read))
+        return refuse(details, PRINT1525_FAULT_NO_SUCH_PIXELS);
     size = region_size(&read);
     if (size == SIZE_MAX) return refuse(details, PRINT1525_FAULT_TOO_LARGE);
     if (size > capacity) return tell(details, PRINT1525_FAILED, PRINT1525_FAULT_TOO_SMALL, 0, 0);

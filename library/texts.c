@@ -163,14 +163,25 @@ static void option_number(growing *to, const char *name, uint64_t value) {
     add_number(to, value);
 }
 
+static const char *command_of(unsigned call) {
+    switch (call) {
+    case PAGES: return "pages";
+    case BUS: return "bus";
+    case CHECK: return "check";
+    case DECODE: return "decode";
+    default: return "raw";
+    }
+}
+
 /* Adds the words of a command line that say the settings of a call. */
 static void words_of(growing *to, unsigned call, const print1525_settings *s) {
-    static const char formats[][7] = {"", "list", "text", "frames", "story", "json", "vcd", "svg", "png", "pdf", "bytes"};
+    static const char formats[][7] = {"",    "list", "text", "frames", "story", "json",
+                                      "vcd", "svg",  "png",  "pdf",    "bytes"};
     static const char forms[][9] = {"", "auto", "text", "prg", "petcat", "magazine", "vcd", "csv"};
     static const char printers[][5] = {"", "4", "5", "none"}, papers[][7] = {"", "a4", "letter"};
     static const char listening[][4] = {"", "4", "5", "4,5"};
     word(to, "print1525");
-    word(to, call == PAGES ? "pages" : call == BUS ? "bus" : call == CHECK ? "check" : call == DECODE ? "decode" : "raw");
+    word(to, command_of(call));
     if (s->as) option(to, "--as", formats[s->as]);
     if (s->from) option(to, "--from", forms[s->from]);
     if (s->present) option(to, "--present", printers[s->present]);
@@ -195,22 +206,42 @@ static void words_of(growing *to, unsigned call, const print1525_settings *s) {
     if (s->characters_length > 0) option(to, "--characters", "given");
 }
 
-/* Does what the program does with these words. Where it explains, what it says on standard error is the text. */
-static int ask(const growing *words, int explains, const task *t, size_t *length, print1525_details *details) {
+/* Does what the program does with these words: what it writes goes into the first buffer, or what it says into the
+ * second. */
+static print1525_plain_end run(const growing *words, const task *t, void *output, size_t capacity, void *said,
+                               size_t said_capacity) {
     /* (No file of characters of more bytes is good, and its first bad line is in front of them.) */
     const size_t most = 65536, shapes = t->settings.characters_length;
-    uint8_t nothing[1], *const buffer = (uint8_t *)t->buffer;
+    uint8_t nothing[1];
     print1525_plain_end end;
-    size_t made;
-    print1525_plain_answer((const uint8_t *)words->text, words->length, (uint8_t)explains,
-                           explains ? PRINT1525_DONE : PRINT1525_REFUSED, (const uint8_t *)t->input, t->length,
-                           (const uint8_t *)t->characters, shapes < most ? shapes : most, explains ? nothing : buffer,
-                           explains ? 0 : t->capacity, explains ? buffer : nothing, explains ? t->capacity : 0, &end);
-    made = explains ? end.messages : end.output;
+    print1525_plain_answer((const uint8_t *)words->text, words->length, 0,
+                           output == NULL ? PRINT1525_DONE : PRINT1525_REFUSED, (const uint8_t *)t->input, t->length,
+                           (const uint8_t *)t->characters, shapes < most ? shapes : most,
+                           output == NULL ? nothing : (uint8_t *)output, capacity,
+                           said == NULL ? nothing : (uint8_t *)said, said_capacity, &end);
+    return end;
+}
+
+/* Gives what the program writes for these words; where it explains, what it says on standard error. */
+static int ask(const growing *words, int explains, const task *t, size_t *length, print1525_details *details) {
+    print1525_plain_end end = run(words, t, explains ? NULL : t->buffer, explains ? 0 : t->capacity, NULL, 0);
+    size_t made = explains ? end.messages : end.output;
+    if (explains && end.status != PRINT1525_FAILED && made > 0 && made <= t->capacity) {
+        /* (It says something also where it has no memory, which is no explanation: the buffer stays as it was then.) */
+        uint8_t *const said = (uint8_t *)malloc(made);
+        end.status = PRINT1525_FAILED;
+        end.messages = 0;
+        if (said != NULL) end = run(words, t, NULL, 0, said, made);
+        if (said != NULL && end.status != PRINT1525_FAILED && end.messages <= made)
+            memcpy(t->buffer, said, end.messages);
+        made = end.messages;
+        free(said);
+    }
     if (explains && end.status == 4) end.status = PRINT1525_DONE;
     if (end.status == PRINT1525_FAILED) made = 0;
     tell_length(length, made);
-    if (end.status == 4 || (end.status != PRINT1525_FAILED && made > t->capacity))
+    if (end.status == PRINT1525_FAILED) return tell(details, PRINT1525_FAILED, PRINT1525_FAULT_NO_MEMORY, 0, 0);
+    if (end.status == 4 || made > t->capacity)
         return tell(details, PRINT1525_FAILED, PRINT1525_FAULT_TOO_SMALL, 0, 0);
     return tell(details, (int)end.status, (int)end.fault, end.place, end.column);
 }
@@ -344,8 +375,8 @@ int print1525_answer(const char *const *words, const void *input, size_t input_l
     return status;
 }
 
-/* Reports what a proved call with numbers answered, with its length; after a fault of the recording, how much comes before
- * it. */
+/* Reports what a proved call with numbers answered, with its length; after a fault of the recording, how much comes
+ * before it. */
 static int report_length(size_t *length, print1525_details *details, print1525_plain_numbers answer, size_t unit) {
     const int is_column = answer.code == 2 && (answer.fault == PRINT1525_FAULT_UNKNOWN_NAME ||
                                                answer.fault == PRINT1525_FAULT_BAD_CHARACTER);
@@ -421,9 +452,9 @@ int print1525_edges(const void *recording, size_t recording_length, const print1
     if (s->from == PRINT1525_FROM_TEXT) source = 0;
     if (s->from == PRINT1525_FROM_VCD) source = 1;
     if (s->from == PRINT1525_FROM_CSV) source = 2;
+    /* (No buffer has more edges than fit into memory.) */
     print1525_plain_edges((const uint8_t *)t.input, recording_length, source, atn, a, clock, c, data, d, s->invert,
-                          s->from_time, s->rate, (uint64_t *)t.buffer, capacity > SIZE_MAX / 2 ? SIZE_MAX : 2 * capacity,
-                          &answer);
+                          s->from_time, s->rate, (uint64_t *)t.buffer, 2 * capacity, &answer);
     count = answer.code == 0 || answer.code == 2 ? answer.length / 2 : 0;
     /* Each edge holds two numbers here: its time, and its three levels in one number, where its first level goes. */
     for (index = 0; index < count; index++) {

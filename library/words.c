@@ -89,9 +89,9 @@ static const char *counted(int fault) {
 /* The names of settings, by their numbers. */
 static const char *setting_name(size_t number) {
     static const char names[][12] = {
-        "",       "as",    "from",   "present",   "status",    "set",    "device",  "paper", "holes",     "top",  "scale",  "bounds",
-        "intervals", "invert", "listening", "strict", "explain", "sheet", "from_time", "rate", "delays", "names", "characters",
-        "reserved",
+        "",      "as",        "from",   "present",   "status", "set",     "device", "paper",
+        "holes", "top",       "scale",  "bounds",    "intervals", "invert", "listening", "strict",
+        "explain", "sheet",   "from_time", "rate",   "delays", "names",   "characters", "reserved",
     };
     return number < sizeof names / sizeof *names ? names[number] : "";
 }

@@ -1,6 +1,7 @@
-/* A bus adapter: a device that answers. Edges of the wires come in, a line each as `100 001` with a time in microseconds
- * and the levels of ATN, CLOCK and DATA; a line goes out for each thing that the device does to DATA, as `200 pull` and
- * `1150 release`, and for what it hears, as `1910 listen` and `2940 byte 72`: adapter [DEVICE] < EDGES
+/* A bus adapter: a device that answers. Edges of the wires come in, a line each as `100 001` with a time in
+ * microseconds and the levels of ATN, CLOCK and DATA; a line goes out for each thing that the device does to DATA, as
+ * `200 pull` and `1150 release`, and for what it hears, as `1910 listen` and `2940 byte 72`:
+ * adapter [DEVICE] < EDGES
  * Between two edges only a device is kept. Nothing here calls malloc. */
 #include "print1525.h"
 #include <stdio.h>

@@ -37,8 +37,6 @@ static int is_name;
 static int atn = 1, clock_line = 1, data = 1;
 static uint64_t now;
 
-/* ---- The devices. ---- */
-
 /* A byte goes to a printer. It keeps a line until its end, and prints it then: so long the computer has to wait. */
 static void print(device *it, uint8_t byte) {
     static const print1525_region sheet = {0, 0, WIDTH, HEIGHT, 0, PRINT1525_GRAY};
@@ -74,8 +72,6 @@ static void drive_hears(print1525_received heard) {
     default: break;
     }
 }
-
-/* ---- The lines. ---- */
 
 /* DATA is released where nobody pulls it. */
 static int is_data_released(void) {
@@ -138,8 +134,6 @@ static void pass(uint64_t microseconds) {
     now = end;
 }
 
-/* ---- The computer, as the KERNAL does it. ---- */
-
 /* Sends a byte. Gives whether all that listen have taken it. */
 static int send(uint8_t byte, int is_last) {
     int bit;
@@ -195,8 +189,6 @@ static int send_all(uint8_t address, int second, const uint8_t *bytes, size_t le
     }
     return attention(63, -1);
 }
-
-/* ---- The program. ---- */
 
 static int write_file(const char *prefix, const char *name, const char *head, const uint8_t *bytes, size_t length) {
     char path[4096];

@@ -1,5 +1,5 @@
-/* A listener on any bus: edges in, a line each as `100 001`, and a line for what comes to a device, as soon as it comes:
- * receiver [DEVICE] < EDGES
+/* A listener on any bus: edges in, a line each as `100 001`, and a line for what comes to a device, as soon as it
+ * comes: receiver [DEVICE] < EDGES
  * It answers nobody (adapter.c does). Between two edges only a receiver is kept. Nothing here calls malloc. */
 #include "print1525.h"
 #include <stdio.h>

@@ -26,7 +26,8 @@ static uint8_t *read_all(size_t *length) {
 
 int main(int count, char **words) {
     static const char *const formats[] = {"list", "text", "svg", "png", "pdf"};
-    static const uint8_t forms[] = {PRINT1525_AS_LIST, PRINT1525_AS_TEXT, PRINT1525_AS_SVG, PRINT1525_AS_PNG, PRINT1525_AS_PDF};
+    static const uint8_t forms[] = {PRINT1525_AS_LIST, PRINT1525_AS_TEXT, PRINT1525_AS_SVG, PRINT1525_AS_PNG,
+                                    PRINT1525_AS_PDF};
     print1525_settings settings = PRINT1525_SETTINGS_INIT;
     print1525_details details;
     uint8_t *script, *text = NULL;

@@ -11,7 +11,8 @@ int main(int count, char **words) {
     const bool is_bytes = count > 1 && std::string_view(words[1]) == "--bytes";
     const std::string_view word = count > 1 + is_bytes ? words[1 + is_bytes] : "list";
     const std::string input(std::istreambuf_iterator<char>(std::cin), {});
-    constexpr std::array<print1525_as, 5> forms = {PRINT1525_AS_LIST, PRINT1525_AS_TEXT, PRINT1525_AS_SVG, PRINT1525_AS_PNG, PRINT1525_AS_PDF};
+    constexpr std::array<print1525_as, 5> forms = {PRINT1525_AS_LIST, PRINT1525_AS_TEXT, PRINT1525_AS_SVG,
+                                                   PRINT1525_AS_PNG, PRINT1525_AS_PDF};
     std::size_t form = 0;
     while (form < formats.size() && formats[form] != word) form++;
     if (count > 2 + is_bytes || form == formats.size()) {

@@ -449,8 +449,10 @@ static size_t try_bytes(print1525_printer *printer, print1525_mark *marks, size_
         if (status != PRINT1525_DONE) return 0;
         used = 1;
     } else {
+        int status;
         used = count;
-        test_details("printer_bytes", print1525_printer_bytes(printer, bytes, &used, marks, room, &length, details), details, length, room, 0);
+        status = print1525_printer_bytes(printer, bytes, &used, marks, room, &length, details);
+        test_details("printer_bytes", status, details, length, room, 0);
         if (details->status != PRINT1525_DONE || used > count) is_wrong("printer_bytes", "how many were used");
         if (count && room >= PRINT1525_MARKS_OF_A_BYTE && used == 0) is_wrong("printer_bytes", "no byte is used");
         if (used < count && length + PRINT1525_MARKS_OF_A_BYTE <= room) is_wrong("printer_bytes", "a byte that has room");
@@ -478,7 +480,7 @@ static void try_pixels(const print1525_mark *marks, size_t length, print1525_det
     region->y = length && below(9) ? marks[below(length)].y - below(20) : drawn() >> below(64);
     region->width = below(30) ? below(64) : (size_t)(drawn() >> below(64));
     region->height = below(30) ? below(64) : (size_t)(drawn() >> below(64));
-    region->pixels = (uint8_t)(below(30) ? kind : drawn());
+    region->pixels = (uint8_t)(below(30) ? kind : 3 + below(253));
     region->stride = 0;
     line = kind == PRINT1525_BITS ? (region->width + 7) / 8 : kind == PRINT1525_RGBA ? 4 * region->width : region->width;
     if (below(3) == 0 && region->width < 64) region->stride = line + below(9);
@@ -495,7 +497,8 @@ static void try_pixels(const print1525_mark *marks, size_t length, print1525_det
     if (status != drawn_status || memcmp(details, &drawn_details, sizeof drawn_details) != 0) is_wrong("printer_draw", "another answer");
     if (status == PRINT1525_REFUSED && details->fault != PRINT1525_FAULT_TOO_LARGE && details->fault != PRINT1525_FAULT_NO_SUCH_PIXELS) is_wrong("printer_page", "the fault");
     if (status == PRINT1525_FAILED && size > 0 && region->pixels == kind && size <= room && region->width < 64) is_wrong("printer_page", "there is room");
-    size = status == PRINT1525_DONE && region->width < 64 && region->height < 64 ? size : 0;
+    if (status == PRINT1525_DONE && (region->width >= 64 || region->height >= 64)) return;
+    size = status == PRINT1525_DONE ? size : 0;
     if (!is_untouched(memories[1], ROOM - room) || !is_untouched(pixels + size, room - size)) is_wrong("printer_page", "the buffer");
     if (region->stride == 0 && kind != PRINT1525_BITS)
         for (index = 0; index < room; index++)
