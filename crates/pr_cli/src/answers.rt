@@ -643,7 +643,7 @@ fn tell_lacking(
 
 /// Says that more can be said of a job that failed, or of a run that a BASIC error stopped, if it can; or at once how a
 /// picture gets smaller.
-fn advise_on(rt: &(impl Eprint + AllocGlobal), answer: Result<JobEnd, CliFault>, end: End) {
+fn advise_on(rt: &impl Eprint, answer: Result<JobEnd, CliFault>, end: End) {
     match answer {
         Ok(_) if matches!(end, End::Stopped | End::StoppedAt { .. }) => note_stop(rt),
         Err(CliFault::Picture(fault)) => tell_picture(rt, fault),
