@@ -10,8 +10,9 @@
 # make lib          proves and builds libprint1525.a and libprint1525.so, the library for C programs (docs/C.md)
 # make web          makes web/print1525.html, the page in a browser, with its WebAssembly module of proved crates (web/README.md says
 #                   how; it needs wasm-opt, Debian's package binaryen), and says whether the committed file is another one
-# make install      copies the built program, the library for C with its header and what pkg-config needs, the manual page and the
-#                   completions of bash, zsh and fish to $(DESTDIR)$(PREFIX), where PREFIX is /usr/local unless it is given
+# make install      copies the built program, the library for C with its headers and what pkg-config and CMake need, the manual page
+#                   and the completions of bash, zsh and fish to $(DESTDIR)$(PREFIX), where PREFIX is /usr/local unless it is given;
+#                   LIBDIR is where the library goes, $(PREFIX)/lib unless it is given
 # make dist         packs an archive for each platform of docs/PLATFORMS.md, and the library as one C file: program, library, page in the
 #                   browser, examples, cases and documents, as out/print1525-VERSION-PLATFORM.tar.gz or .zip with its SHA-256: of one
 #                   commit always the same bytes
@@ -33,6 +34,7 @@
 SHELL := /bin/bash
 export PYTHONDONTWRITEBYTECODE := 1
 PREFIX ?= /usr/local
+LIBDIR ?= $(PREFIX)/lib
 PROGRAM := crates/print1525/out/print1525
 LIBRARY := libprint1525.a
 MODULE := out/print1525.wasm
@@ -40,7 +42,8 @@ VERSION := 1.0.0
 # The library's own version, and the names of the shared one, of which programs look for the second.
 LIBRARY_VERSION := $(shell sed -n 's/^.define PRINT1525_VERSION "\(.*\)"/\1/p' include/print1525.h)
 SHARED := libprint1525.so.$(LIBRARY_VERSION)
-SONAME := libprint1525.so.$(firstword $(subst ., ,$(LIBRARY_VERSION)))
+MAJOR := $(firstword $(subst ., ,$(LIBRARY_VERSION)))
+SONAME := libprint1525.so.$(MAJOR)
 
 # The tests that go on after a refused allocation (tests/rows/growths).
 TEST_CRATES := pr_tests_core pr_tests_forms
@@ -105,10 +108,10 @@ $(TESTS): $(SOURCES)
 	@cd $(@D)/.. && rt test > out.log 2>&1 || { cat out.log; exit 1; }; rm -f out.log
 
 # The library for C programs, an archive and a shared library: the archives of two crates, the part of the toolchain's that calls
-# malloc, and the functions of the header.
+# malloc, and the C code of library/.
 lib: $(LIBRARY) $(LIBRARY:.a=.so)
 
-$(LIBRARY) $(LIBRARY:.a=.so) &: $(PARTS) tools/archive $(wildcard include/*.[ch])
+$(LIBRARY) $(LIBRARY:.a=.so) &: $(PARTS) tools/archive tests/c/header.py $(wildcard include/*.h library/*.[ch])
 	@tools/archive $(LIBRARY) $(PART_CRATES)
 
 $(PARTS) &: $(SOURCES) tools/crates.py tools/library
@@ -128,28 +131,36 @@ $(MODULE): $(SOURCES) tools/crates.py tools/llvm.py web/module
 	@mkdir -p $(@D)
 	web/module $@
 
+# What pkg-config and CMake are told: places from the prefix and from the library, so that an installed tree may be moved.
+FOUND_BY = sed -e 's|@PREFIX@|$(PREFIX)|g' -e 's|@LIBDIR@|$(patsubst $(PREFIX)/%,$${prefix}/%,$(LIBDIR))|' \
+	-e "s|@INCLUDE@|$$(realpath -ms --relative-to=$(LIBDIR) $(PREFIX)/include)|" -e 's|@VERSION@|$(LIBRARY_VERSION)|g' \
+	-e 's|@MAJOR@|$(MAJOR)|g'
+
 install: build lib
-	install -d $(DESTDIR)$(PREFIX)/bin $(DESTDIR)$(PREFIX)/include $(DESTDIR)$(PREFIX)/lib/pkgconfig $(DESTDIR)$(PREFIX)/share/man/man1
+	install -d $(DESTDIR)$(PREFIX)/bin $(DESTDIR)$(PREFIX)/include $(DESTDIR)$(PREFIX)/share/man/man1
+	install -d $(DESTDIR)$(LIBDIR)/pkgconfig $(DESTDIR)$(LIBDIR)/cmake/print1525
 	install -d $(DESTDIR)$(PREFIX)/share/bash-completion/completions $(DESTDIR)$(PREFIX)/share/zsh/site-functions
 	install -d $(DESTDIR)$(PREFIX)/share/fish/vendor_completions.d
 	install $(PROGRAM) $(DESTDIR)$(PREFIX)/bin/print1525
 	install -m 644 include/print1525.h include/print1525.hpp $(DESTDIR)$(PREFIX)/include
-	install -m 644 $(LIBRARY) $(DESTDIR)$(PREFIX)/lib/libprint1525.a
-	install $(LIBRARY:.a=.so) $(DESTDIR)$(PREFIX)/lib/$(SHARED)
-	ln -sf $(SHARED) $(DESTDIR)$(PREFIX)/lib/$(SONAME)
-	ln -sf $(SONAME) $(DESTDIR)$(PREFIX)/lib/libprint1525.so
+	install -m 644 $(LIBRARY) $(DESTDIR)$(LIBDIR)/libprint1525.a
+	install $(LIBRARY:.a=.so) $(DESTDIR)$(LIBDIR)/$(SHARED)
+	ln -sf $(SHARED) $(DESTDIR)$(LIBDIR)/$(SONAME)
+	ln -sf $(SONAME) $(DESTDIR)$(LIBDIR)/libprint1525.so
 	install -m 644 docs/print1525.1 $(DESTDIR)$(PREFIX)/share/man/man1/print1525.1
 	install -m 644 completions/print1525.bash $(DESTDIR)$(PREFIX)/share/bash-completion/completions/print1525
 	install -m 644 completions/_print1525 $(DESTDIR)$(PREFIX)/share/zsh/site-functions/_print1525
 	install -m 644 completions/print1525.fish $(DESTDIR)$(PREFIX)/share/fish/vendor_completions.d/print1525.fish
-	sed -e 's|@PREFIX@|$(PREFIX)|' -e 's|@VERSION@|$(LIBRARY_VERSION)|' include/print1525.pc.in > $(DESTDIR)$(PREFIX)/lib/pkgconfig/print1525.pc
-	chmod 644 $(DESTDIR)$(PREFIX)/lib/pkgconfig/print1525.pc
+	$(FOUND_BY) include/print1525.pc.in > $(DESTDIR)$(LIBDIR)/pkgconfig/print1525.pc
+	$(FOUND_BY) include/print1525Config.cmake.in > $(DESTDIR)$(LIBDIR)/cmake/print1525/print1525Config.cmake
+	$(FOUND_BY) include/print1525ConfigVersion.cmake.in > $(DESTDIR)$(LIBDIR)/cmake/print1525/print1525ConfigVersion.cmake
+	chmod 644 $(DESTDIR)$(LIBDIR)/pkgconfig/print1525.pc $(DESTDIR)$(LIBDIR)/cmake/print1525/*.cmake
 	@[ -n "$(DESTDIR)" ] || ldconfig 2> /dev/null || echo 'Run ldconfig, or set LD_LIBRARY_PATH, for the shared library.'
 
 $(LLVM_MODULES) &: $(SOURCES) tools/crates.py tools/llvm.py tools/port/modules
 	@tools/port/modules $(LLVM) $(PART_CRATES) print1525
 
-PORT_TOOLS := $(LLVM_MODULES) tools/llvm.py $(wildcard include/*.[ch]) \
+PORT_TOOLS := $(LLVM_MODULES) tools/llvm.py $(wildcard include/*.h library/*.[ch]) \
 	$(filter-out %/exports %/modules %/speed %/speed.c %/trusted.md,$(wildcard tools/port/* tools/port/mac/*))
 
 $(PORT)/universal/made: $(PORT)/arm64-macos/made $(PORT)/x86_64-macos/made

@@ -38,48 +38,13 @@ public:
     std::vector<print1525_edge> edges;
 };
 
-// Settings, which begin as PRINT1525_SETTINGS_INIT. The characters, the names and the delays stay their owner's.
+// Settings, which begin as 0. The characters, the names and the delays stay their owner's.
 struct settings : print1525_settings {
-    settings() : print1525_settings PRINT1525_SETTINGS_INIT {}
-    settings(print1525_page format) : settings() { page = static_cast<std::uint8_t>(format); }
+    settings() : print1525_settings{} {}
+    settings(print1525_as format) : settings() { as = static_cast<std::uint8_t>(format); }
     settings &draws(std::string_view file) {
         characters = file.data();
         characters_length = file.size();
-        return *this;
-    }
-    // One printer, 4 or 5, or all; and one sheet, or all.
-    settings &shows(std::uint8_t one_printer, std::uint64_t one_sheet = 0) {
-        printer = one_printer;
-        sheet = one_sheet;
-        return *this;
-    }
-    // How many lines the first row is below the upper edge of the paper.
-    settings &lowers(std::uint8_t lines) {
-        top = lines;
-        return *this;
-    }
-    // The paper of a document, or whether a PNG file has holes.
-    settings &prints_on(print1525_paper sheets) {
-        paper = static_cast<std::uint8_t>(sheets);
-        return *this;
-    }
-    // The pixels of a PNG file for the place of a dot, across and down.
-    settings &scales(std::uint8_t pixels) {
-        scale = pixels;
-        return *this;
-    }
-    settings &reads(print1525_recording format) {
-        recording = static_cast<std::uint8_t>(format);
-        return *this;
-    }
-    settings &names(std::string_view atn_name, std::string_view clock_name, std::string_view data_name) {
-        atn = {atn_name.data(), atn_name.size()};
-        clock = {clock_name.data(), clock_name.size()};
-        data = {data_name.data(), data_name.size()};
-        return *this;
-    }
-    settings &writes(print1525_words form) {
-        words = static_cast<std::uint8_t>(form);
         return *this;
     }
 };
@@ -90,75 +55,76 @@ struct result {
     print1525_details details;
     // The message of the BASIC error that stopped the run, if one did.
     std::optional<std::string> stop() const {
-        return details.status == PRINT1525_STOPPED ? std::optional(message(details)) : std::nullopt;
+        return details.fault > 100 ? std::optional(message(details)) : std::nullopt;
     }
 };
 
 // Makes a call with a buffer that grows until the text fits.
-template <typename Item>
-using call_of = int (*)(const Item *, std::size_t, const print1525_settings *, void *, std::size_t,
-                        print1525_details *);
-template <typename Item>
-result text_of(call_of<Item> call, const Item *items, std::size_t length, const settings &with) {
+template <typename Call> result text_of(Call call) {
     result made{std::string(65536, '\0'), {}};
-    call(items, length, &with, made.text.data(), made.text.size(), &made.details);
+    std::size_t length = 0;
+    call(made.text.data(), made.text.size(), &length, &made.details);
     while (made.details.fault == PRINT1525_FAULT_TOO_SMALL) {
-        made.text.resize(made.details.length);
-        call(items, length, &with, made.text.data(), made.text.size(), &made.details);
+        made.text.resize(length);
+        call(made.text.data(), made.text.size(), &length, &made.details);
     }
     if (made.details.fault == PRINT1525_FAULT_NO_MEMORY) throw std::bad_alloc();
-    made.text.resize(made.details.length);
+    made.text.resize(length);
     if (made.details.status > PRINT1525_STOPPED) throw error(made.details, std::move(made.text));
     return made;
 }
+using text_call = int (*)(const void *, std::size_t, const print1525_settings *, void *, std::size_t, std::size_t *,
+                          print1525_details *);
+inline result text_by(text_call call, std::string_view input, const settings &with) {
+    return text_of([&](char *text, std::size_t capacity, std::size_t *length, print1525_details *details) {
+        return call(input.data(), input.size(), &with, text, capacity, length, details);
+    });
+}
 
 inline result pages(std::string_view script, const settings &with = {}) {
-    return text_of<void>(print1525_pages, script.data(), script.size(), with);
+    return text_by(print1525_pages, script, with);
 }
-inline result bus(std::string_view script, const settings &with = {}) {
-    return text_of<void>(print1525_bus, script.data(), script.size(), with);
-}
-inline result listing(std::string_view bytes, const settings &with = {}) {
-    return text_of<void>(print1525_listing, bytes.data(), bytes.size(), with);
-}
-inline result raw(std::string_view bytes, const settings &with = {}) {
-    return text_of<void>(print1525_raw, bytes.data(), bytes.size(), with);
-}
+inline result bus(std::string_view script, const settings &with = {}) { return text_by(print1525_bus, script, with); }
 inline result check(std::string_view trace, const settings &with = {}) {
-    return text_of<void>(print1525_check, trace.data(), trace.size(), with);
+    return text_by(print1525_check, trace, with);
+}
+inline result decode(std::string_view recording, const settings &with = {}) {
+    return text_by(print1525_decode, recording, with);
+}
+inline result raw(std::string_view bytes, const settings &with = {}) { return text_by(print1525_raw, bytes, with); }
+inline result listing(std::string_view bytes, const settings &with = {}) {
+    return text_by(print1525_listing, bytes, with);
 }
 
-inline result readings(std::string_view recording, const settings &with = {}) {
-    return text_of<void>(print1525_readings, recording.data(), recording.size(), with);
-}
-inline result reprint(std::string_view recording, const settings &with = {}) {
-    return text_of<void>(print1525_reprint, recording.data(), recording.size(), with);
+// What the program writes for the words of a command line.
+inline result answer(const std::vector<std::string> &words, std::string_view input) {
+    std::vector<const char *> given;
+    for (const std::string &word : words) given.push_back(word.c_str());
+    given.push_back(nullptr);
+    return text_of([&](char *text, std::size_t capacity, std::size_t *length, print1525_details *details) {
+        return print1525_answer(given.data(), input.data(), input.size(), text, capacity, length, details);
+    });
 }
 
-// Explanations: the line or the edge is the `place` of the details.
-inline result explain_script(std::string_view script, const settings &with = {}) {
-    return text_of<void>(print1525_explain_script, script.data(), script.size(), with);
-}
-inline result explain_trace(std::string_view trace, const settings &with = {}) {
-    return text_of<void>(print1525_explain_trace, trace.data(), trace.size(), with);
-}
-inline result explain_reading(std::string_view recording, const settings &with = {}) {
-    return text_of<void>(print1525_explain_reading, recording.data(), recording.size(), with);
-}
-inline result explain_stop(std::string_view script, const print1525_details &stopped, const settings &with = {}) {
-    settings ran = with;
-    ran.stopped = stopped;
-    return text_of<void>(print1525_explain_stop, script.data(), script.size(), ran);
+// Why a call refuses its input, or a run stopped, in words for people: the same call with `explain`.
+inline std::string explained(text_call call, std::string_view input, settings with = {}) {
+    with.explain = 1;
+    try {
+        return text_by(call, input, with).text;
+    } catch (const error &why) {
+        return why.text;
+    }
 }
 
 // The edges of a recording in any format.
 inline std::vector<print1525_edge> edges(std::string_view recording, const settings &with = {}) {
     std::vector<print1525_edge> made;
     print1525_details details{};
-    print1525_edges(recording.data(), recording.size(), &with, nullptr, 0, &details);
+    std::size_t length = 0;
+    print1525_edges(recording.data(), recording.size(), &with, nullptr, 0, &length, &details);
     if (details.fault == PRINT1525_FAULT_TOO_SMALL) {
-        made.resize(details.length);
-        print1525_edges(recording.data(), recording.size(), &with, made.data(), made.size(), &details);
+        made.resize(length);
+        print1525_edges(recording.data(), recording.size(), &with, made.data(), made.size(), &length, &details);
     }
     if (details.fault == PRINT1525_FAULT_NO_MEMORY) throw std::bad_alloc();
     if (details.status > PRINT1525_STOPPED) throw error(details, {}, std::move(made));
@@ -175,7 +141,10 @@ public:
         for (char byte : bytes) inputs.push_back(static_cast<std::uint8_t>(byte));
     }
     std::string page(const settings &with = {}) const {
-        return text_of(print1525_print, inputs.data(), inputs.size(), with).text;
+        return text_of([&](char *text, std::size_t capacity, std::size_t *length, print1525_details *details) {
+                   return print1525_print(inputs.data(), inputs.size(), &with, text, capacity, length, details);
+               })
+            .text;
     }
     void clear() { inputs.clear(); }
 
@@ -190,13 +159,12 @@ public:
         print1525_details details{};
         print1525_reading reading{};
         if (print1525_decoder_edge(&state, &next, &reading, &details) != PRINT1525_DONE) throw error(details);
-        return details.length ? std::optional(reading) : std::nullopt;
+        return reading.kind != PRINT1525_NO_READING ? std::optional(reading) : std::nullopt;
     }
     std::optional<print1525_reading> end() const {
-        print1525_details details{};
         print1525_reading reading{};
-        print1525_decoder_end(&state, &reading, &details);
-        return details.length ? std::optional(reading) : std::nullopt;
+        print1525_decoder_end(&state, &reading, nullptr);
+        return reading.kind != PRINT1525_NO_READING ? std::optional(reading) : std::nullopt;
     }
 
 private:
@@ -207,14 +175,14 @@ private:
 class receiver {
 public:
     explicit receiver(std::uint8_t device) {
-        if (print1525_receiver_begin(&state, device) != PRINT1525_DONE)
-            throw error({PRINT1525_REFUSED, PRINT1525_FAULT_NO_SUCH_DEVICE, 0, 0, 0});
+        print1525_details details{};
+        if (print1525_receiver_begin(&state, device, &details) != PRINT1525_DONE) throw error(details);
     }
     std::optional<print1525_received> edge(const print1525_edge &next) {
         print1525_details details{};
         print1525_received received{};
         if (print1525_receiver_edge(&state, &next, &received, &details) != PRINT1525_DONE) throw error(details);
-        return details.length ? std::optional(received) : std::nullopt;
+        return received.kind != PRINT1525_NOTHING_RECEIVED ? std::optional(received) : std::nullopt;
     }
 
 private:
@@ -236,7 +204,7 @@ public:
         if (print1525_device_step(&kept, &moment, &does, &details) != PRINT1525_DONE) throw error(details);
         return does;
     }
-    void busy(std::uint64_t until) { print1525_device_busy(&kept, until); }
+    void busy(std::uint64_t until) { print1525_device_busy(&kept, until, nullptr); }
     const print1525_device &state() const { return kept; }
 
 private:
@@ -246,17 +214,24 @@ private:
 // A printer that is watched: the marks that bytes make, as they come.
 class watched_printer {
 public:
-    void select(print1525_set set) { print1525_printer_select(&kept, static_cast<std::uint8_t>(set)); }
+    void select(print1525_set set) { print1525_printer_select(&kept, static_cast<std::uint8_t>(set), nullptr); }
     std::vector<print1525_mark> print(std::string_view bytes) {
         std::vector<print1525_mark> marks;
         print1525_mark made[PRINT1525_MARKS_OF_A_BYTE];
         while (!bytes.empty()) {
-            print1525_details details{};
-            print1525_printer_bytes(&kept, bytes.data(), bytes.size(), made, PRINT1525_MARKS_OF_A_BYTE, &details);
-            marks.insert(marks.end(), made, made + details.length);
-            bytes.remove_prefix(details.place);
+            std::size_t taken = bytes.size(), length = 0;
+            print1525_printer_bytes(&kept, bytes.data(), &taken, made, PRINT1525_MARKS_OF_A_BYTE, &length, nullptr);
+            marks.insert(marks.end(), made, made + length);
+            bytes.remove_prefix(taken);
         }
         return marks;
+    }
+    void form_feed() { print1525_printer_form_feed(&kept, nullptr); }
+    // How many sheets are torn off.
+    std::uint64_t tear_off() {
+        std::uint64_t sheets = 0;
+        print1525_printer_tear_off(&kept, &sheets, nullptr);
+        return sheets;
     }
     const print1525_printer &state() const { return kept; }
 
@@ -264,12 +239,21 @@ private:
     print1525_printer kept{}; // a printer just begun
 };
 
+// The region of the page that these marks change.
+inline print1525_region changed(const std::vector<print1525_mark> &marks) {
+    print1525_region region{};
+    print1525_printer_changed(marks.data(), marks.size(), &region, nullptr);
+    return region;
+}
+
 // The pixels of a region of the page with these marks, a byte each: 0 where a dot is, else 255.
-inline std::vector<std::uint8_t> pixels(const std::vector<print1525_mark> &marks, const print1525_region &region) {
-    std::vector<std::uint8_t> made(region.width * region.height);
+inline std::vector<std::uint8_t> pixels(const std::vector<print1525_mark> &marks, print1525_region region) {
     print1525_details details{};
-    if (print1525_printer_page(marks.data(), marks.size(), &region, made.data(), made.size(), &details) != PRINT1525_DONE)
-        throw error(details);
+    region.stride = region.pixels = 0;
+    const bool is_large = region.width >= 1 << 24 || region.height >= 1 << 24;
+    std::vector<std::uint8_t> made(is_large ? 0 : region.width * region.height);
+    print1525_printer_page(marks.data(), marks.size(), &region, made.data(), made.size(), &details);
+    if (details.status != PRINT1525_DONE) throw error(details);
     return made;
 }
 

@@ -37,7 +37,7 @@ int main(void) {
     setvbuf(stdin, in, _IOFBF, sizeof in);
     setvbuf(stdout, out, _IOFBF, sizeof out);
 
-    print1525_decoder_begin(&decoder);
+    print1525_decoder_begin(&decoder, NULL);
     while ((got = next_edge(&edge)) > 0) {
         status = print1525_decoder_edge(&decoder, &edge, &reading, &details);
         if (status != PRINT1525_DONE) {

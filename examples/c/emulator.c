@@ -10,7 +10,7 @@
 
 /* A sheet of eleven inches, in pixels: 120 to the inch across and 126 down. */
 #define WIDTH 960
-#define HEIGHT 1386
+#define HEIGHT PRINT1525_SHEET
 
 /* A printer prints 30 characters a second. */
 #define MICROSECONDS_A_CHARACTER 33333
@@ -37,26 +37,24 @@ static int is_name;
 static int atn = 1, clock_line = 1, data = 1;
 static uint64_t now;
 
-/* ---- The devices. ---- */
-
 /* A byte goes to a printer. It keeps a line until its end, and prints it then: so long the computer has to wait. */
 static void print(device *it, uint8_t byte) {
-    static const print1525_region sheet = {0, 0, WIDTH, HEIGHT};
+    static const print1525_region sheet = {0, 0, WIDTH, HEIGHT, 0, PRINT1525_GRAY};
     print1525_mark marks[PRINT1525_MARKS_OF_A_BYTE];
-    print1525_details details;
-    print1525_printer_byte(&it->printer, byte, marks, PRINT1525_MARKS_OF_A_BYTE, &details);
-    print1525_printer_draw(marks, details.length, &sheet, it->paper[0], sizeof it->paper, NULL);
+    size_t length;
+    print1525_printer_byte(&it->printer, byte, marks, PRINT1525_MARKS_OF_A_BYTE, &length, NULL);
+    print1525_printer_draw(marks, length, &sheet, it->paper[0], sizeof it->paper, NULL);
     it->waiting++;
     if (byte != 13) return;
-    print1525_device_busy(&it->device, now + (uint64_t)it->waiting * MICROSECONDS_A_CHARACTER);
+    print1525_device_busy(&it->device, now + (uint64_t)it->waiting * MICROSECONDS_A_CHARACTER, NULL);
     it->waiting = 0;
 }
 
 static void printer_hears(device *it, print1525_received heard) {
     switch (heard.kind) {
-    case PRINT1525_RECEIVED_LISTEN: print1525_printer_select(&it->printer, PRINT1525_SET_UPPER); break;
+    case PRINT1525_RECEIVED_LISTEN: print1525_printer_select(&it->printer, PRINT1525_SET_UPPER, NULL); break;
     case PRINT1525_RECEIVED_SELECT:
-        if (heard.byte == 7) print1525_printer_select(&it->printer, PRINT1525_SET_LOWER);
+        if (heard.byte == 7) print1525_printer_select(&it->printer, PRINT1525_SET_LOWER, NULL);
         break;
     case PRINT1525_RECEIVED_BYTE: print(it, heard.byte); break;
     default: break;
@@ -74,8 +72,6 @@ static void drive_hears(print1525_received heard) {
     default: break;
     }
 }
-
-/* ---- The lines. ---- */
 
 /* DATA is released where nobody pulls it. */
 static int is_data_released(void) {
@@ -138,8 +134,6 @@ static void pass(uint64_t microseconds) {
     now = end;
 }
 
-/* ---- The computer, as the KERNAL does it. ---- */
-
 /* Sends a byte. Gives whether all that listen have taken it. */
 static int send(uint8_t byte, int is_last) {
     int bit;
@@ -196,8 +190,6 @@ static int send_all(uint8_t address, int second, const uint8_t *bytes, size_t le
     return attention(63, -1);
 }
 
-/* ---- The program. ---- */
-
 static int write_file(const char *prefix, const char *name, const char *head, const uint8_t *bytes, size_t length) {
     char path[4096];
     FILE *file;
@@ -239,7 +231,7 @@ int main(int words, char **word) {
     }
     for (index = 0; index < DEVICES; index++) {
         print1525_device_begin(&devices[index].device, addresses[index], NULL, NULL);
-        print1525_printer_begin(&devices[index].printer);
+        print1525_printer_begin(&devices[index].printer, NULL);
         memset(devices[index].paper, 255, sizeof devices[index].paper);
         devices[index].step.wake = PRINT1525_NO_WAKE;
     }

@@ -33,17 +33,18 @@ static int printer_takes(uint16_t input) {
 /* The page of what was received, with a zero byte after it, or NULL if there is none. */
 static char *printer_page(print1525_details *details) {
     print1525_settings settings = PRINT1525_SETTINGS_INIT;
+    size_t length;
     char *page;
-    settings.page = PRINT1525_PAGE_SVG;
-    print1525_print(received, count, &settings, NULL, 0, details);
+    settings.as = PRINT1525_AS_SVG;
+    print1525_print(received, count, &settings, NULL, 0, &length, details);
     if (details->fault != PRINT1525_FAULT_TOO_SMALL) return NULL;
-    page = (char *)malloc(details->length + 1);
+    page = (char *)malloc(length + 1);
     if (page == NULL) return NULL;
-    if (print1525_print(received, count, &settings, page, details->length, details) != PRINT1525_DONE) {
+    if (print1525_print(received, count, &settings, page, length, NULL, details) != PRINT1525_DONE) {
         free(page);
         return NULL;
     }
-    page[details->length] = '\0';
+    page[length] = '\0';
     return page;
 }
 

@@ -1,6 +1,6 @@
-/* A bus adapter for any bus, lawful by the profile or not: edges in, a line each as `100 001`, and a line for
- * what comes to a device, as soon as it comes: receiver [DEVICE] < EDGES
- * Between two edges only a receiver is kept. Nothing here calls malloc. */
+/* A listener on any bus: edges in, a line each as `100 001`, and a line for what comes to a device, as soon as it
+ * comes: receiver [DEVICE] < EDGES
+ * It answers nobody (adapter.c does). Between two edges only a receiver is kept. Nothing here calls malloc. */
 #include "print1525.h"
 #include <stdio.h>
 #include <stdlib.h>
@@ -27,7 +27,7 @@ int main(int words, char **word) {
     const int device = words > 1 ? atoi(word[1]) : 4;
     int got = 1, status = PRINT1525_DONE;
 
-    if (device != (uint8_t)device || print1525_receiver_begin(&receiver, (uint8_t)device) != PRINT1525_DONE) {
+    if (device != (uint8_t)device || print1525_receiver_begin(&receiver, (uint8_t)device, NULL) != PRINT1525_DONE) {
         fprintf(stderr, "%s\n", print1525_strerror(PRINT1525_FAULT_NO_SUCH_DEVICE));
         return PRINT1525_REFUSED;
     }

@@ -11,12 +11,15 @@ int main(int count, char **words) {
     const bool is_bytes = count > 1 && std::string_view(words[1]) == "--bytes";
     const std::string_view word = count > 1 + is_bytes ? words[1 + is_bytes] : "list";
     const std::string input(std::istreambuf_iterator<char>(std::cin), {});
-    print1525::settings settings;
-    while (settings.page < formats.size() && formats[settings.page] != word) settings.page++;
-    if (count > 2 + is_bytes || settings.page == formats.size()) {
+    constexpr std::array<print1525_as, 5> forms = {PRINT1525_AS_LIST, PRINT1525_AS_TEXT, PRINT1525_AS_SVG,
+                                                   PRINT1525_AS_PNG, PRINT1525_AS_PDF};
+    std::size_t form = 0;
+    while (form < formats.size() && formats[form] != word) form++;
+    if (count > 2 + is_bytes || form == formats.size()) {
         std::cerr << "usage: show [--bytes] [list|text|svg|png|pdf] < INPUT\n";
         return PRINT1525_REFUSED;
     }
+    const print1525::settings settings = forms[form];
     try {
         if (is_bytes) {
             print1525::printer printer;

@@ -6,12 +6,13 @@ int main(void) {
     static char listing[65536], page[1 << 20], words[80];
     print1525_settings settings = PRINT1525_SETTINGS_INIT;
     print1525_details details;
-    const size_t length = fread(listing, 1, sizeof listing, stdin);
+    const size_t listing_length = fread(listing, 1, sizeof listing, stdin);
+    size_t length;
     int status;
-    settings.page = PRINT1525_PAGE_TEXT;
+    settings.as = PRINT1525_AS_TEXT;
     settings.present = PRINT1525_PRESENT_4;
-    status = print1525_pages(listing, length, &settings, page, sizeof page, &details);
-    if (status <= PRINT1525_STOPPED) fwrite(page, 1, details.length, stdout);
+    status = print1525_pages(listing, listing_length, &settings, page, sizeof page, &length, &details);
+    if (status <= PRINT1525_STOPPED) fwrite(page, 1, length, stdout);
     if (print1525_message(&details, words, sizeof words) > 0) fprintf(stderr, "%s\n", words);
     return status;
 }

@@ -1,11 +1,15 @@
 /* The program over the library's two calls for texts: which files words name, and what is answered to words and an input in
  * memory. It takes the program's words and input, and gives its output, messages and exit status (tests/c/answered compares them).
  * Files are read and written here in the plainest way. */
-#include "print1525.h"
+#include "../../library/plain.h"
 #include <errno.h>
 #include <stdio.h>
 #include <stdlib.h>
 #include <string.h>
+
+/* (The page in a browser alone calls it: it is in no library for C.) */
+void print1525_names(const uint8_t *words, size_t words_length, uint8_t *names, size_t capacity, uint8_t *messages,
+                     size_t messages_capacity, print1525_plain_end *end);
 
 typedef struct {
     uint8_t *bytes;
@@ -72,7 +76,7 @@ int main(int count, char **word) {
     size_t capacity = 0;
     print1525_plain_end end;
     FILE *to = stdout;
-    print1525_plain_names(words.bytes, words.length, names, sizeof names - 1, messages, sizeof messages, &end);
+    print1525_names(words.bytes, words.length, names, sizeof names - 1, messages, sizeof messages, &end);
     file = name_at(names, end.output, 0), place = name_at(names, end.output, 1), characters = name_at(names, end.output, 2);
     if (characters != NULL) shapes = read_all(characters);
     if (end.status == PRINT1525_DONE) input = read_all(file);

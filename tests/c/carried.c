@@ -4,7 +4,7 @@
  * each thing that is WRONG and 1. With a word it writes the stack that each call takes. Linked with
  * -Wl,--wrap=malloc,--wrap=realloc,--wrap=free. */
 #define _GNU_SOURCE
-#include "print1525.h"
+#include "options.h"
 #include <pthread.h>
 #include <signal.h>
 #include <stdio.h>
@@ -84,24 +84,39 @@ static size_t trace_length;
 static const print1525_edge edges[] = {{0, 1, 1, 1}, {100, 0, 1, 1}, {110, 0, 0, 1}, {111, 0, 0, 0}, {300, 0, 1, 0}, {400, 0, 1, 1}, {460, 0, 0, 1}};
 #define COUNT (sizeof edges / sizeof *edges)
 
-/* Each call, by its number, and how much stack it takes at most; what it gives is in the buffer and the details. */
+static const char bad[] = "REM\nOPEN 4,4:PRONT#4\n";
+static char characters[16384];
+
+/* Each call for a text with its options, and its input: a script if there is none. */
 static const struct {
-    const char *name;
-    size_t stack;
-} calls[] = {
-    {"pages list", PRINT1525_STACK}, {"pages text", PRINT1525_STACK}, {"pages svg", PRINT1525_STACK}, {"pages png", PRINT1525_STACK}, {"pages pdf", PRINT1525_STACK},
-    {"pages of petcat", PRINT1525_STACK}, {"bus text", PRINT1525_STACK}, {"bus vcd", PRINT1525_STACK}, {"bus of petcat", PRINT1525_STACK}, {"listing", PRINT1525_STACK},
-    {"raw text", PRINT1525_STACK}, {"raw pdf", PRINT1525_STACK}, {"print svg", PRINT1525_STACK}, {"check", PRINT1525_STACK}, {"decoder", SMALL_STACK},
-    {"strict", SMALL_STACK}, {"strict list", SMALL_STACK}, {"words", SMALL_STACK}, {"readings", PRINT1525_STACK}, {"readings as JSON", PRINT1525_STACK},
-    {"reprint", PRINT1525_STACK}, {"check as a story", PRINT1525_STACK}, {"check as JSON", PRINT1525_STACK}, {"explain script", PRINT1525_STACK},
-    {"explain stop", PRINT1525_STACK}, {"explain trace", PRINT1525_STACK}, {"explain reading", PRINT1525_STACK}, {"edges", PRINT1525_STACK},
-    {"a sheet", PRINT1525_STACK}, {"receiver and device", SMALL_STACK}, {"printer, byte by byte", SMALL_STACK}, {"printer, bytes", SMALL_STACK}, {"printer, page", SMALL_STACK},
-    {"printer, draw", SMALL_STACK}, {"pages with characters", PRINT1525_STACK}, {"raw with characters", PRINT1525_STACK},
+    const char *name, *options, *input;
+} texts[] = {
+    {"pages", "--as list", script}, {"pages", "--as text", script}, {"pages", "--as svg", script}, {"pages", "--as png", script}, {"pages", "--as pdf", script},
+    {"pages", "--from petcat", petcat}, {"pages", "--as bytes", script}, {"pages", "--explain", bad}, {"pages", "--explain", script}, {"pages", "--as svg --sheet 1 --device 5", script},
+    {"bus", "--as text", script}, {"bus", "--as vcd", script}, {"bus", "--from petcat", petcat}, {"listing", "--from petcat", petcat}, {"raw", "--as text", script},
+    {"raw", "--as pdf", script}, {"print", "--as svg", NULL}, {"check", "", trace}, {"check", "--as story", trace}, {"check", "--as json", trace}, {"check", "--explain", script},
+    {"decode", "--intervals", trace}, {"decode", "--as json", trace}, {"decode", "--as pdf", trace}, {"decode", "--explain", script}, {"edges", "", trace},
+    {"pages", "--as svg", NULL}, {"raw", "--as svg", NULL}, {"answer", "", script},
 };
-#define CALLS ((int)(sizeof calls / sizeof *calls))
+#define TEXTS ((int)(sizeof texts / sizeof *texts))
+
+/* The calls that take no memory, after those. */
+enum { DECODER = sizeof texts / sizeof *texts, RECEIVER, WORDS, BYTE, BYTES, PAGE, DRAW, BITS, CALLS };
+static const char *const others[] = {"decoder", "receiver and device", "words", "printer, byte by byte", "printer, bytes", "printer, page", "printer, draw", "printer, bits"};
+
+static const char *name_of(int call) { return call < TEXTS ? texts[call].name : others[call - TEXTS]; }
+
+/* How much stack a call takes at most. */
+static size_t stack_most(int call) { return call < TEXTS ? PRINT1525_STACK : SMALL_STACK; }
+
+/* What a call tells: its details, and the length beside them. */
+typedef struct {
+    print1525_details details;
+    size_t length;
+} answered;
 
 /* Whether a call takes no memory, so that it may be made in a signal handler. */
-static int is_for_handlers(int call) { return calls[call].stack < PRINT1525_STACK; }
+static int is_for_handlers(int call) { return call >= TEXTS; }
 
 /* What the watched printer prints: characters, a repeat over the end of a line, a position, codes. */
 static const char printed[] = "AB\016C\r\022D\r\010\032\377\201\032\377\252\r\017\020" "12E\033\020\001\101F";
@@ -109,165 +124,140 @@ static const char printed[] = "AB\016C\r\022D\r\010\032\377\201\032\377\252\r\01
 /* Room in a handler's buffer for the marks of a byte. */
 #define HANDLERS_ROOM (PRINT1525_MARKS_OF_A_BYTE * sizeof(print1525_mark))
 
-/* The calls of a watched printer, from 30 on: its last marks are in the buffer, or pixels. */
-static void make_printed(int call, uint8_t *buffer, size_t room, print1525_details *details) {
+/* The calls of a watched printer: its last marks are in the buffer, or pixels. */
+static void make_printed(int call, uint8_t *buffer, size_t room, answered *told) {
     static const print1525_mark marks[] = {{0, 0, PRINT1525_CELL, 65, 1, 0, 0}, {7, 5, PRINT1525_DOTS, 77, 0, 0, 0}, {1, 9, PRINT1525_CELL, 88, 0, 1, 1}};
-    const print1525_region region = {0, 0, 40, 20};
+    print1525_region region = {0, 0, 40, 20, 0, PRINT1525_GRAY};
     print1525_mark *const made = (print1525_mark *)(void *)buffer;
+    print1525_details *const details = &told->details;
     print1525_printer printer;
-    size_t index;
-    if (call == 32) {
+    uint64_t sheets;
+    size_t index, taken;
+    if (call == PAGE || call == BITS) {
+        if (call == BITS) print1525_printer_changed(marks, 3, &region, details), region.pixels = PRINT1525_BITS, region.stride = 9;
+        memset(buffer, 0, 40 * 20);
         print1525_printer_page(marks, 3, &region, buffer, room, details);
-    } else if (call == 33) {
+        told->length = 40 * 20;
+    } else if (call == DRAW) {
         memset(buffer, 255, 40 * 20);
         print1525_printer_draw(marks, 3, &region, buffer, room, details);
+        told->length = 40 * 20;
     } else {
-        print1525_printer_begin(&printer);
-        print1525_printer_select(&printer, PRINT1525_SET_LOWER);
+        print1525_printer_begin(&printer, details);
+        print1525_printer_select(&printer, PRINT1525_SET_LOWER, details);
         memset(buffer, 0, HANDLERS_ROOM);
-        for (index = 0; call == 30 && index < PRINTED; index++) print1525_printer_byte(&printer, (uint8_t)printed[index], made, PRINT1525_MARKS_OF_A_BYTE, details);
-        for (index = 0; call == 31 && index < PRINTED; index += details->place)
-            print1525_printer_bytes(&printer, printed + index, PRINTED - index, made, PRINT1525_MARKS_OF_A_BYTE, details);
+        for (index = 0; call == BYTE && index < PRINTED; index++) print1525_printer_byte(&printer, (uint8_t)printed[index], made, PRINT1525_MARKS_OF_A_BYTE, &told->length, details);
+        for (index = 0; call == BYTES && index < PRINTED; index += taken) {
+            taken = PRINTED - index;
+            print1525_printer_bytes(&printer, printed + index, &taken, made, PRINT1525_MARKS_OF_A_BYTE, &told->length, details);
+        }
         /* (Nothing is said of the byte that no field has.) */
-        for (index = 0; index < details->length; index++) buffer[index * sizeof *made + sizeof *made - 1] = 0;
-        details->length *= sizeof *made;
+        for (index = 0; index < told->length; index++) buffer[index * sizeof *made + sizeof *made - 1] = 0;
+        told->length *= sizeof *made;
+        print1525_printer_form_feed(&printer, details);
+        print1525_printer_tear_off(&printer, &sheets, details);
     }
 }
 
-/* The calls from 18 on: recordings, explanations, a receiver and a device. */
-static void make_more(int call, uint8_t *buffer, size_t room, print1525_details *details) {
-    static const char bad[] = "REM\nOPEN 4,4:PRONT#4\n";
-    print1525_settings settings = PRINT1525_SETTINGS_INIT;
+/* Characters of a file, each of them blank. */
+static size_t make_characters(void) {
+    static const char *const sets[] = {"upper", "lower"};
+    size_t length = 0, set, code;
+    for (set = 0; set < 2; set++)
+        for (code = 32; code < 224; code += code == 95 ? 65 : 1)
+            length += (size_t)snprintf(characters + length, sizeof characters - length, "%s %lu\n......\n......\n......\n......\n......\n......\n......\n", sets[set], (unsigned long)code);
+    return length;
+}
+
+/* The settings that options say, with a blank between each two words. */
+static print1525_settings settings_by(char *options) {
+    print1525_settings made = PRINT1525_SETTINGS_INIT;
+    char *words[33], *it, *rest;
+    int count = 0, at = 0, used;
+    for (it = strtok_r(options, " ", &rest); it != NULL && count < 32; it = strtok_r(NULL, " ", &rest)) words[count++] = it;
+    words[count] = NULL;
+    for (; at < count; at += used)
+        if ((used = set_option(&made, words[at], words[at + 1])) == 0) exit(97);
+    return made;
+}
+
+static void make_text(int call, uint8_t *buffer, size_t room, answered *told) {
+    static const uint16_t inputs[] = {65, 66, PRINT1525_SELECT_LOWER, 67, 13, 8, 255, 13};
+    static const char *const words[] = {"raw", "--as", "svg", "--characters", characters, NULL};
+    const char *const name = texts[call].name, *const input = texts[call].input == NULL ? script : texts[call].input;
+    const size_t count = input == trace ? trace_length : strlen(input);
+    print1525_details *const details = &told->details;
+    size_t *const length = &told->length;
+    char options[99];
+    print1525_settings settings = settings_by(strcpy(options, texts[call].options));
+    if (texts[call].input == NULL && strcmp(name, "print") != 0) settings.characters = characters, settings.characters_length = make_characters();
+    if (strcmp(name, "pages") == 0) print1525_pages(input, count, &settings, buffer, room, length, details);
+    else if (strcmp(name, "bus") == 0) print1525_bus(input, count, &settings, buffer, room, length, details);
+    else if (strcmp(name, "check") == 0) print1525_check(input, count, &settings, buffer, room, length, details);
+    else if (strcmp(name, "decode") == 0) print1525_decode(input, count, &settings, buffer, room, length, details);
+    else if (strcmp(name, "raw") == 0) print1525_raw(input, count, &settings, buffer, room, length, details);
+    else if (strcmp(name, "listing") == 0) print1525_listing(input, count, &settings, buffer, room, length, details);
+    else if (strcmp(name, "answer") == 0) make_characters(), print1525_answer(words, input, count, buffer, room, length, details);
+    else if (strcmp(name, "print") == 0) print1525_print(inputs, sizeof inputs / sizeof *inputs, &settings, buffer, room, length, details);
+    else {
+        print1525_edges(input, count, &settings, (print1525_edge *)(void *)buffer, room / sizeof(print1525_edge), length, details);
+        *length *= sizeof(print1525_edge);
+    }
+}
+
+static void make(int call, uint8_t *buffer, size_t room, answered *told) {
+    print1525_details *const details = &told->details;
+    print1525_decoder decoder;
+    print1525_reading reading;
     print1525_receiver receiver;
     print1525_received received = {0, 0, 0};
     print1525_device device;
     print1525_step step;
     size_t index;
-    settings.intervals = 1;
-    if (call == 18 || call == 19) {
-        settings.words = call == 18 ? PRINT1525_WORDS_LIST : PRINT1525_WORDS_JSON;
-        print1525_readings(trace, trace_length, &settings, buffer, room, details);
-    } else if (call == 20) {
-        settings.page = PRINT1525_PAGE_PDF;
-        print1525_reprint(trace, trace_length, &settings, buffer, room, details);
-    } else if (call == 21 || call == 22) {
-        settings.words = call == 21 ? PRINT1525_WORDS_STORY : PRINT1525_WORDS_JSON;
-        print1525_check(trace, trace_length, &settings, buffer, room, details);
-    } else if (call == 23) {
-        print1525_explain_script(bad, sizeof bad - 1, &settings, buffer, room, details);
-    } else if (call == 24) {
-        settings.stopped.fault = PRINT1525_STOP_FILE_NOT_OPEN;
-        settings.stopped.place = 7;
-        print1525_explain_stop(script, sizeof script - 1, &settings, buffer, room, details);
-    } else if (call == 25) {
-        print1525_explain_trace(trace, trace_length / 2, &settings, buffer, room, details);
-    } else if (call == 26) {
-        print1525_explain_reading(script, sizeof script - 1, &settings, buffer, room, details);
-    } else if (call == 27) {
-        print1525_edges(trace, trace_length, &settings, (print1525_edge *)(void *)buffer, room / sizeof(print1525_edge), details);
-        details->length *= sizeof(print1525_edge);
-    } else if (call == 28) {
-        settings.page = PRINT1525_PAGE_SVG;
-        settings.sheet = 1;
-        settings.printer = 5;
-        print1525_pages(script, sizeof script - 1, &settings, buffer, room, details);
-    } else {
-        print1525_receiver_begin(&receiver, 4);
+    memset(told, 0, sizeof *told);
+    if (call < TEXTS) {
+        make_text(call, buffer, room, told);
+    } else if (call == DECODER) {
+        print1525_decoder_begin(&decoder, details);
+        for (index = 0; index < COUNT; index++) print1525_decoder_edge(&decoder, &edges[index], &reading, details);
+        print1525_decoder_end(&decoder, &reading, details);
+        buffer[0] = reading.kind;
+        told->length = 1;
+    } else if (call == RECEIVER) {
+        print1525_receiver_begin(&receiver, 4, details);
         for (index = 0; index < COUNT; index++) print1525_receiver_edge(&receiver, &edges[index], &received, details);
         buffer[0] = received.kind;
         print1525_device_begin(&device, 4, NULL, details);
         for (index = 0; index < COUNT; index++) print1525_device_step(&device, &edges[index], &step, details);
+        print1525_device_busy(&device, 9, details);
         buffer[1] = step.pulls_data;
-        details->length = 2;
-    }
-}
-
-/* The calls 34 and 35: pages with the characters of a file, each of them blank. */
-static void make_drawn(int call, uint8_t *buffer, size_t room, print1525_details *details) {
-    static const char *const sets[] = {"upper", "lower"};
-    print1525_settings settings = PRINT1525_SETTINGS_INIT;
-    static char characters[16384];
-    size_t length = 0, set, code;
-    for (set = 0; set < 2; set++)
-        for (code = 32; code < 224; code += code == 95 ? 65 : 1)
-            length += (size_t)snprintf(characters + length, sizeof characters - length, "%s %lu\n......\n......\n......\n......\n......\n......\n......\n", sets[set], (unsigned long)code);
-    settings.characters = characters;
-    settings.characters_length = length;
-    settings.page = PRINT1525_PAGE_SVG;
-    if (call == 34) print1525_pages(script, sizeof script - 1, &settings, buffer, room, details);
-    else print1525_raw(script, sizeof script - 1, &settings, buffer, room, details);
-}
-
-static void make(int call, uint8_t *buffer, size_t room, print1525_details *details) {
-    static const uint16_t inputs[] = {65, 66, PRINT1525_SELECT_LOWER, 67, 13, 8, 255, 13};
-    print1525_settings settings = PRINT1525_SETTINGS_INIT;
-    print1525_decoder decoder;
-    print1525_reading reading;
-    print1525_strict strict;
-    uint16_t received[8], input = 0;
-    size_t index;
-    memset(details, 0, sizeof *details);
-    if (call >= 18) {
-        if (call >= 34) make_drawn(call, buffer, room, details);
-        else if (call >= 30) make_printed(call, buffer, room, details);
-        else make_more(call, buffer, room, details);
-        return;
-    }
-    settings.from = call == 5 || call == 8 || call == 9 ? PRINT1525_FROM_PETCAT : PRINT1525_FROM_TEXT;
-    if (call < 5) settings.page = (uint8_t)call;
-    settings.trace = call == 7;
-    if (call == 5 || call == 8) {
-        (call == 5 ? print1525_pages : print1525_bus)(petcat, sizeof petcat - 1, &settings, buffer, room, details);
-    } else if (call < 5) {
-        print1525_pages(script, sizeof script - 1, &settings, buffer, room, details);
-    } else if (call < 8) {
-        print1525_bus(script, sizeof script - 1, &settings, buffer, room, details);
-    } else if (call == 9) {
-        print1525_listing(petcat, sizeof petcat - 1, &settings, buffer, room, details);
-    } else if (call < 12) {
-        settings.page = call == 10 ? PRINT1525_PAGE_TEXT : PRINT1525_PAGE_PDF;
-        print1525_raw(script, sizeof script - 1, &settings, buffer, room, details);
-    } else if (call == 12) {
-        settings.page = PRINT1525_PAGE_SVG;
-        print1525_print(inputs, sizeof inputs / sizeof *inputs, &settings, buffer, room, details);
-    } else if (call == 13) {
-        print1525_check(trace, trace_length, &settings, buffer, room, details);
-    } else if (call == 14) {
-        print1525_decoder_begin(&decoder);
-        for (index = 0; index < COUNT; index++) print1525_decoder_edge(&decoder, &edges[index], &reading, details);
-        print1525_decoder_end(&decoder, &reading, details);
-        buffer[0] = reading.kind;
-    } else if (call == 15) {
-        print1525_strict_begin(&strict, 4);
-        for (index = 0; index < COUNT; index++) print1525_strict_edge(&strict, &edges[index], &input, details);
-        print1525_strict_end(&strict, details);
-        buffer[0] = (uint8_t)input;
-    } else if (call == 16) {
-        print1525_strict_edges(4, edges, COUNT, received, 8, details);
-    } else {
+        told->length = 2;
+    } else if (call == WORDS) {
         details->status = PRINT1525_REFUSED;
         details->fault = PRINT1525_FAULT_UNKNOWN_NAME;
         details->place = details->column = 123;
-        details->length = print1525_message(details, (char *)buffer, room);
+        told->length = print1525_message(details, (char *)buffer, room);
+    } else {
+        make_printed(call, buffer, room, told);
     }
 }
 
 /* What each call gives in the main program, and buffers for others. */
-static uint8_t wanted[sizeof calls / sizeof *calls][ROOM], given[ROOM];
-static print1525_details wanted_details[sizeof calls / sizeof *calls];
+static uint8_t wanted[CALLS][ROOM], given[ROOM];
+static answered wanted_answers[CALLS];
 
-static void compare(int call, const print1525_details *details, const uint8_t *buffer, const char *where) {
-    if (memcmp(details, &wanted_details[call], sizeof *details) != 0 || memcmp(buffer, wanted[call], details->length) != 0) {
-        fprintf(stderr, "WRONG: %s %s: status %d, fault %d\n", calls[call].name, where, details->status, details->fault);
+static void compare(int call, const answered *told, const uint8_t *buffer, const char *where) {
+    if (memcmp(told, &wanted_answers[call], sizeof *told) != 0 || memcmp(buffer, wanted[call], told->length) != 0) {
+        fprintf(stderr, "WRONG: %s %s, %d: status %d, fault %d\n", name_of(call), where, call, told->details.status, told->details.fault);
         wrong = 1;
     }
 }
 
 static int call_now;
-static print1525_details thread_details;
+static answered thread_answer;
 
 static void *run(void *unused) {
-    make(call_now, given, ROOM, &thread_details);
+    make(call_now, given, ROOM, &thread_answer);
     return unused;
 }
 
@@ -315,16 +305,16 @@ static void try_stacks(int tells) {
     for (call = 0; call < CALLS; call++) {
         size_t used = stack_of(call, stack + guard, size);
         used = used > none ? used - none : 0;
-        if (tells) printf("%s %lu\n", calls[call].name, (unsigned long)used);
-        compare(call, &thread_details, given, "on a thread");
+        if (tells) printf("%d %s %lu\n", call, name_of(call), (unsigned long)used);
+        compare(call, &thread_answer, given, "on a thread");
         /* (What `make` takes itself is a part of it.) */
-        if (used > calls[call].stack) is_wrong(calls[call].name, used);
+        if (used > stack_most(call)) is_wrong(name_of(call), used);
     }
     /* A thread with that stack and no more, above memory that faults. */
     for (call = 0; call < CALLS; call++) {
         const size_t small = (PRINT1525_STACK + none + 2 * guard - 1) / guard * guard;
         stack_of(call, stack + guard, small);
-        compare(call, &thread_details, given, "on a small stack");
+        compare(call, &thread_answer, given, "on a small stack");
     }
 }
 
@@ -333,10 +323,10 @@ static void try_fork(void) {
     for (call = 0; call < CALLS; call++) {
         const pid_t child = fork();
         if (child == 0) {
-            print1525_details details;
+            answered told;
             memset(given, 0x11, sizeof given);
-            make(call, given, ROOM, &details);
-            compare(call, &details, given, "in a child");
+            make(call, given, ROOM, &told);
+            compare(call, &told, given, "in a child");
             _exit(wrong);
         }
         if (child < 0 || waitpid(child, &status, 0) != child || status != 0) is_wrong("a child, call", (unsigned long)call);
@@ -347,13 +337,13 @@ static volatile sig_atomic_t signals;
 
 static void handle(int signal) {
     static uint8_t buffer[HANDLERS_ROOM];
-    print1525_details details;
+    answered told;
     int call;
     (void)signal;
     for (call = 0; call < CALLS; call++) {
         if (!is_for_handlers(call)) continue;
-        make(call, buffer, sizeof buffer, &details);
-        if (memcmp(&details, &wanted_details[call], sizeof details) != 0) wrong = 1;
+        make(call, buffer, sizeof buffer, &told);
+        if (memcmp(&told, &wanted_answers[call], sizeof told) != 0) wrong = 1;
     }
     signals++;
 }
@@ -371,9 +361,9 @@ static void try_signals(void) {
     if (sigaction(SIGALRM, &action, NULL) != 0 || setitimer(ITIMER_REAL, &every, NULL) != 0) exit(98);
     for (round = 0; round < 200 && (round < 3 || signals < 50); round++)
         for (call = 0; call < CALLS; call++) {
-            print1525_details details;
-            make(call, given, ROOM, &details);
-            compare(call, &details, given, "among signals");
+            answered told;
+            make(call, given, ROOM, &told);
+            compare(call, &told, given, "among signals");
         }
     setitimer(ITIMER_REAL, &never, NULL);
     if (signals == 0) is_wrong("no signal came", 0);
@@ -382,19 +372,19 @@ static void try_signals(void) {
 int main(int words, char **word) {
     static uint8_t text[ROOM];
     print1525_details details;
+    answered told;
     int call;
     (void)word;
-    print1525_bus(petcat, 0, NULL, trace, sizeof trace, &details);
-    print1525_bus("OPEN 4,4\nPRINT#4,\"A\"\n", 21, NULL, trace, sizeof trace, &details);
+    print1525_bus(petcat, 0, NULL, trace, sizeof trace, &trace_length, &details);
+    print1525_bus("OPEN 4,4\nPRINT#4,\"A\"\n", 21, NULL, trace, sizeof trace, &trace_length, &details);
     if (details.status != PRINT1525_DONE) is_wrong("no trace", (unsigned long)details.fault);
-    trace_length = details.length;
     for (call = 0; call < CALLS; call++) {
         memset(wanted[call], 0xA5, ROOM);
-        make(call, wanted[call], ROOM, &wanted_details[call]);
-        if (!is_for_handlers(call) && wanted_details[call].status > PRINT1525_STOPPED) is_wrong("no text, call", (unsigned long)call);
+        make(call, wanted[call], ROOM, &wanted_answers[call]);
+        if (!is_for_handlers(call) && wanted_answers[call].length == 0) is_wrong("no text, call", (unsigned long)call);
         memset(text, 0x3C, ROOM);
-        make(call, text, ROOM, &details);
-        compare(call, &details, text, "in another buffer");
+        make(call, text, ROOM, &told);
+        compare(call, &told, text, "in another buffer");
     }
     try_stacks(words > 1);
     try_fork();

@@ -1,11 +1,11 @@
-/* The proved exports of pr_exports over small inputs: what each answers, and what it leaves in its buffer. The header's
- * own functions call those that include/print1525.h declares. The page in a browser alone calls the others, which are
+/* The proved exports of pr_exports over small inputs: what each answers, and what it leaves in its buffer. The functions
+ * of the library call those that library/plain.h declares. The page in a browser alone calls the others, which are
  * in no library for C: the archive of the crate is linked beside it, or WITHOUT_PAGE is defined.
  *
  * Standard input is examples/hello.trace. Each buffer holds sevens before a call. What a call may not write still does
  * after it: all that is behind its answer, and the whole buffer where it answers nothing. Status 0, else 1 and a line
  * for each row that is WRONG. */
-#include "print1525.h"
+#include "../../library/plain.h"
 #include <stdio.h>
 #include <string.h>
 
@@ -16,8 +16,6 @@
 #define MORE_THAN(length) (length) + 1, SIZE_MAX
 #define EXACTLY(length) (length), (length)
 #define ANY 0, SIZE_MAX
-/* A text that is known to its end, by its length and its front. */
-#define WHOLE(text) EXACTLY(sizeof(text) - 1), text
 
 static int wrong;
 static const print1525_plain_numbers before = {SEVEN, SEVEN, SEVEN, SEVEN};
@@ -47,45 +45,11 @@ typedef struct text_row {
     const char *name;
     void (*call)(const struct text_row *row, print1525_plain_numbers *answer);
     const char *input;
-    uint8_t number;  /* the format of the recording, the form of the listing, or the error that stopped the run */
-    uint8_t wording; /* of readings */
+    uint8_t number; /* the form of the listing */
     size_t room;
     size_t code, fault, place, least, most;
     const char *front; /* what the text begins with */
 } text_row;
-
-static void readings(const text_row *row, print1525_plain_numbers *answer) {
-    print1525_plain_readings(RECORDING(row), row->wording, text, row->room, answer);
-}
-
-/* As SVG, of all printers and sheets, with this project's characters. */
-static void reprint(const text_row *row, print1525_plain_numbers *answer) {
-    print1525_plain_reprint(RECORDING(row), 2, 0, 0, 3, 0, 2, bytes(""), 0, text, row->room, answer);
-}
-
-static void explain_script(const text_row *row, print1525_plain_numbers *answer) {
-    print1525_plain_explain_script(bytes(row->input), strlen(row->input), text, row->room, answer);
-}
-
-/* At the first statement, with a status of its own for each statement, and with both printers. */
-static void explain_stop(const text_row *row, print1525_plain_numbers *answer) {
-    print1525_plain_explain_stop(bytes(row->input), strlen(row->input), 0, row->number, 1, 1, 1, text, row->room,
-                                 answer);
-}
-
-static void explain_trace(const text_row *row, print1525_plain_numbers *answer) {
-    print1525_plain_explain_trace(RECORDING(row), text, row->room, answer);
-}
-
-/* The same, of a table in which a name is searched for that is no text. */
-static void explain_name(const text_row *row, print1525_plain_numbers *answer) {
-    print1525_plain_explain_trace(bytes(row->input), strlen(row->input), row->number, bytes("ATN"), 3,
-                                  bytes("D\377"), 2, bytes("DATA"), 4, 0, 0, 0, text, row->room, answer);
-}
-
-static void explain_reading(const text_row *row, print1525_plain_numbers *answer) {
-    print1525_plain_explain_reading(RECORDING(row), text, row->room, answer);
-}
 
 static void listing(const text_row *row, print1525_plain_numbers *answer) {
     print1525_plain_listing(bytes(row->input), strlen(row->input), row->number, text, row->room, answer);
@@ -103,35 +67,10 @@ static void print(const text_row *row, print1525_plain_numbers *answer) {
 }
 
 static const text_row text_rows[] = {
-    {"no frame", readings, "0 111\n", 0, 0, 999, 0, 0, 0, MORE_THAN(9), "frames: 0, commands: 0, data bytes: 0\nnot acknowledged: 0\n"},
-    {"no room", readings, "0 111\n", 0, 0, 0, 4, 0, 0, MORE_THAN(99), ""},
-    {"a bad line", readings, "0 111\n5 11\n", 0, 0, 999, 2, 8, 2, EXACTLY(0), ""},
-    {"a table without CLOCK", readings, "Time [s],ATN,DATA\n0,1,1\n", 2, 0, 999, 2, 32, 1, ANY, ""},
-    {"no format of a recording", readings, "0 111\n", 5, 0, 999, 2, 29, 0, EXACTLY(0), ""},
-    {"JSON", readings, "0 111\n", 0, 4, 999, 0, 0, 0, MORE_THAN(1), "{"},
-    {"a number that means no wording", readings, "0 111\n", 0, 5, 999, 2, 20, 0, EXACTLY(0), ""},
-    {"SVG", reprint, "0 111\n", 0, 0, 9999, 0, 0, 0, MORE_THAN(5), "<svg "},
-    {"a refused script", explain_script, "OPEN 4,4\nPRUNT", 0, 0, 999, 0, 0, 2, MORE_THAN(40),
-     "  PRUNT\n  ^\n  line 2, column 1: expected "},
-    {"a run that stops", explain_stop, "PRINT#5", 3, 0, 999, 0, 0, 1, MORE_THAN(50),
-     "?FILE NOT OPEN  ERROR (statement 1)\n  line 1: PRINT#5\n"},
-    {"a stop that does not come", explain_stop, "PRINT#5", 4, 0, 999, 2, 30, 0, EXACTLY(0), ""},
-    {"a line that is no edge", explain_trace, "0 11\n", 0, 0, 999, 0, 0, 1, MORE_THAN(10), "  line 1: "},
-    {"nothing to explain", explain_reading, "0 111\n", 0, 0, 999, 0, 0, 0, EXACTLY(0), ""},
-    {"nothing_to_explain, a recording", explain_reading, "0 111\n0 001\n9 001\n", 0, 0, 999, 0, 0, 0, EXACTLY(0), ""},
-    {"nothing_to_explain, a trace", explain_trace, trace, 0, 0, 999, 0, 0, 0, EXACTLY(0), ""},
-    {"nothing_to_explain, a script", explain_script, "10 OPEN 4,4\r\n20 PRINT#4,\"A\";CHR$(65)\n", 0, 0, 999, 0, 0, 0,
-     EXACTLY(0), ""},
-    {"names_that_are_no_text", explain_name, "t,ATN,D1,DATA\n", 2, 0, 999, 0, 0, 1,
-     WHOLE("  line 1: t,ATN,D1,DATA\n"
-           "  found no signal named D\\xFF for the CLOCK line\n"
-           "  the first column is named t\n"
-           "  the recording has the signals ATN, D1, DATA\n"
-           "  name the signals of ATN, CLOCK and DATA with --names, such as --names D0,D1,D2\n")},
-    {"a letter", print, "sA\r", 0, 0, 999, 0, 0, 0, MORE_THAN(9), "printer 4"},
-    {"no input", print, "Ax", 0, 0, 999, 2, 28, 1, EXACTLY(0), ""},
-    {"no name of petcat's", listing, "10 print \"{nix}\"\n", 2, 0, 999, 2, 63, 1, MORE_THAN(1), ""},
-    {"no form of a listing", listing, "REM", 5, 0, 999, 2, 60, 0, EXACTLY(0), ""},
+    {"a letter", print, "sA\r", 0, 999, 0, 0, 0, MORE_THAN(9), "printer 4"},
+    {"no input", print, "Ax", 0, 999, 2, 28, 1, EXACTLY(0), ""},
+    {"no name of petcat's", listing, "10 print \"{nix}\"\n", 2, 999, 2, 63, 1, MORE_THAN(1), ""},
+    {"no form of a listing", listing, "REM", 5, 999, 2, 60, 0, EXACTLY(0), ""},
 };
 
 static void try_text(const text_row *row) {
@@ -148,133 +87,6 @@ static void try_text(const text_row *row) {
         wrong = 1;
     } else if (!is_untouched(text, answer.code == 0 ? answer.length : 0)) {
         fprintf(stderr, "WRONG: %s: more is written than the text\n", row->name);
-        wrong = 1;
-    }
-}
-
-/* ---- Errors of statements. ---- */
-
-/* The device is that of the file's last OPEN before the statement. */
-#define DEVICES "OPEN 1,4:OPEN 2,30\nCLOSE 1\nOPEN 1,5\nCMD 1\nPRINT#2\nOPEN 2,9\nPRINT#3\nREM\n"
-/* A present printer answers each LISTEN, so it is the byte held back that nobody answers. */
-#define HELD_BACK "OPEN 4,4,7:OPEN 5,5:OPEN 9,9\nCMD 4:CLOSE 4:PRINT \"X\"\nPRINT#5,\"Y\"\nCMD 9\nPRINT#9\nPRINT#3\n"
-
-typedef struct {
-    const char *script;
-    uint8_t kept; /* whether the status is */
-    uint8_t stop; /* the number of the error */
-    size_t statement;
-    uint8_t four, five; /* whether the printers are present */
-    size_t line;
-    const char *told;
-} stop_row;
-
-/* errors_of_statements: errors at any statement, also at those that no run stops at. */
-static const stop_row stop_rows[] = {
-    {"10 OPEN 4,4\n20 OPEN 7,7:PRINT#7,\"A:B\":REM :\n30 CLOSE 7\n", 0, 5, 3, 0, 0, 2,
-     "?DEVICE NOT PRESENT  ERROR IN 20 (statement 3)\n"
-     "  line 2: 20 OPEN 7,7:PRINT#7,\"A:B\":REM :\n"
-     "  device 7 does not answer; --present sets which of printers 4 and 5 are connected\n"},
-    {"OPEN 4,4\r\n\r\nPRINT#5,\"X\"", 0, 3, 2, 0, 0, 3,
-     "?FILE NOT OPEN  ERROR (statement 2)\n"
-     "  line 3: PRINT#5,\"X\"\n"
-     "  the file is not open; open it first\n"},
-    {"  63999  OPEN 4,4:OPEN 4,4\n", 0, 2, 2, 0, 0, 1,
-     "?FILE OPEN  ERROR IN 63999 (statement 2)\n"
-     "  line 1:   63999  OPEN 4,4:OPEN 4,4\n"
-     "  the file is already open; close it first\n"},
-    {"OPEN 4,4\nOPEN 5,5\nPRINT#5,\"A\"\nPRINT#4,\"B\"\n", 1, 5, 4, 0, 0, 4,
-     "?DEVICE NOT PRESENT  ERROR (statement 4)\n"
-     "  line 4: PRINT#4,\"B\"\n"
-     "  no printer answered, here or at an earlier statement (--status kept); --present sets which of printers 4 and "
-     "5 are connected\n"},
-    {"OPEN 4,4,7:OPEN 5,5:CMD 4:CLOSE 4:PRINT \"X\":CMD 5\n", 1, 5, 6, 1, 1, 1,
-     "?DEVICE NOT PRESENT  ERROR (statement 6)\n"
-     "  line 1: OPEN 4,4,7:OPEN 5,5:CMD 4:CLOSE 4:PRINT \"X\":CMD 5\n"
-     "  no printer was listening to a byte sent here or at an earlier statement (--status kept)\n"},
-    {"0030 CLOSE 4:PRINT#4", 0, 3, 2, 0, 0, 1,
-     "?FILE NOT OPEN  ERROR IN 30 (statement 2)\n"
-     "  line 1: 0030 CLOSE 4:PRINT#4\n"
-     "  the file is not open; open it first\n"},
-    {"000PRINT#4", 0, 3, 1, 0, 0, 1,
-     "?FILE NOT OPEN  ERROR IN 0 (statement 1)\n"
-     "  line 1: 000PRINT#4\n"
-     "  the file is not open; open it first\n"},
-    {DEVICES, 0, 5, 5, 0, 0, 4,
-     "?DEVICE NOT PRESENT  ERROR (statement 5)\n"
-     "  line 4: CMD 1\n"
-     "  device 5 does not answer; --present sets which of printers 4 and 5 are connected\n"},
-    {DEVICES, 0, 5, 6, 0, 0, 5,
-     "?DEVICE NOT PRESENT  ERROR (statement 6)\n"
-     "  line 5: PRINT#2\n"
-     "  device 30 does not answer; --present sets which of printers 4 and 5 are connected\n"},
-    {DEVICES, 0, 5, 7, 0, 0, 6,
-     "?DEVICE NOT PRESENT  ERROR (statement 7)\n"
-     "  line 6: OPEN 2,9\n"
-     "  device 9 does not answer; --present sets which of printers 4 and 5 are connected\n"},
-    {DEVICES, 0, 5, 8, 0, 0, 7,
-     "?DEVICE NOT PRESENT  ERROR (statement 8)\n"
-     "  line 7: PRINT#3\n"
-     "  no printer answers; --present sets which of printers 4 and 5 are connected\n"},
-    {DEVICES, 0, 5, 9, 0, 0, 8,
-     "?DEVICE NOT PRESENT  ERROR (statement 9)\n"
-     "  line 8: REM\n"
-     "  no printer answers; --present sets which of printers 4 and 5 are connected\n"},
-    {HELD_BACK, 0, 5, 7, 1, 1, 3,
-     "?DEVICE NOT PRESENT  ERROR (statement 7)\n"
-     "  line 3: PRINT#5,\"Y\"\n"
-     "  no printer was listening to the last byte printed before this statement, which is sent only now\n"},
-    {HELD_BACK, 0, 5, 7, 0, 1, 3,
-     "?DEVICE NOT PRESENT  ERROR (statement 7)\n"
-     "  line 3: PRINT#5,\"Y\"\n"
-     "  no printer was listening to the last byte printed before this statement, which is sent only now\n"},
-    {HELD_BACK, 0, 5, 7, 1, 0, 3,
-     "?DEVICE NOT PRESENT  ERROR (statement 7)\n"
-     "  line 3: PRINT#5,\"Y\"\n"
-     "  no printer was listening to the last byte printed before this statement, which is sent only now; device 5 is "
-     "not connected either: --present sets which of printers 4 and 5 are connected\n"},
-    {HELD_BACK, 0, 5, 9, 1, 1, 5,
-     "?DEVICE NOT PRESENT  ERROR (statement 9)\n"
-     "  line 5: PRINT#9\n"
-     "  no printer was listening to the last byte printed before this statement, which is sent only now; device 9 is "
-     "not connected either: --present sets which of printers 4 and 5 are connected\n"},
-    {HELD_BACK, 0, 5, 10, 1, 1, 6,
-     "?DEVICE NOT PRESENT  ERROR (statement 10)\n"
-     "  line 6: PRINT#3\n"
-     "  no printer was listening to the last byte printed before this statement, which is sent only now\n"},
-    {"REM", 0, 1, 1, 0, 0, 1,
-     "?TOO MANY FILES  ERROR (statement 1)\n"
-     "  line 1: REM\n"
-     "  ten files are already open; close one first\n"},
-    {"REM", 0, 2, 1, 0, 0, 1,
-     "?FILE OPEN  ERROR (statement 1)\n"
-     "  line 1: REM\n"
-     "  the file is already open; close it first\n"},
-    {"REM", 0, 3, 1, 0, 0, 1,
-     "?FILE NOT OPEN  ERROR (statement 1)\n"
-     "  line 1: REM\n"
-     "  the file is not open; open it first\n"},
-    {"REM", 0, 5, 1, 0, 0, 1,
-     "?DEVICE NOT PRESENT  ERROR (statement 1)\n"
-     "  line 1: REM\n"
-     "  no printer answers; --present sets which of printers 4 and 5 are connected\n"},
-    {"REM", 0, 6, 1, 0, 0, 1,
-     "?NOT INPUT FILE  ERROR (statement 1)\n"
-     "  line 1: REM\n"
-     "  file 0 cannot be opened; use 1 to 255\n"},
-};
-
-static void try_stop(const stop_row *row) {
-    print1525_plain_numbers answer = before;
-    const size_t length = strlen(row->told);
-    memset(text, SEVEN, sizeof text);
-    print1525_plain_explain_stop(bytes(row->script), strlen(row->script), row->kept, row->stop, row->statement,
-                                 row->four, row->five, text, sizeof text, &answer);
-    if (answer.code != 0 || answer.fault != 0 || answer.place != row->line || answer.length != length ||
-        memcmp(text, row->told, length) != 0 || !is_untouched(text, length)) {
-        fprintf(stderr, "WRONG: error %u at statement %u of %s: code %u, line %u, %.*s\n", (unsigned)row->stop,
-                (unsigned)row->statement, row->script, (unsigned)answer.code, (unsigned)answer.place,
-                (int)(answer.length < ROOM ? answer.length : 0), (const char *)text);
         wrong = 1;
     }
 }
@@ -322,6 +134,8 @@ void print1525_statement_lines(const uint8_t *script, size_t length, uint64_t *b
                                print1525_plain_numbers *answer);
 void print1525_script_fault(const uint8_t *script, size_t length, uint64_t *buffer, size_t capacity,
                             print1525_plain_numbers *answer);
+void print1525_names(const uint8_t *words, size_t words_length, uint8_t *names, size_t capacity, uint8_t *messages,
+                     size_t messages_capacity, print1525_plain_end *end);
 #ifdef __cplusplus
 }
 #endif
@@ -491,6 +305,7 @@ static void try_runs(void) {
     }
 }
 
+#ifndef WITHOUT_PAGE
 /* The names of the files that words name: one that is read, none that is written, and none of characters. */
 static void try_names(void) {
     static const program_row row = {"print1525 pages a.bas", "", 3, 999, 999, 0, 0, 0, 0, EXACTLY(9), ANY, "=a.bas"};
@@ -499,10 +314,11 @@ static void try_names(void) {
     const size_t length = zeros_between(row.words, words);
     memset(output, SEVEN, sizeof output);
     memset(messages, SEVEN, sizeof messages);
-    print1525_plain_names(words, length, output, row.output_room, messages, row.messages_room, &end);
+    print1525_names(words, length, output, row.output_room, messages, row.messages_room, &end);
     compare(&row, &end);
     if (output[6] != 0 || output[7] != 0 || output[8] != 0) is_wrong(&row, "another end of the names", &end);
 }
+#endif
 
 /* ---- A device on the bus. ---- */
 
@@ -717,12 +533,13 @@ int main(void) {
     size_t n = fread(trace, 1, sizeof trace - 1, stdin);
     trace[n] = 0;
     for (n = 0; n < COUNT(text_rows); n++) try_text(&text_rows[n]);
-    for (n = 0; n < COUNT(stop_rows); n++) try_stop(&stop_rows[n]);
     for (n = 0; n < COUNT(number_rows); n++) try_numbers(&number_rows[n]);
     for (n = 0; n < COUNT(program_rows); n++) try_program(&program_rows[n]);
     for (n = 0; n < COUNT(answer_rows); n++) try_answer(&answer_rows[n]);
     try_runs();
+#ifndef WITHOUT_PAGE
     try_names();
+#endif
     try_device();
     return wrong;
 }

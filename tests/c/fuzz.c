@@ -16,8 +16,8 @@
 
 #define ROOM (1 << 18)
 #define UNTOUCHED 0xA5
-/* How many settings are numbers of a byte, from `present` on. */
-#define SETTINGS 14
+/* How many settings are numbers of a byte, from the first on. */
+#define SETTINGS 16
 /* Where a printer has no room for a line more: only one of damaged numbers comes there. */
 #define LAST_LINE (((uint64_t)1 << 63) - 9999)
 
@@ -118,46 +118,52 @@ static const uint16_t *made_numbers(uint8_t *memory, size_t most, size_t *length
     return front;
 }
 
-static print1525_settings made_settings(uint8_t *memories[4]) {
+/* Numbers as of --delays, or what is none, at the end of its memory. */
+static const char *made_text(uint8_t *memory, const char *signs) {
+    const size_t length = below(30);
+    char *const front = (char *)memory + ROOM - length - 1;
+    size_t index;
+    for (index = 0; index < length; index++) front[index] = below(9) ? signs[below(strlen(signs))] : (char)(1 + below(255));
+    front[length] = '\0';
+    return front;
+}
+
+/* Settings that a call mostly reads: `call` is its number. */
+static print1525_settings made_settings(size_t call, uint8_t *memories[4]) {
     print1525_settings made = PRINT1525_SETTINGS_INIT;
     const size_t bad = below(12);
+    const int runs = call == 1 || call == 2, draws = (call == 1 || call == 4 || call == 6 || call == 7), records = call == 0 || call == 5 || call == 6;
     if (bad == 0) {
         size_t index;
-        uint8_t *const bytes = (uint8_t *)(void *)&made.present;
-        for (index = 0; index < SETTINGS; index++) bytes[index] = (uint8_t)drawn();
-    } else {
-        made.printer = (uint8_t)(below(4) ? 0 : 4 + below(2));
-        made.recording = (uint8_t)below(5);
-        made.words = (uint8_t)below(3);
-        made.intervals = (uint8_t)below(2);
-        made.bounds = (uint8_t)below(2);
-        made.inverted = (uint8_t)below(2);
-        made.sheet = below(4) ? 0 : below(3);
-        made.top = (uint8_t)(below(8) ? below(66) : drawn());
-        made.scale = (uint8_t)(below(8) ? 1 + below(8) : drawn());
-        made.paper = (uint8_t)(below(8) ? below(4) : drawn());
-        made.start = below(4) ? 0 : below(2000);
-        made.rate = below(4) ? 0 : drawn() >> below(64);
+        uint8_t *const bytes = (uint8_t *)(void *)&made;
+        for (index = 0; index < SETTINGS; index++) bytes[index] = (uint8_t)(below(2) ? below(4) : drawn());
+    }
+    if (below(4)) made.as = draws ? (uint8_t)(below(2) ? 1 + below(2) : 7 + below(4)) : (uint8_t)below(11);
+    if (below(3) == 0) made.from = (uint8_t)(records ? (below(2) ? 1 + below(2) : 6 + below(2)) : below(6));
+    if (runs && below(2)) {
         made.present = (uint8_t)below(4);
-        made.mode = (uint8_t)below(2);
-        made.from = (uint8_t)(below(4) ? 0 : below(5));
-        made.page = (uint8_t)below(5);
-        made.trace = (uint8_t)below(2);
-        made.set = (uint8_t)below(2);
+        made.status = (uint8_t)below(2);
+        if (below(2)) made.delays = made_text(memories[0], "0123456789,,/");
     }
-    if (bad == 1) made.size = below(2) ? below(100) : (size_t)drawn();
-    if (bad == 2) made.reserved[below(sizeof made.reserved)] = (uint8_t)drawn();
-    if (below(6) == 0) {
-        made.data.bytes = "CLK";
-        made.data.length = below(4);
+    if (call == 4) made.set = (uint8_t)below(2);
+    if (draws && made.as >= PRINT1525_AS_SVG) {
+        made.device = (uint8_t)(below(3) ? 0 : 4 + below(2));
+        if (made.as <= PRINT1525_AS_PNG) made.sheet = below(4) ? 0 : below(3);
+        if (made.as <= PRINT1525_AS_PDF && below(2)) made.top = (uint8_t)(below(8) ? below(66) : drawn());
+        if (made.as == PRINT1525_AS_PNG) made.scale = (uint8_t)(below(8) ? below(9) : drawn());
+        if (made.as == PRINT1525_AS_PDF) made.paper = (uint8_t)below(3), made.holes = made.paper == 0 && below(2);
+        if (made.as <= PRINT1525_AS_PDF && below(6) == 0) made.characters = made_input(memories[3], &made.characters_length);
     }
-    made.computer_delays.numbers = made_numbers(memories[0], 50, &made.computer_delays.length);
-    made.printer4_delays.numbers = made_numbers(memories[1], 9, &made.printer4_delays.length);
-    made.printer5_delays.numbers = made_numbers(memories[2], 9, &made.printer5_delays.length);
-    if (below(6) == 0) made.characters = made_input(memories[3], &made.characters_length);
-    made.stopped.status = PRINT1525_STOPPED;
-    made.stopped.fault = below(9) ? PRINT1525_STOP_TOO_MANY_FILES + (int32_t)below(7) : (int32_t)(drawn() >> 9 & 0x7FFFFFFF);
-    made.stopped.place = below(9) ? below(6) : (size_t)drawn();
+    if (call == 6 && made.as <= PRINT1525_AS_LIST) made.intervals = (uint8_t)below(2), made.bounds = (uint8_t)below(2);
+    if (call == 6 && made.as != PRINT1525_AS_JSON && made.as >= PRINT1525_AS_TEXT && below(3) == 0) made.listening = (uint8_t)below(4), made.set = made.listening && below(2), made.strict = (uint8_t)below(2);
+    if (records && made.from != PRINT1525_FROM_TEXT && (call != 5 || made.from) && below(3) == 0) {
+        made.invert = (uint8_t)below(2);
+        made.from_time = below(4) ? 0 : below(2000);
+        if (made.from != PRINT1525_FROM_VCD) made.rate = below(4) ? 0 : drawn() >> below(64);
+        if (below(3) == 0) made.names = below(2) ? "ATN,CLK,DATA" : made_text(memories[1], "ABC,,");
+    }
+    if (call != 0 && call != 3 && call != 7 && below(8) == 0) made.explain = 1;
+    if (bad == 1) made.reserved[below(4)] = drawn();
     return made;
 }
 
@@ -168,32 +174,44 @@ static int is_untouched(const uint8_t *bytes, size_t count) {
     return 1;
 }
 
-/* The details belong to the status; with a text before its fault they may be those of a recording. */
-static void test_details(const char *call, int status, const print1525_details *details, size_t capacity, int may_be_cut) {
+/* The details belong to the status, and the length to both; with a text before its fault they may be those of a recording. */
+static void test_details(const char *call, int status, const print1525_details *details, size_t length, size_t capacity, int may_be_cut) {
     char message[99];
-    const size_t length = print1525_message(details, message, sizeof message);
+    const size_t said = print1525_message(details, message, sizeof message);
+    const int is_told = status != PRINT1525_DONE && details->fault != PRINT1525_FAULT_NONE;
     if (status != details->status || status < 0 || status > 3) is_wrong(call, "the status");
-    if ((status == PRINT1525_DONE) != (details->fault == PRINT1525_FAULT_NONE)) is_wrong(call, "a fault");
-    if ((status == PRINT1525_STOPPED) != (details->fault > 100)) is_wrong(call, "a BASIC error");
+    if (status == PRINT1525_DONE && details->fault != PRINT1525_FAULT_NONE) is_wrong(call, "a fault");
+    if (status > PRINT1525_STOPPED && details->fault == PRINT1525_FAULT_NONE) is_wrong(call, "no fault");
+    if (status != PRINT1525_STOPPED && details->fault > 100) is_wrong(call, "a BASIC error");
     if ((status == PRINT1525_FAILED) != (details->fault == PRINT1525_FAULT_NO_MEMORY || details->fault == PRINT1525_FAULT_TOO_SMALL)) is_wrong(call, "a failure");
-    if ((details->length > capacity) != (details->fault == PRINT1525_FAULT_TOO_SMALL)) is_wrong(call, "the length");
-    if (status == PRINT1525_REFUSED && details->length != 0 && !may_be_cut) is_wrong(call, "the length of nothing");
-    if ((length == 0) != (status == PRINT1525_DONE) || length >= sizeof message || strlen(message) != length) is_wrong(call, "the message");
-    if (status != PRINT1525_DONE && strcmp(print1525_strerror(details->fault), "no fault") == 0) is_wrong(call, "a fault without words");
+    if ((length > capacity) != (details->fault == PRINT1525_FAULT_TOO_SMALL)) is_wrong(call, "the length");
+    if (status == PRINT1525_REFUSED && length != 0 && !may_be_cut) is_wrong(call, "the length of nothing");
+    if ((said != 0) != is_told || said >= sizeof message || strlen(message) != said) is_wrong(call, "the message");
+    if (is_told && strcmp(print1525_strerror(details->fault), "no fault") == 0) is_wrong(call, "a fault without words");
 }
 
-/* The calls that take an input and settings, by their numbers; print is the last. */
-typedef int text_call(const void *, size_t, const print1525_settings *, void *, size_t, print1525_details *);
+/* The same of a call that fills no buffer. */
+static void test_told(const char *call, int status, const print1525_details *details) { test_details(call, status, details, 0, 0, 0); }
+
+/* The calls that take an input and settings, by their numbers. */
+typedef int text_call(const void *, size_t, const print1525_settings *, void *, size_t, size_t *, print1525_details *);
 
 /* Edges as items of sixteen bytes. */
-static int edges(const void *input, size_t length, const print1525_settings *settings, void *buffer, size_t capacity, print1525_details *details) {
-    const int status = print1525_edges(input, length, settings, (print1525_edge *)buffer, capacity / sizeof(print1525_edge), details);
-    details->length *= sizeof(print1525_edge);
+static int edges(const void *input, size_t count, const print1525_settings *settings, void *buffer, size_t capacity, size_t *length, print1525_details *details) {
+    const int status = print1525_edges(input, count, settings, (print1525_edge *)buffer, capacity / sizeof(print1525_edge), length, details);
+    *length *= sizeof(print1525_edge);
     return status;
 }
 
-static int print(const void *input, size_t length, const print1525_settings *settings, void *buffer, size_t capacity, print1525_details *details) {
-    return print1525_print((const uint16_t *)input, length, settings, buffer, capacity, details);
+static int print(const void *input, size_t count, const print1525_settings *settings, void *buffer, size_t capacity, size_t *length, print1525_details *details) {
+    return print1525_print((const uint16_t *)input, count, settings, buffer, capacity, length, details);
+}
+
+static const char *words_now[8];
+
+static int answer(const void *input, size_t count, const print1525_settings *settings, void *buffer, size_t capacity, size_t *length, print1525_details *details) {
+    (void)settings;
+    return print1525_answer(words_now, input, count, buffer, capacity, length, details);
 }
 
 static const struct {
@@ -202,27 +220,37 @@ static const struct {
     int may_be_cut;
 } calls[] = {
     {"edges", edges, 1}, {"pages", print1525_pages, 0}, {"bus", print1525_bus, 0}, {"listing", print1525_listing, 0}, {"raw", print1525_raw, 0},
-    {"check", print1525_check, 1}, {"readings", print1525_readings, 1}, {"reprint", print1525_reprint, 1}, {"explain_script", print1525_explain_script, 0},
-    {"explain_stop", print1525_explain_stop, 0}, {"explain_trace", print1525_explain_trace, 0}, {"explain_reading", print1525_explain_reading, 0}, {"print", print, 0},
+    {"check", print1525_check, 1}, {"decode", print1525_decode, 1}, {"print", print, 0}, {"answer", answer, 1},
 };
 #define CALLS (sizeof calls / sizeof *calls)
-#define PRINT (CALLS - 1)
+#define PRINT (CALLS - 2)
+
+/* Words of a command line, some of them no word of any. */
+static void make_words(void) {
+    static const char *const some[] = {"pages", "bus", "check", "decode", "raw", "--as", "text", "svg", "json", "--from", "auto", "csv", "--explain", "--help", "--status", "kept", "--quiet", "--characters", "upper 32\n", "", "\377"};
+    size_t index;
+    words_now[0] = some[below(5)];
+    for (index = 1; index < below(7); index++) words_now[index] = some[below(sizeof some / sizeof *some)];
+    words_now[index] = NULL;
+}
 
 static void try_text(uint8_t *memories[6]) {
     static uint8_t before[8192], text[ROOM];
     const size_t call = below(CALLS);
     const char *const name = calls[call].name;
-    const print1525_settings drawn_settings = made_settings(memories);
+    const print1525_settings drawn_settings = made_settings(call, memories);
     print1525_settings settings = drawn_settings;
     const print1525_settings *const with = below(30) ? &settings : NULL;
+    const int may_be_cut = calls[call].may_be_cut || (with != NULL && settings.explain);
     print1525_details details, again;
-    size_t length, size, capacity, overlap = below(40);
+    size_t count, size, capacity, length = 77, other = 77, overlap = below(40);
     const void *input;
     uint8_t *buffer;
     int status;
-    if (call == PRINT) input = made_numbers(memories[4], 300, &length);
-    else input = made_input(memories[4], &length);
-    size = call == PRINT ? 2 * length : length;
+    make_words();
+    if (call == PRINT) input = made_numbers(memories[4], 300, &count);
+    else input = made_input(memories[4], &count);
+    size = call == PRINT ? 2 * count : count;
     if (size) memcpy(before, input, size);
     live = taken = 0;
     refused_one = below(6) ? 0 : 1 + (long)below(60);
@@ -234,22 +262,22 @@ static void try_text(uint8_t *memories[6]) {
         /* The buffer begins within the input. */
         uint8_t *const inside = (uint8_t *)memories[4] + ROOM - size + below(size);
         capacity = 1 + below((size_t)(memories[4] + ROOM - inside));
-        status = calls[call].call(input, length, &settings, inside, capacity, &details);
-        if (status != PRINT1525_REFUSED || (details.fault != PRINT1525_FAULT_OVERLAP && details.fault != PRINT1525_FAULT_BAD_SETTINGS)) is_wrong(name, "an overlap");
+        status = calls[call].call(input, count, &settings, inside, capacity, &length, &details);
+        if (status != PRINT1525_REFUSED || details.fault != PRINT1525_FAULT_OVERLAP || length != 0) is_wrong(name, "an overlap");
         if (memcmp(before, input, size) != 0) is_wrong(name, "an input beside an overlap");
         return;
     }
-    status = calls[call].call(input, length, with, buffer, capacity, &details);
-    test_details(name, status, &details, capacity, calls[call].may_be_cut);
+    status = calls[call].call(input, count, with, buffer, capacity, &length, &details);
+    test_details(name, status, &details, length, capacity, may_be_cut);
     if (live != 0) is_wrong(name, "memory");
     if (size && memcmp(before, input, size) != 0) is_wrong(name, "the input");
     if (memcmp(&settings, &drawn_settings, sizeof settings) != 0) is_wrong(name, "the settings");
-    size = length;
-    length = status <= PRINT1525_REFUSED ? details.length : 0;
+    if (status > PRINT1525_REFUSED) length = 0;
     if (!is_untouched(memories[5], ROOM - capacity) || !is_untouched(memories[5] + ROOM - capacity + length, capacity - length)) is_wrong(name, "the buffer");
     if (refused_one || buffer == NULL) return;
     memcpy(text, buffer, length);
-    if (calls[call].call(input, size, with, buffer, capacity, &again) != status || memcmp(&again, &details, sizeof again) != 0 || memcmp(text, buffer, length) != 0)
+    if (calls[call].call(input, count, with, buffer, capacity, &other, &again) != status || memcmp(&again, &details, sizeof again) != 0 ||
+        (status <= PRINT1525_REFUSED && other != length) || memcmp(text, buffer, length) != 0)
         is_wrong(name, "another answer");
 }
 
@@ -282,7 +310,8 @@ static void try_decoder(uint8_t *memories[6]) {
     print1525_edge *const edge = (print1525_edge *)(void *)(memories[3] + ROOM - sizeof *edge);
     uint64_t time = below(1000);
     size_t count;
-    print1525_decoder_begin(decoder);
+    test_told("decoder_begin", print1525_decoder_begin(decoder, details), details);
+    if (print1525_decoder_size() != sizeof *decoder || print1525_receiver_size() != sizeof(print1525_receiver)) is_wrong("decoder_size", "the size");
     for (count = below(40); count > 0; count--) {
         print1525_decoder before, other;
         print1525_reading settled;
@@ -290,12 +319,12 @@ static void try_decoder(uint8_t *memories[6]) {
         if (below(30) == 0) damage(decoder, sizeof *decoder);
         *edge = made_edge(&time);
         before = other = *decoder;
-        test_details("decoder_edge", print1525_decoder_edge(decoder, edge, reading, details), details, 1, 0);
+        test_told("decoder_edge", print1525_decoder_edge(decoder, edge, reading, details), details);
         if (details->status != PRINT1525_DONE && memcmp(&before, decoder, sizeof before) != 0) is_wrong("decoder_edge", "a decoder that refuses");
-        if ((details->length == 1) != (reading->kind != PRINT1525_NO_READING) || reading->kind > PRINT1525_INCOMPLETE_END) is_wrong("decoder_edge", "the reading");
+        if (reading->kind > PRINT1525_INCOMPLETE_END || (details->status != PRINT1525_DONE && reading->kind != PRINT1525_NO_READING)) is_wrong("decoder_edge", "the reading");
         print1525_decoder_edge(&other, edge, &settled, &told);
         if (memcmp(&told, details, sizeof told) != 0 || settled.kind != reading->kind || settled.end != reading->end) is_wrong("decoder_edge", "another answer");
-        test_details("decoder_end", print1525_decoder_end(decoder, reading, details), details, 1, 0);
+        test_told("decoder_end", print1525_decoder_end(decoder, reading, details), details);
     }
 }
 
@@ -307,7 +336,9 @@ static void try_receiver(uint8_t *memories[6]) {
     const uint8_t device = (uint8_t)(below(9) ? 4 + below(2) : drawn());
     uint64_t time = below(1000);
     size_t count;
-    if (print1525_receiver_begin(receiver, device) != (device >= 4 && device <= 30 ? PRINT1525_DONE : PRINT1525_REFUSED)) is_wrong("receiver_begin", "the device");
+    if (print1525_receiver_begin(receiver, device, details) != (device >= 4 && device <= 30 ? PRINT1525_DONE : PRINT1525_REFUSED)) is_wrong("receiver_begin", "the device");
+    test_told("receiver_begin", details->status, details);
+    if (details->status != PRINT1525_DONE) memset(receiver, 0, sizeof *receiver);
     for (count = below(60); count > 0; count--) {
         print1525_receiver before, other;
         print1525_received again;
@@ -315,9 +346,9 @@ static void try_receiver(uint8_t *memories[6]) {
         if (below(30) == 0) damage(receiver, sizeof *receiver);
         *edge = made_edge(&time);
         before = other = *receiver;
-        test_details("receiver_edge", print1525_receiver_edge(receiver, edge, came, details), details, 1, 0);
+        test_told("receiver_edge", print1525_receiver_edge(receiver, edge, came, details), details);
         if (details->status != PRINT1525_DONE && memcmp(&before, receiver, sizeof before) != 0) is_wrong("receiver_edge", "a receiver that refuses");
-        if ((details->length == 1) != (came->kind != PRINT1525_NOTHING_RECEIVED) || came->kind > PRINT1525_RECEIVED_UNLISTEN || came->eoi > 1) is_wrong("receiver_edge", "what came");
+        if ((details->status != PRINT1525_DONE && came->kind != PRINT1525_NOTHING_RECEIVED) || came->kind > PRINT1525_RECEIVED_UNLISTEN || came->eoi > 1) is_wrong("receiver_edge", "what came");
         print1525_receiver_edge(&other, edge, &again, &told);
         if (memcmp(&told, details, sizeof told) != 0 || memcmp(&again, came, sizeof again) != 0) is_wrong("receiver_edge", "another answer");
     }
@@ -334,7 +365,7 @@ static void try_device(uint8_t *memories[6]) {
     size_t count;
     memset(timing, 0, sizeof *timing);
     if (below(3) == 0) timing->hold = (uint16_t)(below(9) ? 1 + below(10000) : drawn());
-    test_details("device_begin", print1525_device_begin(device, address, below(3) ? timing : NULL, details), details, 0, 0);
+    test_told("device_begin", print1525_device_begin(device, address, below(3) ? timing : NULL, details), details);
     if (address < 4 || address > 30 ? details->fault != PRINT1525_FAULT_NO_SUCH_DEVICE : details->fault != PRINT1525_FAULT_NONE && timing->hold <= 10000)
         is_wrong("device_begin", "the address");
     if (details->status != PRINT1525_DONE) memset(device, 0, sizeof *device);
@@ -344,10 +375,10 @@ static void try_device(uint8_t *memories[6]) {
         print1525_step again;
         print1525_details told;
         if (below(30) == 0) damage(device, sizeof *device);
-        if (below(9) == 0 && print1525_device_busy(device, below(9) ? time + below(5000) : drawn()) != PRINT1525_DONE) is_wrong("device_busy", "the status");
+        if (below(9) == 0 && print1525_device_busy(device, below(9) ? time + below(5000) : drawn(), details) != PRINT1525_DONE) is_wrong("device_busy", "the status");
         *edge = made_edge(&time);
         kept = other = *device;
-        test_details("device_step", print1525_device_step(device, edge, step, details), details, 0, 0);
+        test_told("device_step", print1525_device_step(device, edge, step, details), details);
         if (details->status != PRINT1525_DONE && memcmp(&kept, device, sizeof kept) != 0) is_wrong("device_step", "a device that refuses");
         if (details->status != PRINT1525_DONE && (step->pulls_data != 0 || step->wake != PRINT1525_NO_WAKE || step->heard.kind != 0)) is_wrong("device_step", "a refusal");
         if (step->wake <= edge->time && details->status == PRINT1525_DONE) is_wrong("device_step", "the wake");
@@ -356,33 +387,6 @@ static void try_device(uint8_t *memories[6]) {
         if (memcmp(&told, details, sizeof told) != 0 || again.wake != step->wake || again.pulls_data != step->pulls_data || again.heard.kind != step->heard.kind || again.heard.byte != step->heard.byte)
             is_wrong("device_step", "another answer");
     }
-}
-
-static void try_strict(uint8_t *memories[6]) {
-    print1525_strict *const strict = (print1525_strict *)(void *)(memories[0] + ROOM - sizeof *strict);
-    uint16_t *const input = (uint16_t *)(void *)(memories[1] + ROOM - sizeof *input);
-    print1525_details *const details = (print1525_details *)(void *)(memories[2] + ROOM - sizeof *details);
-    print1525_edge *edges = (print1525_edge *)(void *)(memories[3] + ROOM - 40 * sizeof *edges);
-    const uint8_t device = (uint8_t)(below(9) ? 4 + below(2) : drawn());
-    uint64_t time = 0;
-    size_t count, index, room = below(9);
-    if (print1525_strict_begin(strict, device) != (device >= 4 && device <= 30 ? PRINT1525_DONE : PRINT1525_REFUSED)) is_wrong("strict_begin", "the device");
-    count = below(40);
-    edges += 40 - count;
-    for (index = 0; index < count; index++) {
-        edges[index] = made_edge(&time);
-        if (index == 0 && below(5)) memset(edges, 1, sizeof *edges), edges->time = time = 0;
-        if (below(30) == 0) damage(strict, sizeof *strict);
-        *input = 999;
-        test_details("strict_edge", print1525_strict_edge(strict, &edges[index], input, details), details, 1, 0);
-        if ((details->length == 1) != (*input < 258) || (details->length == 0) != (*input == PRINT1525_NO_INPUT)) is_wrong("strict_edge", "the input");
-        test_details("strict_end", print1525_strict_end(strict, details), details, 0, 0);
-    }
-    memset(memories[5], UNTOUCHED, ROOM);
-    test_details("strict_edges", print1525_strict_edges(device, count ? edges : NULL, count, room ? (uint16_t *)(void *)(memories[5] + ROOM - 2 * room) : NULL, room, details),
-                 details, room, 0);
-    index = details->status == PRINT1525_DONE ? details->length : 0;
-    if (!is_untouched(memories[5], ROOM - 2 * room) || !is_untouched(memories[5] + ROOM - 2 * (room - index), 2 * (room - index))) is_wrong("strict_edges", "the buffer");
 }
 
 /* Bytes that a printer gets, many of them the codes of its commands. */
@@ -419,10 +423,10 @@ static void test_marks(const char *call, const print1525_mark *marks, size_t len
 static void test_one_by_one(print1525_printer *other, const uint8_t *bytes, size_t all, const print1525_mark *marks, size_t length, const print1525_printer *printer) {
     print1525_mark made[PRINT1525_MARKS_OF_A_BYTE];
     print1525_details details;
-    size_t byte, index, count = 0;
+    size_t byte, index, got = 0, count = 0;
     for (byte = 0; byte < all; byte++) {
-        if (print1525_printer_byte(other, bytes[byte], made, PRINT1525_MARKS_OF_A_BYTE, &details) != PRINT1525_DONE) is_wrong("printer_byte", "a byte that was taken");
-        for (index = 0; index < details.length; index++, count++)
+        if (print1525_printer_byte(other, bytes[byte], made, PRINT1525_MARKS_OF_A_BYTE, &got, &details) != PRINT1525_DONE) is_wrong("printer_byte", "a byte that was taken");
+        for (index = 0; index < got; index++, count++)
             if (count >= length || !is_same_mark(made + index, marks + count)) is_wrong("printer_bytes", "another mark");
     }
     if (count != length) is_wrong("printer_bytes", "more marks");
@@ -433,58 +437,72 @@ static void test_one_by_one(print1525_printer *other, const uint8_t *bytes, size
 static size_t try_bytes(print1525_printer *printer, print1525_mark *marks, size_t room, print1525_details *details, uint8_t *memories[6]) {
     const print1525_printer before = *printer;
     print1525_printer other = before;
-    size_t length;
-    const uint8_t *const bytes = made_bytes(memories[4], &length);
+    size_t count, used = 0, length = 77;
+    const uint8_t *const bytes = made_bytes(memories[4], &count);
     uint8_t copy[40];
-    if (length) memcpy(copy, bytes, length);
-    if (length && below(3) == 0) {
-        const int status = print1525_printer_byte(printer, *bytes, marks, room, details);
-        test_details("printer_byte", status, details, room, 0);
+    if (count) memcpy(copy, bytes, count);
+    if (count && below(3) == 0) {
+        const int status = print1525_printer_byte(printer, *bytes, marks, room, &length, details);
+        test_details("printer_byte", status, details, length, room, 0);
         if (status != PRINT1525_DONE && (details->fault != PRINT1525_FAULT_TOO_SMALL || !is_same_printer(&before, printer))) is_wrong("printer_byte", "a printer that refuses");
-        if (details->length > PRINT1525_MARKS_OF_A_BYTE) is_wrong("printer_byte", "too many marks");
+        if (length > PRINT1525_MARKS_OF_A_BYTE) is_wrong("printer_byte", "too many marks");
         if (status != PRINT1525_DONE) return 0;
-        length = 1;
+        used = 1;
     } else {
-        test_details("printer_bytes", print1525_printer_bytes(printer, bytes, length, marks, room, details), details, room, 0);
-        if (details->status != PRINT1525_DONE || details->place > length) is_wrong("printer_bytes", "how many were taken");
-        if (length && room >= PRINT1525_MARKS_OF_A_BYTE && details->place == 0) is_wrong("printer_bytes", "no byte is taken");
-        if (details->place < length && details->length + PRINT1525_MARKS_OF_A_BYTE <= room) is_wrong("printer_bytes", "a byte that has room");
-        if (length && memcmp(copy, bytes, length) != 0) is_wrong("printer_bytes", "the input");
-        length = details->place;
+        int status;
+        used = count;
+        status = print1525_printer_bytes(printer, bytes, &used, marks, room, &length, details);
+        test_details("printer_bytes", status, details, length, room, 0);
+        if (details->status != PRINT1525_DONE || used > count) is_wrong("printer_bytes", "how many were used");
+        if (count && room >= PRINT1525_MARKS_OF_A_BYTE && used == 0) is_wrong("printer_bytes", "no byte is used");
+        if (used < count && length + PRINT1525_MARKS_OF_A_BYTE <= room) is_wrong("printer_bytes", "a byte that has room");
+        if (count && memcmp(copy, bytes, count) != 0) is_wrong("printer_bytes", "the input");
     }
-    if (length && printer->x > 480) is_wrong("printer_bytes", "the column");
-    test_marks("printer_bytes", marks, details->length, before.y, printer->y);
-    test_one_by_one(&other, bytes, length, marks, details->length, printer);
-    return details->length;
+    if (used && printer->x > 480) is_wrong("printer_bytes", "the column");
+    test_marks("printer_bytes", marks, length, before.y, printer->y);
+    test_one_by_one(&other, bytes, used, marks, length, printer);
+    return length;
 }
 
 /* The pixels of a region with some marks: once over paper, and once drawn over paper, where they are the same. */
 static void try_pixels(const print1525_mark *marks, size_t length, print1525_details *details, uint8_t *memories[6]) {
-    static uint8_t paper[64 * 64];
+    static uint8_t paper[64 * 64 * 4];
     print1525_region *const region = (print1525_region *)(void *)(memories[3] + ROOM - sizeof *region);
-    size_t size, room, index;
+    print1525_region changes = {0, 0, 0, 0, 0, 0};
+    const size_t kind = below(3), white = kind == PRINT1525_BITS ? 0 : 255;
+    size_t line, size, room, index;
     uint8_t *pixels;
     int status, drawn_status;
     print1525_details drawn_details;
+    test_told("printer_changed", print1525_printer_changed(marks, length, &changes, details), details);
+    if (changes.x + changes.width > 960 || (changes.width == 0) != (changes.height == 0)) is_wrong("printer_changed", "the region");
     region->x = below(9) ? below(960) : drawn();
     region->y = length && below(9) ? marks[below(length)].y - below(20) : drawn() >> below(64);
     region->width = below(30) ? below(64) : (size_t)(drawn() >> below(64));
     region->height = below(30) ? below(64) : (size_t)(drawn() >> below(64));
-    size = region->width < 64 && region->height < 64 ? region->width * region->height : 0;
-    room = below(5) ? size : below(64 * 64);
+    region->pixels = (uint8_t)(below(30) ? kind : 3 + below(253));
+    region->stride = 0;
+    line = kind == PRINT1525_BITS ? (region->width + 7) / 8 : kind == PRINT1525_RGBA ? 4 * region->width : region->width;
+    if (below(3) == 0 && region->width < 64) region->stride = line + below(9);
+    size = region->width < 64 && region->height < 64 ? line * region->height : 0;
+    if (region->stride && size) size = region->stride * (region->height - 1) + line;
+    room = below(5) ? size : below(64 * 64 * 4);
+    if (room > sizeof paper) room = sizeof paper;
     pixels = memories[1] + ROOM - room;
     memset(memories[1], UNTOUCHED, ROOM);
-    memset(paper, 255, sizeof paper);
+    memset(paper, (int)white, sizeof paper);
     status = print1525_printer_page(marks, length, region, room ? pixels : NULL, room, details);
     drawn_status = print1525_printer_draw(marks, length, region, room ? paper : NULL, room, &drawn_details);
-    test_details("printer_page", status, details, room, 0);
+    if (details->fault != PRINT1525_FAULT_TOO_SMALL) test_told("printer_page", status, details);
     if (status != drawn_status || memcmp(details, &drawn_details, sizeof drawn_details) != 0) is_wrong("printer_draw", "another answer");
-    if (status == PRINT1525_REFUSED && details->fault != PRINT1525_FAULT_TOO_LARGE) is_wrong("printer_page", "the fault");
-    if (status == PRINT1525_DONE && region->width < 64 && region->height < 64 && details->length != size) is_wrong("printer_page", "how many pixels");
-    size = status == PRINT1525_DONE ? details->length : 0;
+    if (status == PRINT1525_REFUSED && details->fault != PRINT1525_FAULT_TOO_LARGE && details->fault != PRINT1525_FAULT_NO_SUCH_PIXELS) is_wrong("printer_page", "the fault");
+    if (status == PRINT1525_FAILED && size > 0 && region->pixels == kind && size <= room && region->width < 64) is_wrong("printer_page", "there is room");
+    if (status == PRINT1525_DONE && (region->width >= 64 || region->height >= 64)) return;
+    size = status == PRINT1525_DONE ? size : 0;
     if (!is_untouched(memories[1], ROOM - room) || !is_untouched(pixels + size, room - size)) is_wrong("printer_page", "the buffer");
-    for (index = 0; index < room; index++)
-        if (paper[index] != (index < size ? pixels[index] : 255) || (index < size && pixels[index] != 0 && pixels[index] != 255)) is_wrong("printer_draw", "a pixel");
+    if (region->stride == 0 && kind != PRINT1525_BITS)
+        for (index = 0; index < room; index++)
+            if (paper[index] != (index < size ? pixels[index] : 255) || (index < size && pixels[index] != 0 && pixels[index] != 255)) is_wrong("printer_draw", "a pixel");
 }
 
 static void try_printer(uint8_t *memories[6]) {
@@ -494,15 +512,21 @@ static void try_printer(uint8_t *memories[6]) {
     print1525_mark *const marks = (print1525_mark *)(void *)(memories[5] + ROOM - room * sizeof *marks);
     size_t count, length = 0;
     memset(memories[5], UNTOUCHED, ROOM);
-    if (print1525_printer_begin(printer) != PRINT1525_DONE) is_wrong("printer_begin", "the status");
+    if (print1525_printer_begin(printer, NULL) != PRINT1525_DONE) is_wrong("printer_begin", "the status");
     for (count = below(20); count > 0; count--) {
         if (below(5) == 0) {
             const print1525_printer before = *printer;
             const uint8_t set = (uint8_t)(below(4) ? below(2) : drawn());
-            if (print1525_printer_select(printer, set) != (set < 2 ? PRINT1525_DONE : PRINT1525_REFUSED)) is_wrong("printer_select", "the set");
+            if (print1525_printer_select(printer, set, details) != (set < 2 ? PRINT1525_DONE : PRINT1525_REFUSED)) is_wrong("printer_select", "the set");
             if (set < 2 ? printer->lower != set : !is_same_printer(&before, printer)) is_wrong("printer_select", "the printer");
         }
         if (below(9) == 0) damage(printer, sizeof *printer);
+        if (below(9) == 0) {
+            const uint64_t y = printer->y;
+            uint64_t sheets = 0;
+            if (print1525_printer_form_feed(printer, details) != PRINT1525_DONE || (y < LAST_LINE && (printer->y <= y || printer->y % PRINT1525_SHEET))) is_wrong("printer_form_feed", "the line");
+            if (print1525_printer_tear_off(printer, &sheets, details) != PRINT1525_DONE || printer->y >= PRINT1525_SHEET || sheets == 0) is_wrong("printer_tear_off", "the line");
+        }
         memset(memories[5], UNTOUCHED, ROOM);
         length = try_bytes(printer, room ? marks : NULL, room, details, memories);
         if (!is_untouched(memories[5], ROOM - room * sizeof *marks) || !is_untouched((uint8_t *)(void *)(marks + length), (room - length) * sizeof *marks))
@@ -525,10 +549,9 @@ static void try_words(uint8_t *memories[6]) {
     details->fault = (int32_t)(below(9) ? below(110) : drawn() >> 33);
     details->place = (size_t)(drawn() >> below(64));
     details->column = below(2) ? 0 : (size_t)(drawn() >> below(64));
-    details->length = (size_t)drawn();
     length = print1525_message(details, room ? text : NULL, room);
     if (length >= sizeof all || print1525_message(details, all, sizeof all) != length || strlen(all) != length) is_wrong("message", "its length");
-    if (details->status == PRINT1525_DONE ? length != 0 : strstr(all, print1525_strerror(details->fault)) == NULL) is_wrong("message", "its words");
+    if (details->status == PRINT1525_DONE || details->fault == PRINT1525_FAULT_NONE ? length != 0 : strstr(all, print1525_strerror(details->fault)) == NULL) is_wrong("message", "its words");
     if (room && (strlen(text) != (length < room ? length : room - 1) || strncmp(text, all, room - 1) != 0)) is_wrong("message", "the text");
     if (!is_untouched(memories[5], ROOM - room) || (room > length && !is_untouched(memories[5] + ROOM - room + length + 1, room - length - 1))) is_wrong("message", "the buffer");
     if (strcmp(print1525_version(), PRINT1525_VERSION) != 0) is_wrong("version", "its text");
@@ -543,7 +566,6 @@ int main(int words, char **word) {
     for (round_now = 0; round_now < rounds; round_now++) {
         switch (below(12)) {
         case 0: try_decoder(memories); break;
-        case 1: try_strict(memories); break;
         case 2: try_receiver(memories); break;
         case 3: try_printer(memories); break;
         case 4: try_words(memories); break;

@@ -1,20 +1,20 @@
 #!/usr/bin/env python3
-"""header.py HEADER [SOURCE]: the calls that a header declares above its own code, and what is wrong with them.
+"""header.py HEADER [SOURCE]: the calls that a header declares, and what is wrong with them.
 
-With a source it writes a line for each call that has more than six parameters, and for each that the source does not make, and ends with
+With a source it writes a line for each call that has more than seven parameters, and for each that the source does not make, and ends with
 status 1 if there is one. Without a source it writes the names of the calls, a line each. Comments and strings make no call."""
 
 import re
 import sys
 
-MOST_PARAMETERS = 6
+MOST_PARAMETERS = 7
 NO_CODE = re.compile(r'"(?:\\.|[^"\\\n])*"|\'(?:\\.|[^\'\\\n])+\'|/\*.*?\*/|//[^\n]*', re.S)
 
 
 def code_of(path):
-    """A file's text without comments and strings, and above the header's own code."""
+    """A file's text without comments and strings."""
     with open(path, encoding="utf-8") as file:
-        return NO_CODE.sub(" ", file.read().split("/* The header's own code.")[0])
+        return NO_CODE.sub(" ", file.read())
 
 
 def calls_of(header):

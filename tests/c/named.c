@@ -1,9 +1,16 @@
 /* The names of the files that words name, for a caller who reads and writes them: named WORD.. writes that of the file that
  * is read, of the file that is written, and of the file of characters, a line each: `=` and the name, or an empty line
  * where there is none. The words are the program's, its name first. Where they ask for nothing the status is 2. */
-#include "print1525.h"
+#include "../../library/plain.h"
 #include <stdio.h>
 #include <string.h>
+
+/* (The page in a browser alone calls it: it is in no library for C.) */
+#ifdef __cplusplus
+extern "C"
+#endif
+void print1525_names(const uint8_t *words, size_t words_length, uint8_t *names, size_t capacity, uint8_t *messages,
+                     size_t messages_capacity, print1525_plain_end *end);
 
 int main(int count, char **word) {
     uint8_t words[1000], names[1000], messages[1000];
@@ -17,7 +24,7 @@ int main(int count, char **word) {
         memcpy(words + length, word[index], size);
         length += size;
     }
-    print1525_plain_names(words, length, names, sizeof names, messages, sizeof messages, &end);
+    print1525_names(words, length, names, sizeof names, messages, sizeof messages, &end);
     for (place = 0; place < end.output; place++) putchar(names[place] ? names[place] : '\n');
     return end.fault ? 2 : 0;
 }

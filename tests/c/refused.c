@@ -7,7 +7,7 @@
  * allocations, and a test that takes more than SECONDS, is WRONG. Status 0, else 1 and a line for each thing that is WRONG. With `tell` it
  * writes how many allocations each call made. Linked with -Wl,--wrap=malloc,--wrap=realloc,--wrap=free. */
 #define _DEFAULT_SOURCE
-#include "print1525.h"
+#include "options.h"
 #include <stdio.h>
 #include <stdlib.h>
 #include <string.h>
@@ -90,7 +90,6 @@ static const char program[] = "\001\010\017\010\012\000\237 \064,\064\000\000\00
 static const char bytes[] = "DEAR READER,\r\022REVERSED\r\010ABC\017\016WIDE\r";
 static const uint16_t inputs[] = {PRINT1525_SELECT_LOWER, 65, 66, 13, 8, 255, 13, 14, 67, 13};
 static const uint16_t bad_inputs[] = {65, 258, 66};
-static const uint16_t delays[] = {7, 9, 1};
 static const char csv[] = "Time [s],ATN,CLK,DATA\n0,1,1,1\n0.0001,0,1,1\n0.0011,0,0,1\n0.0012,0,0,0\n";
 static const char bad_csv[] = "Time [s],ATN,CLK,DATA\n0,1,1,1\n0.0001,0,1,1\n0.0011,0,0,1\n0.0012,0,?,0\n";
 static char trace[ROOM], dump[ROOM], cut[ROOM], example[ROOM];
@@ -124,6 +123,9 @@ static const char one_dump[] =
 static char characters[ROOM];
 static size_t characters_length;
 
+/* The words of print1525_answer. */
+static const char *const *words_now;
+
 /* A call with what it is passed. */
 typedef struct {
     const char *name;
@@ -132,24 +134,20 @@ typedef struct {
     print1525_settings settings;
 } job;
 
-static int make(const job *j, const print1525_settings *settings, uint8_t *buffer, size_t capacity, print1525_details *details) {
+static int make(const job *j, const print1525_settings *settings, uint8_t *buffer, size_t capacity, size_t *length, print1525_details *details) {
     const char *const it = j->name;
     int status;
-    if (strcmp(it, "pages") == 0) return print1525_pages(j->input, j->length, settings, buffer, capacity, details);
-    if (strcmp(it, "bus") == 0) return print1525_bus(j->input, j->length, settings, buffer, capacity, details);
-    if (strcmp(it, "listing") == 0) return print1525_listing(j->input, j->length, settings, buffer, capacity, details);
-    if (strcmp(it, "raw") == 0) return print1525_raw(j->input, j->length, settings, buffer, capacity, details);
-    if (strcmp(it, "print") == 0) return print1525_print((const uint16_t *)j->input, j->length / 2, settings, buffer, capacity, details);
-    if (strcmp(it, "check") == 0) return print1525_check(j->input, j->length, settings, buffer, capacity, details);
-    if (strcmp(it, "readings") == 0) return print1525_readings(j->input, j->length, settings, buffer, capacity, details);
-    if (strcmp(it, "reprint") == 0) return print1525_reprint(j->input, j->length, settings, buffer, capacity, details);
-    if (strcmp(it, "explain_script") == 0) return print1525_explain_script(j->input, j->length, settings, buffer, capacity, details);
-    if (strcmp(it, "explain_stop") == 0) return print1525_explain_stop(j->input, j->length, settings, buffer, capacity, details);
-    if (strcmp(it, "explain_trace") == 0) return print1525_explain_trace(j->input, j->length, settings, buffer, capacity, details);
-    if (strcmp(it, "explain_reading") == 0) return print1525_explain_reading(j->input, j->length, settings, buffer, capacity, details);
+    if (strcmp(it, "pages") == 0) return print1525_pages(j->input, j->length, settings, buffer, capacity, length, details);
+    if (strcmp(it, "bus") == 0) return print1525_bus(j->input, j->length, settings, buffer, capacity, length, details);
+    if (strcmp(it, "listing") == 0) return print1525_listing(j->input, j->length, settings, buffer, capacity, length, details);
+    if (strcmp(it, "raw") == 0) return print1525_raw(j->input, j->length, settings, buffer, capacity, length, details);
+    if (strcmp(it, "print") == 0) return print1525_print((const uint16_t *)j->input, j->length / 2, settings, buffer, capacity, length, details);
+    if (strcmp(it, "check") == 0) return print1525_check(j->input, j->length, settings, buffer, capacity, length, details);
+    if (strcmp(it, "decode") == 0) return print1525_decode(j->input, j->length, settings, buffer, capacity, length, details);
+    if (strcmp(it, "answer") == 0) return print1525_answer(words_now, j->input, j->length, buffer, capacity, length, details);
     if (strcmp(it, "edges") != 0) exit(98);
-    status = print1525_edges(j->input, j->length, settings, (print1525_edge *)(void *)buffer, capacity / sizeof(print1525_edge), details);
-    details->length *= sizeof(print1525_edge);
+    status = print1525_edges(j->input, j->length, settings, (print1525_edge *)(void *)buffer, capacity / sizeof(print1525_edge), length, details);
+    *length *= sizeof(print1525_edge);
     return status;
 }
 
@@ -167,13 +165,14 @@ static int is_untouched(size_t from) {
 static int refuse(const job *j, long from, long to, const print1525_details *truth) {
     const print1525_settings settings = j->settings;
     print1525_details details;
+    size_t length = 77;
     int status;
     memset(buffer, UNTOUCHED, ROOM);
     memset(&details, UNTOUCHED, sizeof details);
     taken = 0;
     refused_from = from;
     refused_to = to;
-    status = make(j, &settings, buffer, ROOM, &details);
+    status = make(j, &settings, buffer, ROOM, &length, &details);
     refused_from = 0;
     if (status != details.status) is_wrong("another status than the details have", from);
     if (live != 0) is_wrong("memory is not given back after allocation", from);
@@ -182,11 +181,13 @@ static int refuse(const job *j, long from, long to, const print1525_details *tru
     if (memcmp(before, j->input, j->length) != 0) is_wrong("the input is changed by refused allocation", from);
     if (memcmp(&settings, &j->settings, sizeof settings) != 0) is_wrong("the settings are changed by refused allocation", from);
     if (status == PRINT1525_FAILED) {
-        if (details.fault != PRINT1525_FAULT_NO_MEMORY || details.place || details.column || details.length) is_wrong("the details of refused allocation", from);
+        if (details.fault != PRINT1525_FAULT_NO_MEMORY || details.place || details.column || length) is_wrong("the details of refused allocation", from);
         if (!is_untouched(0)) is_wrong("the buffer is written by refused allocation", from);
         return 1;
     }
-    if (memcmp(&details, truth, sizeof details) != 0 || memcmp(buffer, true_text, details.length) != 0 || !is_untouched(details.length))
+    if (settings.explain || (words_now != NULL && strcmp(j->name, "answer") == 0)) { /* (it may say less then) */
+        if (details.status != truth->status || details.fault != truth->fault || !is_untouched(length)) is_wrong("another end with refused allocation", from);
+    } else if (memcmp(&details, truth, sizeof details) != 0 || length != true_length || memcmp(buffer, true_text, length) != 0 || !is_untouched(length))
         is_wrong("another answer with refused allocation", from);
     return 0;
 }
@@ -200,14 +201,13 @@ static void try_call(const job *j, int tells) {
     memset(buffer, UNTOUCHED, ROOM);
     memset(&truth, UNTOUCHED, sizeof truth);
     taken = refused_from = 0;
-    make(j, &j->settings, buffer, ROOM, &truth);
+    make(j, &j->settings, buffer, ROOM, &true_length, &truth);
     all = taken;
     if (truth.status == PRINT1525_FAILED) is_wrong("no answer", truth.fault);
     if (live != 0) is_wrong("memory is not given back", live);
     live = 0;
     if (all > MOST) is_wrong("too many allocations", all);
     memcpy(true_text, buffer, ROOM);
-    true_length = truth.length;
     for (number = 1; number <= all && wrong < 20; number++) {
         failed += refuse(j, number, number, &truth);
         refuse(j, number, MOST, &truth);
@@ -215,70 +215,82 @@ static void try_call(const job *j, int tells) {
     if (all > 0 && failed == 0) is_wrong("no refused allocation is reported", all);
     if (all > 0 && refuse(j, 1, MOST, &truth) == 0) is_wrong("an answer without any memory", all);
     if (refuse(j, 0, 0, &truth) != 0) is_wrong("no answer with memory again", all);
-    if (tells) printf("%s: %ld allocations, %ld reported, status %d, %lu bytes\n", j->name, all, failed, truth.status, (unsigned long)truth.length);
+    if (tells) printf("%s: %ld allocations, %ld reported, status %d, %lu bytes\n", j->name, all, failed, truth.status, (unsigned long)true_length);
 }
 
-static print1525_settings defaults(void) {
-    const print1525_settings made = PRINT1525_SETTINGS_INIT;
+/* The settings that options say, with a blank between each two words. */
+static print1525_settings settings_by(const char *options) {
+    static char lines[16][256];
+    static size_t line;
+    print1525_settings made = PRINT1525_SETTINGS_INIT;
+    char *words[33];
+    int count = 0, at = 0, used;
+    char *it = strcpy(lines[line = (line + 1) % 16], options);
+    for (it = strtok(it, " "); it != NULL && count < 32; it = strtok(NULL, " ")) words[count++] = it;
+    words[count] = NULL;
+    for (; at < count; at += used)
+        if ((used = set_option(&made, words[at], words[at + 1])) == 0) exit(97);
     return made;
 }
 
+static void try_one(const char *name, const void *input, size_t length, const char *options, int tells) {
+    job j;
+    j.name = name;
+    j.input = input;
+    j.length = length;
+    j.settings = settings_by(options);
+    try_call(&j, tells);
+}
+
 /* The calls that draw pages, in each format, of all sheets and of one, with characters of the project and of a file. */
-static void try_pages(const char *name, const void *input, size_t length, uint8_t from, int tells) {
-    static const uint8_t formats[] = {PRINT1525_PAGE_LIST, PRINT1525_PAGE_TEXT, PRINT1525_PAGE_SVG, PRINT1525_PAGE_PNG, PRINT1525_PAGE_PDF};
+static void try_pages(const char *name, const void *input, size_t length, const char *more, int tells) {
+    static const char *const formats[] = {"list", "text", "svg", "png", "pdf"};
+    const size_t first = strcmp(name, "decode") == 0;
     size_t index, way;
-    for (index = 0; index < sizeof formats; index++)
+    for (index = first; index < sizeof formats / sizeof *formats; index++)
         for (way = 0; way < 3; way++) {
+            char options[200];
             job j;
+            if ((way == 1 && (index < 2 || index > 3)) || (way == 2 && index < 2)) continue;
+            snprintf(options, sizeof options, "--as %s %s%s", formats[index], way == 1 ? "--sheet 1 --device 4 " : "", more);
             j.name = name;
             j.input = input;
             j.length = length;
-            j.settings = defaults();
-            j.settings.from = from;
-            j.settings.page = formats[index];
-            j.settings.computer_delays.numbers = delays;
-            j.settings.computer_delays.length = way;
-            if (way == 1) j.settings.sheet = 1, j.settings.printer = PRINT1525_PAGE_PNG == formats[index] ? 4 : 0;
+            j.settings = settings_by(options);
             if (way == 2) j.settings.characters = characters, j.settings.characters_length = characters_length;
             try_call(&j, tells);
         }
 }
 
-static void try_one(const char *name, const void *input, size_t length, uint8_t from, uint8_t recording, uint8_t words, uint8_t trace_as, int tells) {
-    job j;
-    j.name = name;
-    j.input = input;
-    j.length = length;
-    j.settings = defaults();
-    j.settings.from = from;
-    j.settings.recording = recording;
-    j.settings.words = words;
-    j.settings.intervals = 1;
-    j.settings.trace = trace_as;
-    j.settings.printer4_delays.numbers = delays;
-    j.settings.printer4_delays.length = 3;
-    j.settings.stopped.fault = PRINT1525_STOP_FILE_NOT_OPEN;
-    j.settings.stopped.place = 3;
-    try_call(&j, tells);
+/* The calls of a recording. */
+static void try_recording(const void *input, size_t length, const char *from, int tells) {
+    static const char *const rows[][2] = {
+        {"check", ""}, {"check", "--as story"}, {"check", "--as json"}, {"check", "--explain"}, {"decode", "--intervals"}, {"decode", "--as json"}, {"decode", "--as text"},
+        {"decode", "--as bytes"}, {"decode", "--explain"}, {"edges", ""},
+    };
+    size_t row;
+    for (row = 0; row < sizeof rows / sizeof *rows; row++) {
+        char options[99];
+        snprintf(options, sizeof options, "%s --from %s", rows[row][1], from);
+        try_one(rows[row][0], input, length, options, tells);
+    }
 }
 
-/* The calls of a recording. */
-static void try_recording(const void *input, size_t length, uint8_t recording, int tells) {
-    try_one("check", input, length, 0, recording, PRINT1525_WORDS_LIST, 0, tells);
-    try_one("check", input, length, 0, recording, PRINT1525_WORDS_STORY, 0, tells);
-    try_one("readings", input, length, 0, recording, PRINT1525_WORDS_LIST, 0, tells);
-    try_one("readings", input, length, 0, recording, PRINT1525_WORDS_JSON, 0, tells);
-    try_one("reprint", input, length, 0, recording, 0, 0, tells);
-    try_one("explain_trace", input, length, 0, recording, 0, 0, tells);
-    try_one("explain_reading", input, length, 0, recording, 0, 0, tells);
-    try_one("edges", input, length, 0, recording, 0, 0, tells);
+/* What print1525_answer does with words, with a file of characters among them. */
+static void try_answers(int tells) {
+    static const char *const lists[][7] = {
+        {"pages", "--as", "text", NULL}, {"raw", "--as", "svg", "--characters", characters, NULL}, {"raw", "--help", NULL}, {"nothing", "--explain", NULL}, {"check", "--as", "story", NULL},
+    };
+    size_t row;
+    for (row = 0; row < sizeof lists / sizeof *lists; row++) {
+        words_now = lists[row];
+        try_one("answer", letters, sizeof letters - 1, "", tells);
+    }
 }
 
 /* Two letters and one attention in each format, with what each call gives; of a picture and of a trace the front. */
 typedef struct {
-    const char *name, *input;
-    uint8_t page, trace, recording, words;
-    const char *text;
+    const char *name, *input, *options, *text;
 } row;
 
 #define FRAMES "command 36\nlawful\n"
@@ -290,74 +302,51 @@ typedef struct {
     "attention\n        6240         7070  $3F  UNLISTEN\nlawful\n"
 
 static const row rows[] = {
-    {"pages", letters, PRINT1525_PAGE_LIST, 0, 0, 0, "printer 4\nrow 0\n 0 cell 72\n 6 cell 73\nprinter 5\nstatus 0 0\nscreen\n"},
-    {"pages", letters, PRINT1525_PAGE_TEXT, 0, 0, 0, "Printer 4\nHI\nPrinter 5\nStatuses: 0 0.\n"},
-    {"pages", letters, PRINT1525_PAGE_SVG, 0, 0, 0, "<svg "},
-    {"raw", letters_bytes, PRINT1525_PAGE_LIST, 0, 0, 0, "printer 4\nrow 0\n 0 cell 72\n 6 cell 73\nprinter 5\nstatus\nscreen\n"},
-    {"raw", letters_bytes, PRINT1525_PAGE_TEXT, 0, 0, 0, "Printer 4\nHI\n"},
-    {"raw", letters_bytes, PRINT1525_PAGE_SVG, 0, 0, 0, "<svg "},
-    {"bus", letters, 0, PRINT1525_TRACE_TEXT, 0, 0, "0 111\n100 001\n"},
-    {"bus", letters, 0, PRINT1525_TRACE_VCD, 0, 0, "$timescale 1 us $end\n"},
-    {"check", one_attention, 0, 0, PRINT1525_RECORDING_TEXT, PRINT1525_WORDS_LIST, FRAMES},
-    {"check", one_attention, 0, 0, PRINT1525_RECORDING_TEXT, PRINT1525_WORDS_STORY, STORY},
-    {"check", example, 0, 0, PRINT1525_RECORDING_TEXT, PRINT1525_WORDS_LIST, EXAMPLE_FRAMES},
-    {"check", example, 0, 0, PRINT1525_RECORDING_TEXT, PRINT1525_WORDS_STORY, EXAMPLE_STORY},
-    {"check", one_table, 0, 0, PRINT1525_RECORDING_CSV, PRINT1525_WORDS_LIST, FRAMES},
-    {"check", one_table, 0, 0, PRINT1525_RECORDING_CSV, PRINT1525_WORDS_STORY, STORY},
-    {"check", one_dump, 0, 0, PRINT1525_RECORDING_VCD, PRINT1525_WORDS_LIST, FRAMES},
-    {"check", one_dump, 0, 0, PRINT1525_RECORDING_VCD, PRINT1525_WORDS_STORY, STORY},
+    {"pages", letters, "--as list", "printer 4\nrow 0\n 0 cell 72\n 6 cell 73\nprinter 5\nstatus 0 0\nscreen\n"},
+    {"pages", letters, "--as text", "Printer 4\nHI\nPrinter 5\nStatuses: 0 0.\n"},
+    {"pages", letters, "--as svg", "<svg "},
+    {"raw", letters_bytes, "--as list", "printer 4\nrow 0\n 0 cell 72\n 6 cell 73\nprinter 5\nstatus\nscreen\n"},
+    {"raw", letters_bytes, "--as text", "Printer 4\nHI\n"},
+    {"raw", letters_bytes, "--as svg", "<svg "},
+    {"bus", letters, "", "0 111\n100 001\n"},
+    {"bus", letters, "--as vcd", "$timescale 1 us $end\n"},
+    {"check", one_attention, "--from text", FRAMES},
+    {"check", one_attention, "--from text --as story", STORY},
+    {"check", example, "--from text", EXAMPLE_FRAMES},
+    {"check", example, "--from text --as story", EXAMPLE_STORY},
+    {"check", one_table, "--from csv", FRAMES},
+    {"check", one_table, "--from csv --as story", STORY},
+    {"check", one_dump, "--from vcd", FRAMES},
+    {"check", one_dump, "--from vcd --as story", STORY},
 };
 
 static void try_row(const row *it, int tells) {
     const size_t length = strlen(it->text);
-    const int is_front = it->page == PRINT1525_PAGE_SVG || strcmp(it->name, "bus") == 0;
-    job j;
-    j.name = it->name;
-    j.input = it->input;
-    j.length = strlen(it->input);
-    j.settings = defaults();
-    j.settings.page = it->page;
-    j.settings.trace = it->trace;
-    j.settings.recording = it->recording;
-    j.settings.words = it->words;
-    try_call(&j, tells);
+    const int is_front = strstr(it->options, "svg") != NULL || strcmp(it->name, "bus") == 0;
+    try_one(it->name, it->input, strlen(it->input), it->options, tells);
     if (true_length < length || (true_length > length && !is_front) || memcmp(true_text, it->text, length) != 0)
         is_wrong("another text", (long)true_length);
 }
 
-/* Explanations, and how each ends: of the last one, device 5 is not there. Dumps and tables start a microsecond later. */
-typedef struct {
-    const char *name, *input;
-    uint8_t recording;
-    const char *end;
-} explained_row;
-
-static const explained_row explained_rows[] = {
-    {"explain_script", "20 PRINT+", 0, "write the result\n"},
-    {"explain_trace", "0 111\n0 001\n?\n", PRINT1525_RECORDING_TEXT, "  it is not later than the edge before it\n"},
-    {"explain_trace",
+/* Explanations, and how each ends: of the last one, no printer is there. Dumps and tables start a microsecond later. */
+static const row explained_rows[] = {
+    {"pages", "20 PRINT+", "", "write the result\n"},
+    {"check", "0 111\n0 001\n?\n", "--from text", "  it is not later than the edge before it\n"},
+    {"check",
      "$timescale 1 us $end $var wire 1 a ATN $end $var wire 1 c CLK $end $var wire 1 d DATA $end\n"
      "$enddefinitions $end #1 1a 1c 1d #3 0a 0c #9 1a 0a q",
-     PRINT1525_RECORDING_VCD, "too early\n"},
-    {"explain_trace", "Time,ATN,CLOCK,DATA\n0.000001,1,1,1\n0.000003,0,0,1\n0.000009,1,0,0\n1,x,1,1",
-     PRINT1525_RECORDING_CSV, "too early\n"},
-    {"explain_stop", "10 OPEN 4,5\n20 PRINT#4,\"A\"", 0, "printers 4 and 5 are connected\n"},
+     "--from vcd --from-time 1", "too early\n"},
+    {"check", "Time,ATN,CLOCK,DATA\n0.000001,1,1,1\n0.000003,0,0,1\n0.000009,1,0,0\n1,x,1,1",
+     "--from csv --from-time 1", "too early\n"},
+    {"pages", "10 OPEN 4,5\n20 PRINT#4,\"A\"", "--present none --status kept", "printers 4 and 5 are connected\n"},
 };
 
-static void try_explained(const explained_row *it, int tells) {
-    const size_t length = strlen(it->end);
-    job j;
-    j.name = it->name;
-    j.input = it->input;
-    j.length = strlen(it->input);
-    j.settings = defaults();
-    j.settings.present = PRINT1525_PRESENT_NONE;
-    j.settings.recording = it->recording;
-    j.settings.start = it->recording == PRINT1525_RECORDING_TEXT ? 0 : 1;
-    j.settings.stopped.fault = PRINT1525_STOP_DEVICE_NOT_PRESENT;
-    j.settings.stopped.place = 2;
-    try_call(&j, tells);
-    if (true_length < length || memcmp(true_text + true_length - length, it->end, length) != 0)
+static void try_explained(const row *it, int tells) {
+    const size_t length = strlen(it->text);
+    char options[99];
+    snprintf(options, sizeof options, "--explain %s", it->options);
+    try_one(it->name, it->input, strlen(it->input), options, tells);
+    if (true_length < length || memcmp(true_text + true_length - length, it->text, length) != 0)
         is_wrong("another end of an explanation", (long)true_length);
 }
 
@@ -368,31 +357,25 @@ static void try_edges(void) {
     print1525_receiver receiver;
     print1525_device device;
     print1525_step step;
-    print1525_strict strict;
     print1525_reading reading;
     print1525_received received;
     print1525_details details;
-    uint16_t input, received_inputs[4];
     char text[99];
     size_t index;
     name_now = "edges and words";
     taken = 0;
     refused_from = 1;
     refused_to = MOST;
-    print1525_decoder_begin(&decoder);
-    print1525_receiver_begin(&receiver, 4);
+    print1525_decoder_begin(&decoder, &details);
+    print1525_receiver_begin(&receiver, 4, &details);
     if (print1525_device_begin(&device, 4, NULL, &details) != PRINT1525_DONE) is_wrong("a device that begins", details.fault);
-    print1525_strict_begin(&strict, 4);
     for (index = 0; index < sizeof edges / sizeof *edges; index++) {
         if (print1525_decoder_edge(&decoder, &edges[index], &reading, &details) != PRINT1525_DONE) is_wrong("a decoder", details.fault);
         if (print1525_receiver_edge(&receiver, &edges[index], &received, &details) != PRINT1525_DONE) is_wrong("a receiver", details.fault);
         if (print1525_device_step(&device, &edges[index], &step, &details) != PRINT1525_DONE) is_wrong("a device", details.fault);
-        print1525_device_busy(&device, edges[index].time + 9);
-        print1525_strict_edge(&strict, &edges[index], &input, &details);
+        print1525_device_busy(&device, edges[index].time + 9, &details);
     }
     print1525_decoder_end(&decoder, &reading, &details);
-    print1525_strict_end(&strict, &details);
-    print1525_strict_edges(4, edges, 1, received_inputs, 4, &details);
     print1525_message(&details, text, sizeof text);
     if (print1525_strerror(PRINT1525_FAULT_NO_MEMORY)[0] != 'o' || print1525_version()[0] != '1') is_wrong("words", 0);
     refused_from = 0;
@@ -403,26 +386,31 @@ static void try_edges(void) {
 static void try_printer(void) {
     static const char text[] = "AB\016C\r\022D\r\010\032\377\201\032\377\252\r\017\020" "12E\033\020\001\101F";
     print1525_mark marks[PRINT1525_MARKS_OF_A_BYTE];
-    const print1525_region region = {0, 0, 20, 60};
-    uint8_t pixels[20 * 60], paper[20 * 60];
+    const print1525_region region = {0, 0, 20, 60, 0, PRINT1525_GRAY};
+    print1525_region window = {0, 0, 0, 0, 0, PRINT1525_BITS};
+    uint8_t pixels[20 * 60], paper[20 * 60], bits[120 * 200];
     print1525_printer printer, other;
     print1525_details details;
-    size_t index, one_by_one = 0, together = 0, made;
+    size_t index, one_by_one = 0, together = 0, made = 0, some;
     name_now = "a watched printer";
     taken = 0;
     refused_from = 1;
     refused_to = MOST;
     memset(paper, 255, sizeof paper);
-    if (print1525_printer_begin(&printer) != PRINT1525_DONE || print1525_printer_select(&printer, PRINT1525_SET_LOWER) != PRINT1525_DONE) is_wrong("no printer", 0);
+    if (print1525_printer_begin(&printer, NULL) != PRINT1525_DONE || print1525_printer_select(&printer, PRINT1525_SET_LOWER, NULL) != PRINT1525_DONE) is_wrong("no printer", 0);
     other = printer;
     for (index = 0; index < sizeof text - 1; index++) {
-        if (print1525_printer_byte(&printer, (uint8_t)text[index], marks, PRINT1525_MARKS_OF_A_BYTE, &details) != PRINT1525_DONE) is_wrong("a byte", details.fault);
-        one_by_one += made = details.length;
+        if (print1525_printer_byte(&printer, (uint8_t)text[index], marks, PRINT1525_MARKS_OF_A_BYTE, &made, &details) != PRINT1525_DONE) is_wrong("a byte", details.fault);
+        one_by_one += made;
         if (print1525_printer_page(marks, made, &region, pixels, sizeof pixels, &details) != PRINT1525_DONE) is_wrong("a page", details.fault);
         if (print1525_printer_draw(marks, made, &region, paper, sizeof paper, &details) != PRINT1525_DONE) is_wrong("drawn marks", details.fault);
     }
-    for (index = 0; index < sizeof text - 1; index += details.place, together += details.length)
-        if (print1525_printer_bytes(&other, text + index, sizeof text - 1 - index, marks, PRINT1525_MARKS_OF_A_BYTE, &details) != PRINT1525_DONE || details.place == 0) exit(98);
+    for (index = 0; index < sizeof text - 1; index += some, together += made) {
+        some = sizeof text - 1 - index;
+        if (print1525_printer_bytes(&other, text + index, &some, marks, PRINT1525_MARKS_OF_A_BYTE, &made, &details) != PRINT1525_DONE || some == 0) exit(98);
+        if (print1525_printer_changed(marks, made, &window, &details) != PRINT1525_DONE) is_wrong("a change", details.fault);
+        if (print1525_printer_page(marks, made, &window, bits, sizeof bits, &details) != PRINT1525_DONE) is_wrong("bits", details.fault);
+    }
     if (one_by_one != 516 || together != one_by_one || other.y != printer.y || memchr(paper, 0, sizeof paper) == NULL) is_wrong("its marks", (long)one_by_one);
     refused_from = 0;
     if (taken != 0) is_wrong("memory is taken", taken);
@@ -432,54 +420,51 @@ int main(int words, char **word) {
     const int tells = words > 2;
     print1525_settings settings = PRINT1525_SETTINGS_INIT;
     print1525_details details;
-    size_t index;
+    size_t index, length;
     FILE *const file = words > 1 ? fopen(word[1], "rb") : NULL;
     /* What MinGW's start has taken for the words is its own. */
     live = 0;
     if (file == NULL) return 98;
-    characters_length = fread(characters, 1, sizeof characters, file);
+    characters_length = fread(characters, 1, sizeof characters - 1, file);
     fclose(file);
     alarm(SECONDS);
-    print1525_bus("OPEN 4,4\nPRINT#4,\"A\"\n", 21, &settings, trace, sizeof trace, &details);
-    trace_length = details.length;
-    settings.trace = PRINT1525_TRACE_VCD;
-    print1525_bus("OPEN 4,4\nPRINT#4,\"A\"\n", 21, &settings, dump, sizeof dump, &details);
-    dump_length = details.length;
+    print1525_bus("OPEN 4,4\nPRINT#4,\"A\"\n", 21, &settings, trace, sizeof trace, &trace_length, &details);
+    settings.as = PRINT1525_AS_VCD;
+    print1525_bus("OPEN 4,4\nPRINT#4,\"A\"\n", 21, &settings, dump, sizeof dump, &dump_length, &details);
     memcpy(cut, trace, trace_length / 2);
     memcpy(cut + trace_length / 2, "\n5 1111\n", 8);
     cut_length = trace_length / 2 + 8;
-    settings.trace = PRINT1525_TRACE_TEXT;
-    print1525_bus(letters, sizeof letters - 1, &settings, example, sizeof example - 1, &details);
-    if (details.length >= sizeof example) return 98;
-    example[details.length] = 0;
+    print1525_bus(letters, sizeof letters - 1, NULL, example, sizeof example - 1, &length, &details);
+    if (length >= sizeof example) return 98;
+    example[length] = 0;
 
     for (index = 0; index < sizeof rows / sizeof *rows; index++) try_row(&rows[index], tells);
     for (index = 0; index < sizeof explained_rows / sizeof *explained_rows; index++) try_explained(&explained_rows[index], tells);
-    try_pages("pages", script, sizeof script - 1, PRINT1525_FROM_TEXT, tells);
-    try_pages("pages", petcat, sizeof petcat - 1, PRINT1525_FROM_PETCAT, tells);
-    try_pages("raw", bytes, sizeof bytes - 1, 0, tells);
-    try_pages("print", inputs, sizeof inputs, 0, tells);
-    try_pages("reprint", trace, trace_length, 0, tells);
-    try_one("pages", stopping, sizeof stopping - 1, 0, 0, 0, 0, tells);
-    try_one("pages", program, sizeof program - 1, PRINT1525_FROM_PRG, 0, 0, 0, tells);
-    try_one("pages", bad_script, sizeof bad_script - 1, 0, 0, 0, 0, tells);
-    try_one("print", bad_inputs, sizeof bad_inputs, 0, 0, 0, 0, tells);
-    try_one("bus", script, sizeof script - 1, 0, 0, 0, PRINT1525_TRACE_TEXT, tells);
-    try_one("bus", stopping, sizeof stopping - 1, 0, 0, 0, PRINT1525_TRACE_VCD, tells);
-    try_one("bus", petcat, sizeof petcat - 1, PRINT1525_FROM_PETCAT, 0, 0, PRINT1525_TRACE_TEXT, tells);
-    try_one("listing", script, sizeof script - 1, PRINT1525_FROM_TEXT, 0, 0, 0, tells);
-    try_one("listing", program, sizeof program - 1, PRINT1525_FROM_PRG, 0, 0, 0, tells);
-    try_one("listing", petcat, sizeof petcat - 1, PRINT1525_FROM_PETCAT, 0, 0, 0, tells);
-    try_one("explain_script", bad_script, sizeof bad_script - 1, 0, 0, 0, 0, tells);
-    try_one("explain_script", petcat, sizeof petcat - 1, PRINT1525_FROM_PETCAT, 0, 0, 0, tells);
-    try_one("explain_stop", stopping, sizeof stopping - 1, 0, 0, 0, 0, tells);
-    try_one("explain_stop", petcat, sizeof petcat - 1, PRINT1525_FROM_PETCAT, 0, 0, 0, tells);
-    try_recording(trace, trace_length, PRINT1525_RECORDING_TEXT, tells);
-    try_recording(cut, cut_length, PRINT1525_RECORDING_TEXT, tells);
-    try_recording(dump, dump_length, PRINT1525_RECORDING_VCD, tells);
-    try_recording(dump, dump_length / 2, PRINT1525_RECORDING_VCD, tells);
-    try_recording(csv, sizeof csv - 1, PRINT1525_RECORDING_CSV, tells);
-    try_recording(bad_csv, sizeof bad_csv - 1, PRINT1525_RECORDING_CSV, tells);
+    try_pages("pages", script, sizeof script - 1, "--delays 7,9", tells);
+    try_pages("pages", petcat, sizeof petcat - 1, "--from petcat", tells);
+    try_pages("raw", bytes, sizeof bytes - 1, "", tells);
+    try_pages("print", inputs, sizeof inputs, "", tells);
+    try_pages("decode", trace, trace_length, "", tells);
+    try_one("pages", script, sizeof script - 1, "--as bytes --device 5", tells);
+    try_one("pages", stopping, sizeof stopping - 1, "--delays /7,9,1", tells);
+    try_one("pages", program, sizeof program - 1, "--from prg", tells);
+    try_one("pages", bad_script, sizeof bad_script - 1, "", tells);
+    try_one("pages", bad_script, sizeof bad_script - 1, "--explain", tells);
+    try_one("pages", petcat, sizeof petcat - 1, "--from petcat --explain", tells);
+    try_one("print", bad_inputs, sizeof bad_inputs, "", tells);
+    try_one("bus", script, sizeof script - 1, "--delays /7,9,1", tells);
+    try_one("bus", stopping, sizeof stopping - 1, "--as vcd", tells);
+    try_one("bus", petcat, sizeof petcat - 1, "--from petcat", tells);
+    try_one("listing", script, sizeof script - 1, "--from text", tells);
+    try_one("listing", program, sizeof program - 1, "--from prg", tells);
+    try_one("listing", petcat, sizeof petcat - 1, "--from petcat", tells);
+    try_answers(tells);
+    try_recording(trace, trace_length, "text", tells);
+    try_recording(cut, cut_length, "text", tells);
+    try_recording(dump, dump_length, "vcd", tells);
+    try_recording(dump, dump_length / 2, "vcd", tells);
+    try_recording(csv, sizeof csv - 1, "csv", tells);
+    try_recording(bad_csv, sizeof bad_csv - 1, "csv", tells);
     try_edges();
     try_printer();
     return wrong != 0;

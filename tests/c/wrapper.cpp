@@ -26,7 +26,7 @@ template <typename Call> static std::string message_of(Call call) {
 static void texts() {
     const std::string_view script = "OPEN 4,4\nPRINT#4,\"A\"\n";
     print1525::settings kept;
-    kept.mode = PRINT1525_MODE_KEPT;
+    kept.status = PRINT1525_MODE_KEPT;
     CHECK(print1525::pages("OPEN 4,4:PRINT#4,\"A\"\n").text == "printer 4\nrow 0\n 0 cell 65\nprinter 5\nstatus 0 0\nscreen\n");
     CHECK(print1525::pages(script, kept).stop() == std::nullopt);
     const print1525::result stopped = print1525::pages("REM\nPRINT#5");
@@ -40,21 +40,26 @@ static void texts() {
     CHECK(message_of([] { print1525::pages("A\n"); }) == "line 1: unknown word");
     CHECK(message_of([] { print1525::check("0 11\n"); }) == "line 1: bad trace line");
     CHECK(print1525::pages(std::string_view()).text == print1525::pages("").text);
-    const print1525::result why = print1525::explain_stop("REM\nPRINT#5", stopped.details);
-    CHECK(why.details.place == 2 && why.text.find("line 2: PRINT#5") != std::string::npos);
-    CHECK(print1525::explain_script("REM\nA\n").details.place == 2 && print1525::explain_script("REM\n").text.empty());
-    CHECK(message_of([&] { print1525::explain_stop("REM\n", {}); }) == "no such error");
+    CHECK(print1525::explained(print1525_pages, "REM\nPRINT#5").find("line 2: PRINT#5") != std::string::npos);
+    CHECK(print1525::explained(print1525_pages, "REM\nA\n").find("line 2, column 1") != std::string::npos);
+    CHECK(print1525::answer({"pages", "--as", "text"}, script).text == print1525::pages(script, PRINT1525_AS_TEXT).text);
+    CHECK(message_of([&] { print1525::answer({"pages", "--nothing"}, script); }) == "words that ask for nothing");
+    CHECK(message_of([&] { print1525::raw("A", PRINT1525_AS_VCD); }) == "setting as: bad setting");
     /* Two sheets, of which one is shown: it is the second alone, and there is no third. */
     const std::string lines = "OPEN 4,4\n" + [] {
         std::string made;
         for (int line = 0; line < 70; line++) made += "PRINT#4,\"A\"\n";
         return made;
     }();
-    print1525::settings all = PRINT1525_PAGE_SVG, one = PRINT1525_PAGE_SVG;
-    CHECK(print1525::pages(lines, one.shows(4, 2)).text.size() < print1525::pages(lines, all).text.size() / 4);
-    CHECK(print1525::pages(lines, one.shows(4, 1)).text != print1525::pages(lines, print1525::settings(one).shows(4, 2)).text);
-    CHECK(message_of([&] { print1525::pages(lines, one.shows(0, 3)); }) == "no such sheet");
-    CHECK(message_of([&] { print1525::pages(lines, print1525::settings(PRINT1525_PAGE_PDF).shows(0, 1)); }) == "no such format");
+    print1525::settings all = PRINT1525_AS_SVG, one = PRINT1525_AS_SVG, first = PRINT1525_AS_SVG;
+    one.device = first.device = 4;
+    one.sheet = 2, first.sheet = 1;
+    CHECK(print1525::pages(lines, one).text.size() < print1525::pages(lines, all).text.size() / 4);
+    CHECK(print1525::pages(lines, first).text != print1525::pages(lines, one).text);
+    one.sheet = 3;
+    CHECK(message_of([&] { print1525::pages(lines, one); }) == "no such sheet");
+    one.as = PRINT1525_AS_PDF;
+    CHECK(message_of([&] { print1525::pages(lines, one); }) == "setting sheet: bad setting");
 }
 
 static void printers(const char *name) {
@@ -64,12 +69,12 @@ static void printers(const char *name) {
     CHECK(printer.page() == print1525::raw("").text);
     printer.select(PRINT1525_SET_LOWER);
     printer.print("Ab\r");
-    print1525::settings settings = PRINT1525_PAGE_SVG;
+    print1525::settings page = PRINT1525_AS_SVG, settings = page;
     settings.set = PRINT1525_SET_LOWER;
-    CHECK(printer.page(settings) == print1525::raw("Ab\r", settings).text);
-    settings.draws(characters);
-    CHECK(!characters.empty() && printer.page(settings) == print1525::raw("Ab\r", settings).text);
-    CHECK(printer.page(settings) != printer.page(PRINT1525_PAGE_SVG));
+    CHECK(printer.page(page) == print1525::raw("Ab\r", settings).text);
+    page.draws(characters), settings.draws(characters);
+    CHECK(!characters.empty() && printer.page(page) == print1525::raw("Ab\r", settings).text);
+    CHECK(printer.page(page) != printer.page(PRINT1525_AS_SVG));
     printer.clear();
     CHECK(printer.page() == print1525::raw("").text);
 }
@@ -91,30 +96,31 @@ static void recordings() {
     CHECK(bytes == "HI\r" && received == "HI\r" && !decoder.end());
     const std::vector<print1525_edge> edges = print1525::edges(trace);
     CHECK(edges.size() == 110 && edges[0].time == 0 && edges[0].data == 1 && edges[1].time == 100 && edges[1].atn == 0);
-    print1525::settings vcd, json, story;
-    vcd.trace = PRINT1525_TRACE_VCD;
-    const std::string dump = print1525::bus("OPEN 4,4\nPRINT#4,\"HI\"\n", vcd).text;
-    vcd.reads(PRINT1525_RECORDING_VCD);
+    print1525::settings vcd;
+    const std::string dump = print1525::bus("OPEN 4,4\nPRINT#4,\"HI\"\n", PRINT1525_AS_VCD).text;
+    vcd.from = PRINT1525_FROM_VCD;
     CHECK(print1525::edges(dump, vcd).size() == edges.size() && print1525::check(dump, vcd).text == print1525::check(trace).text);
-    CHECK(message_of([&] { print1525::edges(dump, print1525::settings(vcd).names("ATN", "CLOCK", "SRQ")); }).find("no signal DATA") != std::string::npos);
-    json.writes(PRINT1525_WORDS_JSON);
-    CHECK(print1525::readings(trace).text.find("HI") == std::string::npos && print1525::readings(trace, json).text[0] == '{');
-    CHECK(print1525::check(trace, story.writes(PRINT1525_WORDS_STORY)).text != print1525::check(trace).text);
-    CHECK(print1525::reprint(trace).text.find("cell 72") != std::string::npos);
+    vcd.names = "ATN,CLOCK,SRQ";
+    CHECK(message_of([&] { print1525::edges(dump, vcd); }).find("no signal DATA") != std::string::npos);
+    CHECK(print1525::decode(trace).text.find("HI") == std::string::npos && print1525::decode(trace, PRINT1525_AS_JSON).text[0] == '{');
+    CHECK(print1525::check(trace, PRINT1525_AS_STORY).text != print1525::check(trace).text);
+    CHECK(print1525::decode(trace, PRINT1525_AS_TEXT).text.find("HI") != std::string::npos);
+    print1525::settings text;
+    text.from = PRINT1525_FROM_TEXT;
     try {
-        print1525::readings(trace + "x\n");
+        print1525::decode(trace + "x\n", text);
         CHECK(false);
     } catch (const print1525::error &why) {
-        CHECK(why.what() == std::string("line 111: bad trace line") && why.text.size() > 100 && why.text.size() == why.details.length);
+        CHECK(why.what() == std::string("line 111: bad trace line") && why.text.size() > 100);
     }
     try {
-        print1525::edges(trace + "x\n");
+        print1525::edges(trace + "x\n", text);
         CHECK(false);
     } catch (const print1525::error &why) {
         CHECK(why.edges.size() == 110 && why.edges[109].time == edges[109].time);
     }
-    CHECK(print1525::explain_reading(trace + "x\n").details.place == 111 && print1525::explain_trace(trace + "x\n").details.place == 111);
-    CHECK(print1525::explain_trace(trace).text.empty() && print1525::explain_reading(trace).details.place == 0);
+    CHECK(print1525::explained(print1525_decode, trace + "x\n", text).find("line 111") != std::string::npos);
+    CHECK(print1525::explained(print1525_check, trace).empty());
     CHECK(message_of([&] { receiver.edge({0, 1, 1, 1}); }) == "time goes back");
     CHECK(message_of([] { print1525::receiver(31); }) == "no such device");
     CHECK(message_of([&] { decoder.edge({0, 1, 1, 1}); }) == "time goes back");
@@ -129,12 +135,16 @@ static void watched_printers() {
     CHECK(printer.print("\r").empty() && printer.state().y == 21 && copy.state().y == 0);
     marks = printer.print("\b\x1a\xff\x81\x1a\xff\x81");
     CHECK(marks.size() == 510 && marks[479].x == 479 && marks[480].x == 0 && marks[480].y == 35 && marks[509].value == 1);
-    const std::vector<std::uint8_t> pixels = print1525::pixels(marks, {959, 21, 2, 3});
+    CHECK(print1525::changed(marks).width == 960 && print1525::changed(marks).y == 21 && print1525::changed(marks).height == 28);
+    const std::vector<std::uint8_t> pixels = print1525::pixels(marks, {959, 21, 2, 3, 0, 0});
     CHECK((pixels == std::vector<std::uint8_t>{0, 255, 0, 255, 255, 255}));
-    CHECK(message_of([&] { print1525::pixels(marks, {0, 0, SIZE_MAX, SIZE_MAX}); }) == print1525_strerror(PRINT1525_FAULT_TOO_LARGE));
+    CHECK(message_of([&] { print1525::pixels(marks, {0, 0, SIZE_MAX, SIZE_MAX, 0, 0}); }) == print1525_strerror(PRINT1525_FAULT_TOO_LARGE));
 }
 
 static void devices() {
+    print1525::watched_printer printer;
+    printer.print("\r"), printer.form_feed();
+    CHECK(printer.state().y == PRINT1525_SHEET && printer.tear_off() == 1 && printer.state().y == 0);
     print1525::device device(4), quick(5, {1, 1, 200, 80, 1, 1});
     print1525_step step = device.step({0, 1, 1, 1});
     CHECK(step.pulls_data == 0 && step.wake == PRINT1525_NO_WAKE && step.heard.kind == PRINT1525_NOTHING_RECEIVED);

@@ -48,7 +48,7 @@ def without_place():
 
 
 def objects(platform, modules, work):
-    """The objects of the library: the heap, the proved crates, and the header's functions."""
+    """The objects of the library: the heap, the proved crates, and its C code."""
     layout, triple = platforms.layout(platform)
     heap = f'target datalayout = "{layout}"\ntarget triple = "{triple}"\n{crates.text_of(f"{HERE}/heap.ll")}'
     found = [platforms.compile_module(heap, platform, f"{work}/heap.o")]
@@ -56,9 +56,9 @@ def objects(platform, modules, work):
         text = platforms.with_names(platforms.for_platform(crates.text_of(f"{modules}/{name}.ll"), platform), platforms.declared())
         platforms.see(text, name)
         found.append(platforms.compile_module(text, platform, f"{work}/{name}.o"))
-    for name in ("functions", "version"):
+    for name in platforms.CODE:
         pic = ["-fPIC"] * (platform.system == "linux")
-        words = [*platform.compiler, *C_WORDS, *pic, "-I", "include", "-c", f"include/{name}.c", "-o", f"{work}/{name}.o"]
+        words = [*platform.compiler, *C_WORDS, *pic, "-I", "include", "-c", f"library/{name}.c", "-o", f"{work}/{name}.o"]
         llvm.run(words, cwd=crates.ROOT)
         found.append(f"{work}/{name}.o")
     return found
@@ -70,7 +70,7 @@ def archive(platform, parts, folder):
 
 
 def shared_linux(platform, parts, folder, work):
-    platforms.write(f"{work}/map", "PRINT1525_1 { global: print1525_*; local: *; };\n")
+    platforms.write(f"{work}/map", f"PRINT1525_1 {{ global: {' '.join(f'{it};' for it in platforms.names())} local: *; }};\n")
     words = LINKED.format(map=f"{work}/map").split()
     soname = f"libprint1525.so.{version().split('.')[0]}"
     made = f"{folder}/libprint1525.so.{version()}"

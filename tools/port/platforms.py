@@ -2,7 +2,7 @@
 
 The code of a module stays as it is. The lines that change say for which processor it is, which attributes its functions have, and under
 which names it is called: a proved export print1525_x is print1525_plain_x in the library, as tools/archive has it, and an export that
-the header does not declare is left out."""
+library/plain.h does not declare is left out."""
 
 import os
 import re
@@ -73,20 +73,19 @@ def write(path, text):
         file.write(text)
 
 
+# The files of the library's C code, and the header of the proved calls that they make.
+CODE = ("words", "bus", "device", "printer", "texts")
+PLAIN = f"{crates.ROOT}/library/plain.h"
+
+
 def declared():
-    """The names of the proved calls that the header declares, without what all begin with."""
-    return {*re.findall(r"^void print1525_plain_(\w+)\(", crates.text_of(f"{crates.ROOT}/include/print1525.h"), re.M)}
-
-
-def functions():
-    """The header's functions, which programs in languages that read no header call."""
-    header = crates.text_of(f"{crates.ROOT}/include/print1525.h")
-    return sorted({*re.findall(r"^PRINT1525_CALL [^(;]*?\b(print1525_\w+)\(", header, re.M), "print1525_version"})
+    """The names of the proved calls that the library's C code makes, without what all begin with."""
+    return {*re.findall(r"^void print1525_plain_(\w+)\(", crates.text_of(PLAIN), re.M)}
 
 
 def names():
-    """The names that a shared library has: the header's functions, and the proved calls, which the header's functions make in C programs."""
-    return sorted([*functions(), *(f"print1525_plain_{it}" for it in declared())])
+    """The names that a shared library has: the calls of the header."""
+    return sorted(re.findall(r"^(?:int|size_t|const char \*) ?(print1525_\w+)\(", crates.text_of(f"{crates.ROOT}/include/print1525.h"), re.M))
 
 
 def layout(platform):
@@ -120,7 +119,7 @@ def for_platform(text, platform):
 
 
 def with_names(text, roots):
-    """A module whose exports have the library's names; those that the header does not declare are none any more."""
+    """A module whose exports have the library's names; those that plain.h does not declare are none any more."""
     if not re.search(r"^define void @print1525_", text, re.M):
         llvm.stop("a module has no export")
     text = re.sub(r"@print1525_(\w+)\(", lambda found: f"@print1525_plain_{found[1]}(" if found[1] in roots else found[0], text)

@@ -1,5 +1,5 @@
 -- Receivers between calls: what comes with one edge more, and what it is to a printer.
-use Rattle.std.proofs.Common.{◌≡◌, ℕ, ◌≤◌, ◌+◌, ◌-◌, arith, Bool, true, false, not, List, [], ◌∷◌, ◌++◌, map, Option, Some, None, Result, Ok, Err, refl, sym, ap, subst, ◌∙◌, append-nil}
+use Rattle.std.proofs.Common.{◌≡◌, ℕ, ◌≤◌, ◌+◌, ◌-◌, arith, Bool, true, false, not, List, [], ◌∷◌, ◌++◌, map, Option, Some, None, Result, Ok, Err, refl, sym, ap, subst, ◌∙◌, append-nil, append_assoc}
 use Rattle.std.proofs.lemmas.Bool.{eq-eqb, eqb-true}
 use Rattle.std.proofs.lemmas.List.Elements.{filter_map-append}
 use Rattle.std.proofs.lemmas.Grind.{flat_map-append}
@@ -30,8 +30,12 @@ use Rattle.pr_ear.specs.Decoding.{StandsBefore, last_moment, said_by, settled_by
 use Rattle.pr_ear.specs.Hearing.{bit_of, edge_of, number_of, IsDevice}
 use Rattle.pr_ear.specs.Receiving.{printed_for, printed_of, received_by, received_from, received_of, ReceiversHearLawfulTraces, ReceiversHearWhatIsPrinted, TellsReceived}
 use Rattle.pr_ear.specs.ReceiverTaken.{frame_in, listener_by, received_with, HasReceived}
-use Rattle.pr_ear.proofs.Standings.{with_before-append}
 use Rattle.pr_ear.proofs.Stored.{bit-back}
+
+-- the elements before each, for two parts
+with_before-append : {X : Type 0} → (before xs ys : List X) → with_before before (xs ++ ys) ≡ with_before before xs ++ with_before (before ++ xs) ys
+with_before-append before [] ys = rw append-nil
+with_before-append before (x ∷ xs) ys = rw (with_before-append (before ++ x ∷ []) xs ys, append_assoc)
 
 -- a byte that the recording's end cuts is not acknowledged, so the frames of all readings are those of the settled ones
 pub settled-frames : (rs : List Reading) → acknowledged_frames rs ≡ acknowledged_frames (filter is_settled rs)

@@ -1,5 +1,4 @@
 pub mod Hearing
-pub mod Buffers
 pub mod Decoding
 pub mod DecoderTaken
 pub mod DecoderLeft
@@ -7,8 +6,6 @@ pub mod Receiving
 pub mod ReceiverTaken
 pub mod ReceiverLeft
 pub mod Numbers
-pub mod Taken
-pub mod Strict
 pub mod MarkNumbers
 pub mod PrinterNumbers
 pub mod Printing

@@ -158,7 +158,7 @@ pub fn receive_edge(
 }
 
 /// A law: what comes to a printer on any bus is what it prints of the recording; of a lawful trace it
-/// is what [`crate::receive`] gives.
+/// is what a device hears of the frames that the trace spells.
 pub fn receivers_hear_what_is_printed()
     ensures printed { ReceiversHearWhatIsPrinted }
     ensures lawful { ReceiversHearLawfulTraces }

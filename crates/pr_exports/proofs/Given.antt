@@ -1,5 +1,5 @@
 -- What is made in memory, and handed to the caller.
-use Rattle.std.proofs.Common.{◌≡◌, ℕ, List, [], Option, Some, Result, Ok, subst, inl, inr}
+use Rattle.std.proofs.Common.{◌≡◌, ℕ, List, Option, Ok, subst, inl, inr}
 use Rattle.pr_wire.specs.declared.Edge.{Edge}
 use Rattle.pr_basic.specs.Faults.{IsFirstFault}
 use Rattle.pr_basic.specs.Grammar.{IsScript}
@@ -9,22 +9,14 @@ use Rattle.pr_base.specs.Lines.{lines_of}
 use Rattle.pr_jobs.specs.Report.{Says}
 use Rattle.pr_jobs.specs.declared.fault.CliFault.{CliFault}
 use Rattle.pr_jobs.specs.declared.fault.CliFault.TheVariants.{Script}
-use Rattle.pr_jobs.specs.Check.{trace_limit}
-use Rattle.pr_render.specs.declared.format.Format.{Format}
 use Rattle.pr_capture.specs.declared.format.TraceInput.{TraceInput}
-use Rattle.pr_recording.specs.Decoded.{AnswersDecode, readings_up_to}
+use Rattle.pr_recording.specs.Decoded.{readings_up_to}
 use Rattle.pr_decode.specs.declared.reading.Reading.{Reading}
 use Rattle.pr_report.specs.Intervals.{intervals}
-use Rattle.pr_dots.specs.declared.character_sets.Shapes.{Shapes}
-use Rattle.pr_recording.specs.Listening.{nobody}
-use Rattle.pr_recording.specs.Pages.{AnswersPages}
-use Rattle.pr_recording.specs.declared.pages.Reprinted.{Reprinted}
-use Rattle.pr_recording.specs.declared.wording.Wording.{Wording}
 use Rattle.pr_report.specs.declared.detail.Detail.{Detail}
-use Rattle.pr_report.specs.declared.oddities.Oddities.{Oddities}
 use Rattle.pr_report.specs.Contexts.{at_start}
 use Rattle.pr_exports.specs.EdgeDelays.{edge_delays}
-use Rattle.pr_exports.specs.Giving.{Gives, GivesDelays, GivesEdges, GivesFault, GivesIntervals, GivesLines, GivesPages, GivesReadings, GivesRows, made_of, without_value}
+use Rattle.pr_exports.specs.Giving.{Gives, GivesDelays, GivesEdges, GivesFault, GivesIntervals, GivesLines, GivesRows, made_of}
 use Rattle.pr_exports.specs.Lengths.{interval_numbers}
 use Rattle.pr_exports.specs.Numbers.{AreLineNumbers, IsFaultRow, edge_numbers, reading_rows}
 use Rattle.pr_exports.specs.Rows.{EndsReadings}
@@ -32,17 +24,7 @@ use Rattle.pr_exports.specs.declared.answer.TextGiven.{TextGiven}
 use Rattle.pr_exports.specs.declared.answer.TextGiven.TheVariants.{Refused}
 use Rattle.pr_exports.specs.declared.rows.Ended.{Ended}
 
--- what a recording says is handed over
-pub gives-readings : (input : TraceInput) (wording : Wording) (bytes text old new : List ℕ) (made : Result Oddities CliFault) (told : TextGiven)
-    → AnswersDecode trace_limit wording input bytes (Some []) (Some text) made → Gives (without_value made) text old new told → GivesReadings input wording bytes old new told
-gives-readings input wording bytes text old new made told a g = (made, text, a, g)
-
--- so are its pages
-pub gives-pages : (shapes : Shapes) (input : TraceInput) (format : Format) (bytes text old new : List ℕ) (made : Result Reprinted CliFault) (told : TextGiven)
-    → AnswersPages shapes input nobody format bytes (Some []) (Some text) made → Gives (without_value made) text old new told → GivesPages shapes input format bytes old new told
-gives-pages shapes input format bytes text old new made told a g = (made, text, a, g)
-
--- so are edges
+-- edges are handed over
 pub gives-edges : (input : TraceInput) (bytes : List ℕ) (edges : List Edge) (own : Option CliFault) (numbers old new : List ℕ) (told : TextGiven)
     → Says input bytes edges own → numbers ≡ edge_numbers edges → Gives (made_of own) numbers old new told → GivesEdges input bytes old new told
 gives-edges input bytes edges own numbers old new told says are g =

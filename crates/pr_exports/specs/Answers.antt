@@ -1,12 +1,8 @@
 -- Trusted: the answer of a call with numbers.
-use Rattle.std.specs.Prelude.{ℕ, Option, Some, None}
-use Rattle.std.specs.Option.{option_map_or, unwrap_or}
+use Rattle.std.specs.Prelude.{ℕ, Some, None}
 use Rattle.pr_cli.specs.Statuses.{status_of}
 use Rattle.pr_cli.specs.declared.statuses.End.{End}
 use Rattle.pr_cli.specs.declared.statuses.End.TheVariants.{Job}
-use Rattle.pr_explain.specs.declared.traces.ReadingPlace.{ReadingPlace}
-use Rattle.pr_explain.specs.declared.traces.ReadingPlace.TheVariants.{Edge, Line}
-use Rattle.pr_explain.specs.declared.traces.TracePlace.{TracePlace}
 use Rattle.pr_exports.specs.Faults.{numbers_of}
 use Rattle.pr_exports.specs.declared.answer.Answer.{Answer}
 use Rattle.pr_exports.specs.declared.answer.TextGiven.{TextGiven}
@@ -36,12 +32,3 @@ answer_of (Written None n) = plain 0 n
 answer_of (Written (Some fault) n) = record (ended (Job fault)) { length = n }
 answer_of (TooSmall n) = plain 4 n
 answer_of (Refused fault) = ended (Job fault)
-
--- the line that cannot be read, or else the index of the edge, or else 0
-abbrev pub place_of_trace : TracePlace → ℕ
-place_of_trace p = unwrap_or p.line (option_map_or (λ e. e.index) p.edge 0)
-
--- the index of the edge, or the line
-abbrev pub number_read : ReadingPlace → ℕ
-number_read (Edge index) = index
-number_read (Line line) = line

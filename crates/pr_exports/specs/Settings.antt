@@ -1,8 +1,5 @@
 -- Trusted: what the numbers and bytes that a caller passes mean.
-use Rattle.std.specs.Prelude.{◌≡◌, ℕ, ◌==◌, Bool, true, false, List, [], ◌∷◌, if◌then◌else◌, not, option_map, nat_lt, Option, Some, None, Result, Ok, take}
-use Rattle.pr_basic.specs.declared.session.StatusMode.{StatusMode}
-use Rattle.pr_basic.specs.declared.session.StatusMode.TheVariants as mode
-use Rattle.pr_channels.specs.declared.faults.Stop.{Stop}
+use Rattle.std.specs.Prelude.{◌≡◌, ℕ, ◌==◌, Bool, true, false, List, [], ◌∷◌, if◌then◌else◌, not, nat_lt, Option, Some, None, Result, Ok, take}
 use Rattle.pr_characters.specs.File.{AnswersFile}
 use Rattle.pr_characters.specs.declared.fault.CharactersFault.{CharactersFault}
 use Rattle.pr_dots.specs.Shapes.{own_shapes}
@@ -13,7 +10,6 @@ use Rattle.pr_listing.specs.declared.form.ListingForm.{ListingForm}
 use Rattle.pr_listing.specs.declared.form.ListingForm.TheVariants as listing
 use Rattle.pr_capture.specs.Found.{found_format}
 use Rattle.pr_capture.specs.Recording.{alike}
-use Rattle.pr_channels.specs.declared.faults.Stop.TheVariants as stop
 use Rattle.pr_render.specs.declared.format.Format.{Format}
 use Rattle.pr_render.specs.declared.format.Layout.{Layout}
 use Rattle.pr_render.specs.declared.format.Look.TheVariants.{Blocks}
@@ -23,18 +19,11 @@ use Rattle.pr_render.specs.declared.format.Device.{Device}
 use Rattle.pr_render.specs.declared.format.Device.TheVariants.{Four, Five}
 use Rattle.pr_render.specs.declared.format.Format.TheVariants as format
 use Rattle.pr_render.specs.Showing.{showing, usual, whole}
-use Rattle.pr_recording.specs.declared.wording.Wording.{Wording}
-use Rattle.pr_recording.specs.declared.wording.Wording.TheVariants.{Json, Lines}
 use Rattle.pr_report.specs.declared.detail.Bounds.TheVariants.{Guide, Profile}
 use Rattle.pr_report.specs.declared.detail.Detail.{Detail}
 use Rattle.pr_capture.specs.declared.format.InputFormat.{InputFormat}
 use Rattle.pr_capture.specs.declared.format.InputFormat.TheVariants as source
 use Rattle.pr_capture.specs.declared.format.TraceInput.{TraceInput}
-use Rattle.pr_serial.specs.declared.Present.{Present}
-use Rattle.pr_options.specs.declared.outputs.CheckOutput.{CheckOutput}
-use Rattle.pr_options.specs.declared.outputs.CheckOutput.TheVariants as check
-use Rattle.pr_options.specs.declared.outputs.CheckOutput.TheVariants.{Report as Reported}
-use Rattle.pr_report.specs.declared.report.Report.TheVariants.{Frames, Story}
 
 -- the format of a recording: a trace text, a Value Change Dump, a table of comma separated values, or the one that its
 -- first 4096 bytes show and else a text, or else a table
@@ -55,26 +44,9 @@ AsksShapes (b ∷ bs) asked = AnswersFile (b ∷ bs) asked
 abbrev pub WithShapes : List ℕ → (Result Shapes CharactersFault → Type 0) → Type 0
 WithShapes characters Answers = (asked : Result Shapes CharactersFault) × AsksShapes characters asked × Answers asked
 
--- the BASIC error with a number
-abbrev pub stop_of : ℕ → Option Stop
-stop_of number =
-    if number == 1 then Some stop.TooManyFiles
-    else (if number == 2 then Some stop.FileOpen
-    else (if number == 3 then Some stop.FileNotOpen
-    else (if number == 5 then Some stop.DeviceNotPresent else (if number == 6 then Some stop.NotInputFile else None))))
-
 -- whether a number means yes
 abbrev pub is_yes : ℕ → Bool
 is_yes number = not (number == 0)
-
--- the printers that are present
-abbrev pub presence : (four five : ℕ) → Present
-presence four five = record { four = is_yes four; five = is_yes five }
-
--- the status: cleared before each statement, or kept
-abbrev pub mode_of : (is_kept : Bool) → StatusMode
-mode_of false = mode.Each
-mode_of true = mode.Kept
 
 -- the form of a listing: the text of a script, a saved program, petcat's text, a magazine's listing, what the first bytes show
 abbrev pub form_of : ℕ → Option ListingForm
@@ -150,16 +122,6 @@ detail_of number =
     else (if number == 1 then Some (record { intervals = true; bounds = Profile })
     else (if number == 2 then Some (record { intervals = false; bounds = Guide })
     else (if number == 3 then Some (record { intervals = true; bounds = Guide }) else None)))
-
--- how what a recording says is written: as lines, or as JSON
-abbrev pub wording_of : ℕ → Option Wording
-wording_of number = if number == 4 then Some Json else option_map (λ detail. Lines detail) (detail_of number)
-
--- what is said of a trace that is checked: its frames, its story, or JSON
-abbrev pub check_of : ℕ → Option CheckOutput
-check_of number =
-    if number == 0 then Some (Reported Frames)
-    else (if number == 1 then Some (Reported Story) else (if number == 2 then Some check.Json else None))
 
 -- the samples in a second that are said of a table, if they are
 abbrev pub rate_of : ℕ → Option ℕ

@@ -2,7 +2,7 @@
 
 ghost use Rattle.std.specs.Prelude.{◌≡◌, length};
 ghost use Rattle.pr_exports.specs.Answers.{answer_of, ended, plain, refusal};
-ghost use Rattle.pr_exports.specs.Giving.{FindsText, Gives, is_of_input, made_of, without_value};
+ghost use Rattle.pr_exports.specs.Giving.{FindsText, Gives, is_of_input, made_of};
 
 use crate::faults::numbers_of;
 use pr_cli::End;
@@ -51,16 +51,6 @@ pub fn give<T: Copy>(made: Result<(), CliFault>, items: &[T], out: &mut [T]) -> 
     }
     out[..size].copy_from_slice(items);
     TextGiven::Written(stop, size)
-}
-
-/// What was made, whatever else came of it.
-pub fn without_value<T: Copy>(made: Result<T, CliFault>) -> Result<(), CliFault>
-    ensures { result ≡ without_value made }
-{
-    match made {
-        Ok(_) => Ok(()),
-        Err(fault) => Err(fault),
-    }
 }
 
 /// An input that was read to its end, or to this fault.

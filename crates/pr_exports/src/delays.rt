@@ -211,7 +211,7 @@ fn delays(alloc: Global, bytes: &[u8], input: TraceInput<'_>, out: &mut [u64]) -
 /// The table of lawful traces says which delay it is. It begins where all lines are released, and ends at the first edge
 /// that it refuses; of an edge that only comes too early or too late the delay is still given.
 ///
-/// The recording is passed as to [`crate::print1525_readings`], with the refusals of [`crate::print1525_edges`].
+/// The recording is passed as to [`crate::print1525_edges`], with its refusals.
 #[unsafe(no_mangle)]
 pub extern "C" fn print1525_edge_delays(
     alloc: Global,

@@ -14,11 +14,6 @@
 //!   page in a browser draws and marks by these.
 //! - `listings` has a listing's text of a script, with the line and the column of its fault. `printing` has the page of a
 //!   printer's inputs, of which some are no bytes.
-//! - `recordings` and `explanations` serve callers in C, who have a recording's settings as numbers: the name of a
-//!   signal that they pass may be any bytes, and explanations are given beside their places, so their contracts say the place
-//!   without a word on the text. A recording that cannot be read to its end answers its fault, and the text of what comes
-//!   before it too.
-//!
 //! - `devices` has a device on the bus that hears and answers, for emulators and adapters in C. Between two calls it is
 //!   in the numbers of `device_numbers`, with their version. A step restores and stores it, which copies a few numbers,
 //!   and refuses numbers that are no device's. It takes no memory.
@@ -34,14 +29,12 @@ mod answer;
 mod delays;
 mod device_numbers;
 mod devices;
-mod explanations;
 mod faults;
 mod lengths;
 mod listings;
 mod numbers;
 mod printing;
 mod program;
-mod recordings;
 mod rows;
 mod scripts;
 mod settings;
@@ -53,13 +46,8 @@ pub use devices::{
     NotBegun, NotShown, begin_device, print1525_device_begin, print1525_device_busy,
     print1525_device_step, show_device,
 };
-pub use explanations::{
-    print1525_explain_reading, print1525_explain_script, print1525_explain_stop,
-    print1525_explain_trace,
-};
 pub use listings::{Listed, print1525_listing};
 pub use numbers::{print1525_bounds, print1525_edges, print1525_intervals, print1525_reading_rows};
 pub use printing::{bytes_are_inputs, print1525_print};
 pub use program::{End, print1525_answer, print1525_names};
-pub use recordings::{print1525_check, print1525_readings, print1525_reprint};
 pub use scripts::{print1525_script_fault, print1525_statement_lines};

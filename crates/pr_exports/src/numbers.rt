@@ -132,7 +132,12 @@ fn bounds_of_delays(alloc: Global) -> Result<Vec<u64>, NoMemory>
 
 /// Reads a recording, and puts its edges at the front of the caller's buffer, as two numbers each: the
 /// moment in microseconds, and the levels (4 for ATN, 2 for CLOCK and 1 for DATA, where they are
-/// released). The recording is passed as to [`crate::print1525_readings`].
+/// released).
+///
+/// `source` is 0 for a trace text, 1 for a Value Change Dump, 2 for a table, 3 and 4 for the format that the first
+/// bytes show, or else a text or a table. `atn`, `clock` and `line` are the names of the signals, any bytes, `inverted` is
+/// whether their levels are inverted (0 for no), `start` is the microsecond at which the recording starts, and `rate` is how
+/// many samples a table without times has in a second (0 where it is not said).
 ///
 /// Of a recording that cannot be read to its end, the edges before its fault are in the buffer, with
 /// code 2. It is refused where a number means no format, where memory was refused, and where there
@@ -163,8 +168,8 @@ pub extern "C" fn print1525_edges(
 }
 
 /// Reads a recording, and puts a row of eighteen numbers for each of its readings at the front of
-/// the caller's buffer: those readings whose lines [`crate::print1525_readings`] gives, with `detail` as its
-/// `wording` (0 to 3). All moments and lengths are microseconds.
+/// the caller's buffer: those readings that have lines in what `print1525 decode` writes. `detail` is 0 for no further
+/// line, 1 for lines of intervals outside their bounds, 2 and 3 the same by the bounds of the guide. All moments and lengths are microseconds.
 ///
 /// - What ended the byte: 0 its acknowledgement, 1 that nobody acknowledged it, 2 ATN's pull, 3
 ///   CLOCK's release for too long, 4 the recording's end; and when, or 0 for the recording's end.
@@ -177,8 +182,7 @@ pub extern "C" fn print1525_edges(
 /// - Whether printer 4 or 5 listens before the reading.
 /// - How many bytes the reading's lines have.
 ///
-/// The recording is passed as to [`crate::print1525_readings`], with the refusals of
-/// [`print1525_edges`], and the fault where an edge is earlier than the one before it.
+/// The recording is passed as to [`print1525_edges`], with its refusals, and the fault where an edge is earlier than the one before it.
 #[unsafe(no_mangle)]
 pub extern "C" fn print1525_reading_rows(
     alloc: Global,
@@ -215,7 +219,7 @@ pub extern "C" fn print1525_reading_rows(
 /// lengths lie outside them; lengths are in microseconds. The middle is the least length that at least half of the
 /// lengths do not exceed.
 ///
-/// The recording is passed as to [`crate::print1525_readings`], with the refusals of [`print1525_reading_rows`].
+/// The recording is passed as to [`print1525_edges`], with the refusals of [`print1525_reading_rows`].
 #[unsafe(no_mangle)]
 pub extern "C" fn print1525_intervals(
     alloc: Global,

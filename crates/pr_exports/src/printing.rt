@@ -101,8 +101,15 @@ fn print(alloc: Global, inputs: &[u16], format: Format, shapes: &Shapes, out: &m
 
 /// Puts the text of the page that a printer prints of its inputs, or of a part of it, at the front of the caller's buffer. The
 /// inputs are numbers: 0 to 255 a byte, 256 the selection of the graphic/upper case set, 257 that of the lower/upper case set;
-/// before the first selection the former is selected. `format`, `device`, `sheet`, `top`, `paper`, `scale` and `characters` are
-/// those of [`crate::print1525_reprint`], with their refusals.
+/// before the first selection the former is selected.
+///
+/// `format` is 0 for the page text, 1 for lines of 80 columns, 2 for an SVG document, 3 for a PNG file, 4 for a PDF document.
+/// `device` is 4 or 5 for the pages of one printer, `sheet` is the number of one sheet from 1; 0 means all of them. `top` is how
+/// many lines the first row is below the upper edge of the paper, at most 65, and `paper` that of a document or a PNG file: 0
+/// continuous paper without and 1 with its holes, 2 A4, 3 letter, which a PNG file does not show. `scale` is how many pixels a PNG
+/// file has for the place of a dot, from 1 to 8. Pictures draw the characters of the file `characters`, or the project's own where
+/// it is empty. Numbers that mean no such format are refused, and so are a file of characters with a bad line, a sheet past the
+/// last one and a picture that is too large.
 ///
 /// It is refused for more than 2^32 inputs, exactly; then exactly where a number is above 257, with the index of the first, from
 /// 0, before any memory is taken; where memory was refused; and where the text has more bytes than the buffer has room for, with

@@ -2,19 +2,14 @@
 
 ghost use Rattle.std.specs.Prelude.{◌≡◌, take};
 ghost use Rattle.pr_capture.specs.Found.{found_format};
-ghost use Rattle.pr_exports.specs.Settings.{AsksShapes, IsInput, check_of, detail_of, device_of, form_of, format_of, layout_of, mode_of, paper_of, presence, rate_of, scale_of, sheet_of, shown_of, source_of, stop_of, wording_of};
+ghost use Rattle.pr_exports.specs.Settings.{AsksShapes, IsInput, detail_of, device_of, form_of, format_of, layout_of, paper_of, rate_of, scale_of, sheet_of, shown_of, source_of};
 
-use pr_basic::StatusMode;
 use pr_capture::{InputFormat, Probes, Signals, TraceInput, found_format};
-use pr_channels::Stop;
 use pr_characters::{CharactersFault, read_shapes};
 use pr_dots::{Scale, Shapes};
 use pr_listing::ListingForm;
-use pr_options::CheckOutput;
-use pr_recording::Wording;
 use pr_render::{Device, Format, Layout, Look, Part, Size};
-use pr_report::{Bounds, Detail, Report};
-use pr_serial::Present;
+use pr_report::{Bounds, Detail};
 
 /// How many bytes of a recording show its format, at most.
 const FIRST: usize = 4096;
@@ -58,30 +53,6 @@ pub fn shapes_for(characters: &[u8]) -> Result<Shapes, CharactersFault>
     }
 }
 
-/// The BASIC error with a number.
-pub fn stop_for(number: u8) -> Option<Stop>
-    ensures { result ≡ stop_of number }
-{
-    match number {
-        1 => Some(Stop::TooManyFiles),
-        2 => Some(Stop::FileOpen),
-        3 => Some(Stop::FileNotOpen),
-        5 => Some(Stop::DeviceNotPresent),
-        6 => Some(Stop::NotInputFile),
-        _ => None,
-    }
-}
-
-/// The printers that are present; 0 for one that is not.
-pub fn presence(four: u8, five: u8) -> Present
-    ensures { result ≡ presence four five }
-{
-    Present {
-        four: four != 0,
-        five: five != 0,
-    }
-}
-
 /// The form of a listing: 0 the text of a script, 1 a saved program, 2 petcat's text, 3 a magazine's listing, 4 what
 /// the first bytes show.
 pub fn form_for(form: u8) -> Option<ListingForm>
@@ -94,17 +65,6 @@ pub fn form_for(form: u8) -> Option<ListingForm>
         3 => Some(ListingForm::Magazine),
         4 => Some(ListingForm::Auto),
         _ => None,
-    }
-}
-
-/// How the status goes on: cleared before each statement, or kept.
-pub fn mode_for(is_kept: bool) -> StatusMode
-    ensures { result ≡ mode_of is_kept }
-{
-    if is_kept {
-        StatusMode::Kept
-    } else {
-        StatusMode::Each
     }
 }
 
@@ -236,31 +196,6 @@ pub fn detail_for(number: u8) -> Option<Detail>
         _ => return None,
     };
     Some(Detail { intervals, bounds })
-}
-
-/// How what a recording says is written: 0 to 3 as lines with this detail, 4 as JSON.
-pub fn wording_for(number: u8) -> Option<Wording>
-    ensures { result ≡ wording_of number }
-{
-    if number == 4 {
-        return Some(Wording::Json);
-    }
-    match detail_for(number) {
-        Some(detail) => Some(Wording::Lines(detail)),
-        None => None,
-    }
-}
-
-/// What is said of a trace that is checked: 0 its frames, 1 its story, 2 JSON.
-pub fn check_for(number: u8) -> Option<CheckOutput>
-    ensures { result ≡ check_of number }
-{
-    match number {
-        0 => Some(CheckOutput::Report(Report::Frames)),
-        1 => Some(CheckOutput::Report(Report::Story)),
-        2 => Some(CheckOutput::Json),
-        _ => None,
-    }
 }
 
 /// The samples in a second that are said of a table; 0 where none are.

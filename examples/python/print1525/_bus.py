@@ -1,0 +1,189 @@
+"""The serial bus: devices that answer, and what any bus says, edge by edge. Times are microseconds; a level is 0 for
+pulled and anything else for released. An object serves one thread at a time."""
+
+from __future__ import annotations
+
+from ctypes import byref, c_uint64
+from typing import Any, Iterable, Iterator, Literal, NamedTuple, Optional, get_args
+
+from . import _library
+from ._library import Details, called, fitting
+
+# What comes to a device, and how a byte ended, in the order of their numbers from 1 on.
+Heard = Literal["byte", "select", "listen", "unlisten", "open", "close"]
+Kind = Literal["acknowledged", "unacknowledged", "last", "incomplete-atn", "incomplete-silence", "incomplete-end"]
+_HEARD, _KINDS = get_args(Heard), get_args(Kind)
+_NO_WAKE = 2**64 - 1
+
+
+class Received(NamedTuple):
+    """What comes to a device; the byte or the number of the secondary address, else 0; and whether the byte is the last
+    of its sender (end-or-identify)."""
+
+    kind: Heard
+    byte: int
+    is_last: bool
+
+
+class Timing(NamedTuple):
+    """How long a device waits before each thing that it does to DATA; 0 is the typical delay."""
+
+    attention: int = 0
+    hold: int = 0
+    wait: int = 0
+    answer: int = 0
+    accept: int = 0
+    leave: int = 0
+
+
+class Step(NamedTuple):
+    """Whether a device pulls DATA from a moment on; when it wants to be shown the lines again if none changes before,
+    or None; and what it hears."""
+
+    pulls_data: bool
+    wake: Optional[int]
+    heard: Optional[Received]
+
+
+class Reading(NamedTuple):
+    """A byte on the wires as far as it came, how it ended, and when each thing happened; 0 for what did not come."""
+
+    kind: Kind
+    byte: int
+    command: bool
+    eoi: bool
+    bits: int
+    look: int
+    ready: int
+    answered: int
+    answer_ended: int
+    pull: int
+    shortest_low: int
+    longest_low: int
+    shortest_high: int
+    longest_high: int
+    last_pull: int
+    end: int
+
+
+def _received(made: _library.Received) -> Optional[Received]:
+    return Received(_HEARD[made.kind - 1], made.byte, bool(made.eoi)) if made.kind else None
+
+
+def _reading(made: _library.Reading) -> Optional[Reading]:
+    if not made.kind:
+        return None
+    it = made.byte
+    times = [getattr(it, name) for name, kind in it._fields_ if kind is c_uint64]
+    return Reading(_KINDS[made.kind - 1], it.byte, bool(it.command), bool(it.eoi), it.bits, *times, made.end)
+
+
+class _Kept:
+    """What the library keeps between two calls."""
+
+    _kept: Any
+
+    @property
+    def state(self) -> bytes:
+        """All that the library keeps, to be saved and given to `state=` later."""
+        return bytes(self._kept)
+
+    def _load(self, state: bytes) -> None:
+        if len(state) != len(bytes(self._kept)):
+            raise ValueError(f"a state has {len(bytes(self._kept))} bytes")
+        self._kept = type(self._kept).from_buffer_copy(state)
+
+
+class _Edges(_Kept):
+    """What takes edges: the structures of its calls are made once."""
+
+    def __init__(self) -> None:
+        self._lines, self._details = _library.Edge(), Details()
+
+    def _show(self, call: Any, now: int, levels: tuple[int, int, int], made: Any) -> Any:
+        lines = self._lines
+        lines.time = fitting(now, 64, "a moment")
+        lines.atn, lines.clock, lines.data = map(bool, levels)
+        _library.checked(call(byref(self._kept), byref(lines), byref(made), byref(self._details)), self._details)
+        return made
+
+
+class Device(_Edges):
+    """A device of 4 to 30 on the bus that hears and answers; or the one whose state was kept."""
+
+    def __init__(self, address: int = 4, timing: Timing = Timing(), *, state: Optional[bytes] = None):
+        super().__init__()
+        self._kept, self._made = _library.Device(), _library.Step()
+        if state is not None:
+            self._load(state)
+            return
+        delays = _library.Timing(*(fitting(it, 16, "a delay") for it in timing))
+        called("device_begin", byref(self._kept), fitting(address, 8, "an address"), byref(delays))
+
+    def step(self, now: int, atn: int, clock: int, data: int) -> Step:
+        """Shows the device the lines at a moment: whenever one changes, and at each `wake`. DATA is pulled as long as
+        anybody pulls it, this device too."""
+        made = self._show(_library.LIBRARY.device_step, now, (atn, clock, data), self._made)
+        return Step(bool(made.pulls_data), None if made.wake == _NO_WAKE else made.wake, _received(made.heard))
+
+    def busy(self, until: int) -> None:
+        """Lets the device print until a moment: it holds DATA before the next byte, and the talker waits."""
+        called("device_busy", byref(self._kept), fitting(until, 64, "a moment"))
+
+
+class Receiver(_Edges):
+    """What comes to a device of 4 to 30 on any bus, edge by edge. It drives no line."""
+
+    def __init__(self, device: int = 4, *, state: Optional[bytes] = None):
+        super().__init__()
+        self._kept, self._made = _library.Receiver(), _library.Received()
+        if state is not None:
+            self._load(state)
+        else:
+            called("receiver_begin", byref(self._kept), fitting(device, 8, "a device"))
+
+    def edge(self, time: int, atn: int, clock: int, data: int) -> Optional[Received]:
+        """What comes to the device with the next edge, if anything does."""
+        return _received(self._show(_library.LIBRARY.receiver_edge, time, (atn, clock, data), self._made))
+
+
+class Decoder(_Edges):
+    """What any recording of the bus says, edge by edge, wherever it begins."""
+
+    def __init__(self, *, state: Optional[bytes] = None):
+        super().__init__()
+        self._kept, self._made = _library.Decoder(), _library.Reading()
+        if state is not None:
+            self._load(state)
+        else:
+            called("decoder_begin", byref(self._kept))
+
+    def edge(self, time: int, atn: int, clock: int, data: int) -> Optional[Reading]:
+        """The reading that the next edge settles, if it settles one."""
+        return _reading(self._show(_library.LIBRARY.decoder_edge, time, (atn, clock, data), self._made))
+
+    def end(self) -> Optional[Reading]:
+        """The reading that the end of the recording cuts, if it cuts one. More edges may follow."""
+        called("decoder_end", byref(self._kept), byref(self._made))
+        return _reading(self._made)
+
+
+def readings(edges: Iterable[tuple[int, int, int, int]]) -> Iterator[Reading]:
+    """The readings of a recording: each edge is its time and the levels of ATN, CLOCK and DATA."""
+    decoder = Decoder()
+    for edge in edges:
+        reading = decoder.edge(*edge)
+        if reading:
+            yield reading
+    last = decoder.end()
+    if last:
+        yield last
+
+
+def received(edges: Iterable[tuple[int, int, int, int]], device: int = 4) -> Iterator[Received]:
+    """What comes to a device on any bus."""
+    receiver = Receiver(device)
+    for edge in edges:
+        heard = receiver.edge(*edge)
+        if heard:
+            yield heard
