@@ -49,7 +49,7 @@ const REASONS = {
 };
 
 const failed = words => new Failed(`print1525: ${words}\n`);
-const NO_NAME = 'all names of a temporary file beside it are taken, .print1525-1.tmp to .print1525-100.tmp: delete those that killed runs have left';
+const NO_NAME = 'no name is free for its new text: remove the files .print1525-*.tmp there';
 const failedFile = (name, error) => failed(`${shown(name)}: ${error.code === 'NO_NAME' ? NO_NAME
   : `${REASONS[error.code] || error.message} (os error ${-error.errno})`}`);
 
