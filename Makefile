@@ -38,7 +38,7 @@ LIBDIR ?= $(PREFIX)/lib
 PROGRAM := crates/print1525/out/print1525
 LIBRARY := libprint1525.a
 MODULE := out/print1525.wasm
-VERSION := 0.1.0
+VERSION := 1.0.0
 # The library's own version, and the names of the shared one, of which programs look for the second.
 LIBRARY_VERSION := $(shell sed -n 's/^.define PRINT1525_VERSION "\(.*\)"/\1/p' include/print1525.h)
 SHARED := libprint1525.so.$(LIBRARY_VERSION)

@@ -31,8 +31,11 @@ export async function openPrint1525() {
 /** A failed read or write: its line on standard error. The exit status is 3. */
 class Failed extends Error {}
 
-/** A text with its control characters escaped, as the program shows a name. */
-const shown = text => text.replace(/[\0-\x1f\x7f-\x9f]/g, sign => ({ '\t': '\\t', '\n': '\\n', '\r': '\\r' }[sign] || `\\u{${sign.charCodeAt(0).toString(16)}}`));
+/** Control characters, and those that turn the direction of text (Bidi_Control). */
+const HIDDEN = /[\0-\x1f\x7f-\x9f\u061c\u200e\u200f\u202a-\u202e\u2066-\u2069]/g;
+
+/** A text with these escaped, as the program shows a name. */
+const shown = text => text.replace(HIDDEN, sign => ({ '\t': '\\t', '\n': '\\n', '\r': '\\r' }[sign] || `\\u{${sign.charCodeAt(0).toString(16)}}`));
 
 const STANDARD_OUTPUT = ['/dev/stdout', '/dev/fd/1', '/proc/self/fd/1'];      // it is written on, and not replaced
 
@@ -46,7 +49,9 @@ const REASONS = {
 };
 
 const failed = words => new Failed(`print1525: ${words}\n`);
-const failedFile = (name, error) => failed(`${shown(name)}: ${REASONS[error.code] || error.message} (os error ${-error.errno})`);
+const NO_NAME = 'no name is free for its new text: remove the files .print1525-*.tmp there';
+const failedFile = (name, error) => failed(`${shown(name)}: ${error.code === 'NO_NAME' ? NO_NAME
+  : `${REASONS[error.code] || error.message} (os error ${-error.errno})`}`);
 
 /** The files of a job, read and written with Node. */
 async function makeFiles() {
@@ -77,10 +82,11 @@ async function makeFiles() {
 
   /** Opens a new file in a folder, with a name of its own. */
   function openBeside(folder) {
-    for (let n = 1; ; n++) {
+    for (let n = 1; n <= 100; n++) {
       const name = path.join(folder, `.print1525-${n}.tmp`);
-      try { return { name, file: fs.openSync(name, 'wx') }; } catch (error) { if (error.code !== 'EEXIST' || n === 100) throw error; }
+      try { return { name, file: fs.openSync(name, 'wx') }; } catch (error) { if (error.code !== 'EEXIST') throw error; }
     }
+    throw Object.assign(new Error(NO_NAME), { code: 'NO_NAME', errno: 0 });
   }
 
   /** Where the links of a file's name lead. */
@@ -105,7 +111,7 @@ async function makeFiles() {
     if (old !== null) fs.closeSync(old);
     const target = followed(name), beside = openBeside(path.dirname(target));
     const discard = () => { try { fs.closeSync(beside.file); } catch { /* it is closed */ } fs.rmSync(beside.name, { force: true }); };
-    try { if (state && process.platform !== 'win32') fs.fchmodSync(beside.file, state.mode & 0o7777); } catch (error) { discard(); throw error; }
+    try { if (state && process.platform !== 'win32') fs.fchmodSync(beside.file, state.mode & 0o1777); } catch (error) { discard(); throw error; }
     const keep = () => {
       try { fs.fsyncSync(beside.file); fs.closeSync(beside.file); fs.renameSync(beside.name, target); } catch (error) { discard(); throw error; }
     };
@@ -135,18 +141,19 @@ async function run(words, files) {
   const module = await openPrint1525().catch(error => { throw failed(error.message); });
   const { status: isRefused, names: [file, name, characters], messages: waits } = module.names({ words });
   const place = STANDARD_OUTPUT.includes(name) ? null : name;
+  const isQuiet = words.some(word => word === '--quiet' || word.startsWith('-q'));
+  // (the module knows no terminal: what the program notes on one, and says with --explain, is said at once)
+  /** @type {import('./print1525.mjs').Asked} */
+  const asked = { words, explained: process.env.PRINT1525_EXPLAIN === '1' || Boolean(process.stderr.isTTY) && !isQuiet };
   const inputFailed = error => (file === null ? failed('read failed') : failedFile(file, error));
   const outputFailed = error => (place === null ? failed('write failed') : failedFile(place, error));
   const standard = { write: bytes => files.writeAll(1, bytes), keep() {}, discard() {} };
-  /** @type {import('./print1525.mjs').Asked} */
-  const asked = { words, explained: process.env.PRINT1525_EXPLAIN === '1' };
   const refusedBoth = read => {
     tell(Buffer.from(`print1525: ${shown(read)}: this file is read, and --output names it too\n`));
     return 2;
   };
   if (characters !== null && place !== null && files.areSame(characters, place)) return refusedBoth(characters);
   if (characters !== null) asked.characters = trying(() => files.readAll(files.open(characters)), error => failedFile(characters, error));
-  const isQuiet = words.some(word => word === '--quiet' || word.startsWith('-q'));
   if (!isRefused && file === null && process.stdin.isTTY && !isQuiet) tell(waits);
   const input = file === null ? 0 : trying(() => files.open(file), inputFailed);
   const both = place === null ? null : files.areSame(input, place) ? file ?? 'standard input' : null;

@@ -483,7 +483,7 @@ static const answer_row answer_rows[] = {
     {"answers_in_memory, a bad value", "print1525 pages --present 6", 0, HI, 2, 54, 0, "", "print1525: bad --present\n",
      1},
     {"answers_in_memory, the version", "print1525 --version", 0, "", 0, 0, 0,
-     "print1525 0.1.0 (rattle-kit-13, logic dac8208d650f15bf)\n", "", 0},
+     "print1525 1.0.0 (rattle-kit-13f, logic dac8208d650f15bf)\n", "", 0},
     {"answers_in_memory, a file of characters without shapes", "print1525 raw --as svg --characters a.txt", 0, "HI", 2,
      52, 1, "", "print1525: a.txt: line 1: bad character line\n", 1},
     {"explained_in_memory, not", "print1525 pages", 0, "PRINT#4,CHR$(256)\n", 2, 5, 1, "", BAD_BYTE, 1},

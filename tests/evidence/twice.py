@@ -6,33 +6,31 @@ import os
 import re
 
 ROOT = os.path.dirname(os.path.dirname(os.path.dirname(os.path.abspath(__file__))))
-# The option whose values a setting has, by the names of the header's settings; what a setting has beside them, and what
+# The options whose values a setting has, by the names of the header's enums; what a setting has beside them, and what
 # of them it has not.
 OPTIONS = {
-    "present": ("PRESENT", (), ()),
-    "mode": ("STATUS", (), ()),
-    "from": ("LISTING_FROM", (), ()),
-    "page": ("RAW_AS", (), ()),
-    "trace": ("TRACE_AS", (), ()),
-    "set": ("SET", (), ()),
-    "recording": ("FROM", ("found", "found-or-csv"), ("auto",)),
-    "words": ("REPORT_AS", ("list",), ("frames",)),
-    "bounds": ("BOUNDS", (), ()),
-    "paper": ("PAPER", ("holes",), ()),
+    "as": (("PAGE_AS", "READING_AS", "TRACE_AS", "REPORT_AS"), ("usual",), ()),
+    "from": (("LISTING_FROM", "FROM"), ("usual",), ()),
+    "present": (("PRESENT",), (), ()),
+    "mode": (("STATUS",), (), ()),
+    "set": (("SET",), (), ()),
+    "paper": (("PAPER",), (), ()),
+    "bounds": (("BOUNDS",), (), ()),
+    "listening": (("LISTENING",), ("none", "both"), ("4,5",)),
 }
 # The lists of their values elsewhere: what they are called there.
-PAGE = {"PRESENT": "present", "STATUS": "mode", "SETS": "set", "SOURCES": "recording", "FORMS": "from"}
-ARRAYS = {"printers": "present", "modes": "mode", "sets": "set", "formats": "page", "traces": "trace"}
+PAGE = {"PRESENT": "PRESENT", "STATUS": "STATUS", "SETS": "SET"}
+ARRAYS = {"formats": "as", "forms": "from", "printers": "present", "papers": "paper", "listening": "listening"}
+TYPES = {"status": "mode"}
 RUST_NUMBERS = {"four": "4", "five": "5"}
-# The functions that read a value, and a number that stands for it.
+# The functions that read a value, and a number that stands for it; what of the header's enum these are, in their order.
 NUMBERED = {
-    "form_for": ("read_form", "from"),
-    "format_for": ("read_format", "page"),
-    "source_for": ("read_source", "recording"),
-    "check_for": ("read_report", "words"),
+    "form_for": ("read_form", "from", ("text", "prg", "petcat", "magazine", "auto")),
+    "format_for": ("read_format", "as", ("list", "text", "svg", "png", "pdf")),
+    "source_for": ("read_source", "from", ("text", "vcd", "csv")),
 }
 # How many lists of an option's values a file has: those that are compared here. All other files have none.
-LISTED = {"include/print1525.h": 5, "examples/python/print1525.py": 7, "web/asked.js": 5, "web/worker.js": 1}
+LISTED = {"examples/python/print1525/_texts.py": 6, "web/asked.js": 5, "web/worker.js": 1}
 LIST = re.compile(r"""[\[({]\s*((?:(?:'[\w -]+'|"[\w -]+")\s*,\s*)+(?:'[\w -]+'|"[\w -]+"))\s*,?\s*[\])}]""")
 # How the page calls what ended a byte.
 ENDS = {
@@ -48,7 +46,7 @@ HINTS = [f"crates/pr_explain/src/{it}.rt" for it in ("faults", "scripts", "trace
 HINTS += ["crates/pr_cli/src/told.rt", "crates/pr_cli/src/notes.rt", "crates/pr_cli/src/strings.rt", "crates/pr_cli/src/order.rt",
           "crates/pr_cli/src/still.rt", "crates/pr_report/src/oddities.rt", "crates/pr_options/src/command_line.rt"]
 # Options of other programs: of those in examples/, and of web/pack.mjs.
-OTHERS = {"--bytes", "--decode", "--receive", "--clean"}
+OTHERS = {"--bytes", "--decode", "--receive", "--window", "--clean"}
 
 
 def text_of(path):
@@ -63,7 +61,7 @@ def function(text, name):
 
 def lists_in(text, name):
     """The strings of a list of JavaScript or C, by the name before `=`."""
-    body = re.search(rf"\b{name}(?:\[\d+\])*\s*=\s*[\[{{](.*?)[\]}}]", text, re.S).group(1)
+    body = re.search(rf"\b{name}(?:\[\d*\])*\s*=\s*[\[{{](.*?)[\]}}]", text, re.S).group(1)
     return re.findall(r"""['"]([^'"]*)['"]""", body)
 
 
@@ -91,15 +89,17 @@ def header():
 
 def python_names():
     """The values of each setting for Python, by their numbers."""
-    for it in ast.parse(text_of("examples/python/print1525.py")).body:
-        if isinstance(it, ast.Assign) and getattr(it.targets[0], "id", "") == "NAMES":
-            return {name: list(given) for name, given in ast.literal_eval(it.value).items()}
-    return {}
+    found = {}
+    for it in ast.parse(text_of("examples/python/print1525/_texts.py")).body:
+        if isinstance(it, ast.Assign) and getattr(getattr(it.value, "value", None), "id", "") == "Literal":
+            name = it.targets[0].id.lower()
+            found[TYPES.get(name, name)] = list(ast.literal_eval(it.value.slice))
+    return found
 
 
 def rust_names():
     """The same for Rust, as the header has them."""
-    enums = re.findall(r"^pub enum (\w+) \{(.*?)^\}", text_of("examples/rust/print1525.rs"), re.S | re.M)
+    enums = re.findall(r"^pub enum (\w+) \{(.*?)^\}", text_of("examples/rust/src/texts.rs"), re.S | re.M)
     found = {name.lower(): re.findall(r"^    (\w+) = \d+,", body, re.M) for name, body in enums}
     plain = {name: [re.sub(r"(?<=[a-z])(?=[A-Z])", "-", it).lower() for it in given] for name, given in found.items()}
     return {name: [RUST_NUMBERS.get(it, it) for it in given] for name, given in plain.items()}
@@ -108,20 +108,22 @@ def rust_names():
 def settings():
     """The values of options that settings have: in the header, for Python and Rust, and in the page."""
     said, numbered, wrong = values(), header(), []
-    for setting, (option, more, less) in OPTIONS.items():
-        wanted = {*said[option], *more} - {*less}
-        wrong += differ(f"include/print1525.h, {setting}, and pr_options, {option}", sorted(numbered[setting]), sorted(wanted))
+    for setting, (options_of, more, less) in OPTIONS.items():
+        wanted = {*(it for option in options_of for it in said[option]), *more} - {*less}
+        wrong += differ(f"include/print1525.h, {setting}, and pr_options", sorted(numbered[setting]), sorted(wanted))
     python = python_names()
-    code, page = text_of("include/print1525.h"), text_of("web/asked.js")
+    code, page = text_of("library/texts.c"), text_of("web/asked.js")
     rust = rust_names()
     for setting in OPTIONS:
         wrong += differ(f"examples/python, {setting}, and the header", python[setting], numbered[setting])
         wrong += differ(f"examples/rust, {setting}, and the header", rust[setting], numbered[setting])
     for name, setting in ARRAYS.items():
-        wrong += differ(f"the header's {name} and its enum", lists_in(code, name), numbered[setting])
-    for name, setting in PAGE.items():
-        given = lists_in(page, name)
-        wrong += differ(f"web/asked.js, {name}, and the header", given, numbered[setting][: len(given)])
+        words = [{"4,5": "both"}.get(it, it) for it in lists_in(code, name)]
+        wrong += differ(f"library/texts.c, {name}, and the header", words, ["", *numbered[setting][1:]])
+    for name, option in PAGE.items():
+        wrong += differ(f"web/asked.js, {name}, and pr_options", sorted(lists_in(page, name)), sorted(said[option]))
+    for name, function_of in (("FORMS", "form_for"), ("SOURCES", "source_for")):
+        wrong += differ(f"web/asked.js, {name}, and pr_exports", lists_in(page, name), [*NUMBERED[function_of][2]])
     return wrong + numbers(numbered)
 
 
@@ -151,16 +153,16 @@ def lists(paths):
 
 
 def numbers(numbered):
-    """The numbers of settings in pr_exports: each is the value that the option reads under the header's name."""
+    """The numbers of settings in pr_exports: each is the value that the option reads under its name in the header."""
     reads, counts = (text_of(f"crates/{it}.rt") for it in ("pr_options/src/option_values", "pr_exports/src/settings"))
     wrong = []
-    for name, (reader, setting) in NUMBERED.items():
+    for name, (reader, setting, values_in_order) in NUMBERED.items():
         by_value = dict(re.findall(r'"(\w+)" => Some\((.*)\),', function(reads, reader)))
         by_number = re.findall(r"(\d+) => Some\(([A-Z].*)\),", function(counts, name))
         given = [(int(number), meant) for number, meant in by_number]
-        by_value.setdefault("list", by_value.get("frames"))
-        wanted = [(number, by_value[value]) for number, value in enumerate(numbered[setting]) if by_value.get(value)]
-        wrong += differ(f"pr_exports, {name}, and the header", given, wanted)
+        wanted = [(number, by_value.get(value)) for number, value in enumerate(values_in_order)]
+        wrong += differ(f"pr_exports, {name}, and pr_options", given, wanted)
+        wrong += differ(f"values of {name} that the header has not", sorted({*values_in_order} - {*numbered[setting]}), [])
     return wrong
 
 

@@ -2,7 +2,7 @@
 """tests/lib/basic.py PROGRAM.bas: runs a program in BASIC of the Commodore 64 and writes the output statements that it performs.
 
 Each is a line of a script for `print1525 pages`, with the number of the program's line in front; how the run ended goes
-to standard error. It is written from docs/DEFINITIONS.md and stays apart from the crates on purpose: exact fractions and
+to standard error. It is written from docs/BASIC.md and stays apart from the crates on purpose: exact fractions and
 intervals, and a statement that is a class with its own `perform`. tests/basic/README.md says what it takes for certain.
 
 A value is known exactly, or as an interval in which the machine's value is. A use of it that has not one answer is

@@ -82,7 +82,8 @@ def shared_linux(platform, parts, folder, work):
 def shared_windows(platform, parts, folder, work):
     """The library, the list of its names, and the import libraries for MinGW and for Microsoft's linker, which are one file."""
     platforms.write(f"{folder}/print1525.def", "\n".join(["LIBRARY print1525.dll", "EXPORTS", *(f"    {it}" for it in platforms.names())]) + "\n")
-    words = "-shared -static-libgcc -s -Wl,--no-insert-timestamp -Wl,--gc-sections".split()
+    # (without a base of our own the linker makes one of the file's path)
+    words = "-shared -static-libgcc -s -Wl,--no-insert-timestamp -Wl,--image-base,0x2d1525000000 -Wl,--gc-sections".split()
     llvm.run([*platform.compiler, *words, f"{folder}/print1525.def", *parts, "-o", f"{folder}/print1525.dll"])
     llvm.run([tool("llvm-dlltool"), "-m", "i386:x86-64", "-d", f"{folder}/print1525.def", "-l", f"{folder}/print1525.lib"])
     shutil.copy(f"{folder}/print1525.lib", f"{folder}/libprint1525.dll.a")

@@ -24,11 +24,11 @@ use crate::starts::started_job;
 use crate::statuses::{End, FAILED, is_answered};
 use crate::told::{
     Listing, Subject, has_more, has_notes, is_notable, listing_of, show_brief, show_oddities,
-    subject_of, tell_heard, tell_listing, tell_more, tell_notes, tell_sheets,
+    subject_of, tell_heard, tell_listing, tell_more, tell_notes, tell_picture,
 };
 use pr_dots::Shapes;
 use pr_files::{Noting, Unsaved, save};
-use pr_jobs::{CliFault, RunEnd, SCRIPT_LIMIT, TeeReader, Watched};
+use pr_jobs::{CliFault, PictureFault, RunEnd, SCRIPT_LIMIT, TeeReader, Watched};
 use pr_listing::{ListingForm, TextFault, plain_form, read_text};
 use pr_options::{DecodeOutput, Job, PagesOutput, Task};
 use pr_render::Format;
@@ -641,12 +641,12 @@ fn tell_lacking(
     }
 }
 
-/// Says that more can be said of a job that failed, or of a run that a BASIC error stopped, if it can; or at once how many
-/// sheets there are.
-fn advise_on(rt: &(impl Eprint + AllocGlobal), answer: Result<JobEnd, CliFault>, end: End) {
+/// Says that more can be said of a job that failed, or of a run that a BASIC error stopped, if it can; or at once how a
+/// picture gets smaller.
+fn advise_on(rt: &impl Eprint, answer: Result<JobEnd, CliFault>, end: End) {
     match answer {
         Ok(_) if matches!(end, End::Stopped | End::StoppedAt { .. }) => note_stop(rt),
-        Err(CliFault::Picture(fault)) => tell_sheets(rt, fault),
+        Err(CliFault::Picture(fault)) => tell_picture(rt, fault),
         Err(fault) if has_more(fault) => advise(rt),
         _ => {}
     }
@@ -849,10 +849,19 @@ pub fn tell_file(rt: &impl Outside, name: &str, error: &Error) -> u8
     FAILED
 }
 
-/// Reports a fault in one line on standard error, and gives how the program ends.
+/// Reports a fault in one line on standard error, and gives how the program ends. That of a sheet past the end says how many
+/// sheets there are.
 pub fn tell(rt: &impl Eprint, fault: CliFault) -> End
     ensures { result ≡ end.Job fault }
 {
-    let _ = rt.eprintln(format_args!("print1525: {fault}"));
+    let _ = match fault {
+        CliFault::Picture(PictureFault::NoSuchSheet(1)) => {
+            rt.eprintln(format_args!("print1525: {fault}: the paper has one sheet"))
+        }
+        CliFault::Picture(PictureFault::NoSuchSheet(sheets)) => {
+            rt.eprintln(format_args!("print1525: {fault}: the paper has {sheets} sheets"))
+        }
+        _ => rt.eprintln(format_args!("print1525: {fault}")),
+    };
     End::Job(fault)
 }

@@ -145,6 +145,17 @@ const NO_PRINTED_BYTE: &str = "the page is blank: the input has no byte that pri
 const FIVE_TOO: &str =
     "this picture is printer 4's, and printer 5 has printed, too: --device 5 draws its pages";
 
+/// What a note says to do about marks of a line that has not ended, where the bytes of a printer are all that is known.
+const RETURN: &str = "a carriage return, CHR$(13), ends the line";
+
+/// The same of printer 4 after the run of a script.
+const FOUR_UNENDED: &str =
+    "PRINT# without a list, before CLOSE, ends the line, as in PRINT#4:CLOSE 4 after OPEN 4,4";
+
+/// The same of printer 5.
+const FIVE_UNENDED: &str =
+    "PRINT# without a list, before CLOSE, ends the line, as in PRINT#5:CLOSE 5 after OPEN 5,5";
+
 /// What a note says to do about bytes that the list has.
 const LISTED: &str = "--as list shows where";
 
@@ -398,7 +409,11 @@ fn whole_view(drawn: Present) -> View {
 /// Writes what is to be noted of pages that were written: marks that a printer holds, that the page is blank, and that another
 /// printer has printed, too. Of a script its text may say why nothing prints.
 pub fn note_pages(rt: &impl Eprint, pages: PagesEnd, view: View, reason: Option<&'static str>) {
-    note_held(rt, pages, view.drawn);
+    if view.is_of_bytes {
+        note_held(rt, pages, view.drawn);
+    } else {
+        note_unended(rt, pages, view.drawn);
+    }
     if let Some(text) = blank_text(pages, view, reason) {
         note(rt, text);
     }
@@ -472,23 +487,31 @@ fn note_other(rt: &impl Eprint, pages: PagesEnd, view: View) {
 /// Writes a note of each of these printers that holds marks of a line that has not ended.
 fn note_held(rt: &impl Eprint, pages: PagesEnd, drawn: Present) {
     if drawn.four {
-        note_marks(rt, 4, pages.four.held);
+        note_marks(rt, 4, pages.four.held, RETURN);
     }
     if drawn.five {
-        note_marks(rt, 5, pages.five.held);
+        note_marks(rt, 5, pages.five.held, RETURN);
     }
 }
 
-/// Writes a note of the marks that a printer holds, if there are any.
-fn note_marks(rt: &impl Eprint, printer: u8, held: HeldMarks) {
+/// Writes the same after the run of a script. PRINT# without a list sends the byte that waits in the computer, as the
+/// carriage return of the last PRINT after CMD does, and then a carriage return; CLOSE sends neither.
+fn note_unended(rt: &impl Eprint, pages: PagesEnd, drawn: Present) {
+    if drawn.four {
+        note_marks(rt, 4, pages.four.held, FOUR_UNENDED);
+    }
+    if drawn.five {
+        note_marks(rt, 5, pages.five.held, FIVE_UNENDED);
+    }
+}
+
+/// Writes a note of the marks that a printer holds, if there are any, and what to do about them.
+fn note_marks(rt: &impl Eprint, printer: u8, held: HeldMarks, advice: &str) {
     if !holds(held) {
         return;
     }
     let marks = Unprinted(held);
-    let _ = rt.eprintln(format_args!(
-        "print1525: note: printer {printer} holds {marks}; \
-         a carriage return, CHR$(13), ends the line"
-    ));
+    let _ = rt.eprintln(format_args!("print1525: note: printer {printer} holds {marks}; {advice}"));
 }
 
 /// Writes a note of a recording's pulses that are at most one microsecond long, if there are any, and what to do about

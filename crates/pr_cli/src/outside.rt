@@ -4,7 +4,12 @@
 use crate::shown::Shown;
 use pr_jobs::{Watched, read_whole};
 use std::fs::{File, Files};
-use std::io::{Error, Read};
+use std::io::{Error, ErrorKind, Read};
+
+/// What is said where [`pr_files::save`] finds no name for a temporary file.
+const NO_NAME: &str =
+    "all names of a temporary file beside it are taken, .print1525-1.tmp to .print1525-100.tmp: \
+     delete those that killed runs have left";
 
 /// A system with files, or none.
 pub trait Outside {
@@ -24,6 +29,15 @@ impl<T: Files + Eprint + AllocGlobal> Outside for T {
 
     fn tell_error(&self, name: &str, error: &Error) {
         let name = Shown(name);
-        let _ = self.eprintln(format_args!("print1525: {name}: {error}"));
+        let _ = if is_without_name(error) {
+            self.eprintln(format_args!("print1525: {name}: {NO_NAME}"))
+        } else {
+            self.eprintln(format_args!("print1525: {name}: {error}"))
+        };
     }
+}
+
+/// Whether an error says that all names of a temporary file are taken, and not that a call of the system found a file.
+fn is_without_name(error: &Error) -> bool {
+    error.kind() == ErrorKind::AlreadyExists && error.raw_os_error().is_none()
 }

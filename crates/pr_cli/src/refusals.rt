@@ -5,7 +5,7 @@ ghost use Rattle.pr_cli.specs.Statuses.{refusal_end};
 ghost use Rattle.pr_cli.specs.declared.statuses.End.TheVariants as end;
 
 use crate::answers::tell;
-use crate::shown::Shown;
+use crate::shown::{Shown, is_hidden};
 use crate::statuses::End;
 use crate::told::{say, show_hint};
 use clap::error::{Error as UsageError, ErrorKind as UsageKind};
@@ -113,9 +113,18 @@ fn refuse_line(
     show_fault(rt, &fault, value);
     show_hint(rt, hint);
     if is_explained {
+        show_value(rt, &fault, value);
         show_values(rt, &fault);
     }
     end
+}
+
+/// Reports which value is bad, where the line of the fault does not have it.
+fn show_value(rt: &impl Eprint, fault: &JobFault, value: Option<&str>) {
+    if let (Some(value), None) = (value, fault.good_values()) {
+        let value = Shown(value);
+        let _ = rt.eprintln(format_args!("  \"{value}\" is none of its values"));
+    }
 }
 
 /// Reports which values are good.
@@ -234,7 +243,7 @@ fn show_fault(rt: &impl Eprint, fault: &JobFault, value: Option<&str>) {
     };
 }
 
-/// Whether a word has a character that moves a terminal's cursor, changes its colours and the like.
+/// Whether a word has a character that is shown escaped.
 fn have_control(words: &[&str]) -> bool {
     for word in words {
         if has_control(*word) {
@@ -247,14 +256,14 @@ fn have_control(words: &[&str]) -> bool {
 /// Whether a text has such a character.
 fn has_control(text: &str) -> bool {
     for c in text.chars() {
-        if c.is_control() {
+        if is_hidden(c) {
             return true;
         }
     }
     false
 }
 
-/// Reports why clap refuses words of which one has control characters: the text shows them escaped.
+/// Reports why clap refuses words of which one has characters that are shown escaped.
 fn refuse_shown(
     rt: &(impl Print + Eprint + AllocGlobal),
     words: &[&str],

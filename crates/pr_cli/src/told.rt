@@ -339,7 +339,6 @@ fn told(
     answer: Result<RunEnd, CliFault>,
 ) -> Result<String, AllocError> {
     match (subject, answer) {
-        (_, Err(CliFault::Picture(fault))) => sheets_told(rt, fault),
         (Subject::Script(job), _) => run_told(rt, bytes, listing, job, answer),
         (Subject::Trace(trace), _) => trace_told(rt, bytes, trace, answer),
         (Subject::Recording(trace), Err(fault)) => reading_told(rt, bytes, trace, fault),
@@ -347,21 +346,16 @@ fn told(
     }
 }
 
-/// Says how many sheets the paper has, where one past the end is asked for, or how a picture gets smaller.
-pub fn tell_sheets(rt: &(impl Eprint + AllocGlobal), fault: PictureFault) {
-    show(rt, sheets_told(rt, fault));
+/// Says how a picture that is too large gets smaller.
+pub fn tell_picture(rt: &impl Eprint, fault: PictureFault) {
+    show_hint(rt, picture_hint(fault));
 }
 
-/// What more there is to say of pages that are not shown.
-fn sheets_told(rt: &impl AllocGlobal, fault: PictureFault) -> Result<String, AllocError> {
+/// What to do about pages that are not shown. Of a sheet past the end the line of the fault has all.
+fn picture_hint(fault: PictureFault) -> Option<&'static str> {
     match fault {
-        PictureFault::NoSuchSheet(1) => format!(in rt.alloc(); "  the paper has one sheet\n"),
-        PictureFault::NoSuchSheet(sheets) => {
-            format!(in rt.alloc(); "  the paper has {sheets} sheets\n")
-        }
-        PictureFault::TooLarge => {
-            format!(in rt.alloc(); "  try --scale 1, or --sheet for one sheet\n")
-        }
+        PictureFault::NoSuchSheet(_) => None,
+        PictureFault::TooLarge => Some("try --scale 1, or --sheet for one sheet"),
     }
 }
 
@@ -373,6 +367,7 @@ fn hint_of(
     answer: Result<RunEnd, CliFault>,
 ) -> Option<&'static str> {
     match (subject, answer) {
+        (_, Err(CliFault::Picture(fault))) => picture_hint(fault),
         (Subject::Script(job), _) => script_hint(bytes, listing, job.form, answer),
         _ => None,
     }

@@ -23,6 +23,15 @@ use std::alloc::{AllocError, Global};
 /// The most bytes of a line that are shown before the place (profile).
 const BEFORE: usize = 60;
 
+/// What is said of a number in a list. A C64 sends the sign's place, the digits and a space.
+const NUMBER: &str =
+    "a C64 prints a number with a space before and after it: write it as a string, such as \" 5 \" for 5";
+
+/// What is said of a program that a script is not enough for.
+const WHOLE_PROGRAM: &str =
+    "an emulator runs such a program: let it write what its printer, device 4, gets to a file, and then \
+     print1525 raw FILE prints that (docs/USAGE.md, Programs with other statements)";
+
 /// Where the first fault of a script is.
 #[derive(Clone, Copy, Debug, PartialEq, Eq)]
 pub struct ScriptPlace {
@@ -250,14 +259,12 @@ fn push_hints(text: &mut String, line: CutLine<'_>, fault: ScriptFault) -> Resul
         write!(text, "  write {word} without spaces\n")?;
     }
     if is_number(line.rest) && takes_item(line.before) {
-        write!(
-            text,
-            "  write a number as a string, such as \"5\", or as a CHR$ code, such as CHR$(5)\n"
-        )?;
+        write!(text, "  {NUMBER}\n")?;
     }
     let wants_number = !matches!(fault, ScriptFault::UnknownWord(_));
     match foreign_word(line.before, line.rest, wants_number) {
-        Some(Foreign::Word(word)) => write!(text, "  {word} is not supported\n"),
+        Some(Foreign::Word(word)) => write!(text, "  {word} is not supported\n  {WHOLE_PROGRAM}\n"),
+        Some(Foreign::Variable(sentence)) => write!(text, "  {sentence}\n  {WHOLE_PROGRAM}\n"),
         Some(Foreign::Sentence(sentence)) => write!(text, "  {sentence}\n"),
         None => Ok(()),
     }?;

@@ -193,6 +193,9 @@ fn letter_count(rest: &[u8]) -> usize
 /// What a message says of a variable.
 const VARIABLE: &str = "variables are not supported; write the value";
 
+/// What a message says of letters that may be a variable, or a word with a wrong letter.
+const OTHER_WORDS: &str = "variables and other words are not supported";
+
 /// What a message says of a key's name outside strings.
 const KEY_OUTSIDE: &str =
     "a name of a key belongs in a string, of petcat's text (--from petcat) or a magazine's listing (--from magazine)";
@@ -270,6 +273,8 @@ const SHORT_KEYS: [&[u8]; 3] = [b"HOME", b"DOWN", b"LEFT"];
 pub enum Foreign {
     /// A word of BASIC, as BASIC writes it.
     Word(&'static str),
+    /// A variable, with a sentence that says so.
+    Variable(&'static str),
     /// Something else, with a sentence that says what it is or what to write.
     Sentence(&'static str),
 }
@@ -592,14 +597,20 @@ pub fn letter_in(rest: &[u8]) -> &[u8] {
 fn foreign_name(rest: &[u8], wants_number: bool) -> Option<Foreign> {
     match word_at(rest).kind {
         WordKind::Foreign(word) => Some(Foreign::Word(word)),
-        WordKind::Variable => Some(Foreign::Sentence(VARIABLE)),
-        WordKind::Letters => Some(Foreign::Sentence(match abbreviated(rest) {
-            Some(sentence) => sentence,
-            None if wants_number => VARIABLE,
-            None => "variables and other words are not supported",
-        })),
+        WordKind::Variable => Some(Foreign::Variable(VARIABLE)),
+        WordKind::Letters => Some(match abbreviated(rest) {
+            Some(sentence) => Foreign::Sentence(sentence),
+            None if wants_number => Foreign::Variable(VARIABLE),
+            None if is_assigned(rest) => Foreign::Variable(OTHER_WORDS),
+            None => Foreign::Sentence(OTHER_WORDS),
+        }),
         WordKind::Keyword(_) | WordKind::Digits | WordKind::Other => None,
     }
+}
+
+/// Whether the letters and digits in front are a variable that gets a value.
+fn is_assigned(rest: &[u8]) -> bool {
+    matches!(after_blanks(&rest[letter_count(rest)..]), [b'=', ..])
 }
 
 /// What to write for the abbreviation of a word of this profile in front, whose last letter is typed with shift.

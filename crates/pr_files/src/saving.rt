@@ -8,10 +8,15 @@ ghost use Rattle.pr_files.specs.Saving.{known_of, written_to};
 use crate::links::{folder_of, followed};
 use std::fs::{File, Files, OpenFile, OpenOptions, Permissions};
 use std::io::{Error, ErrorKind, Write};
+use std::os::unix::fs::PermissionsExt;
 use std::{fs, io};
 
 /// How many names of temporary files are tried.
 const TRIES: u32 = 100;
+
+/// The bits of a mode by which a program runs as its owner or its group. A text that takes a program's place is not that
+/// program.
+const SET_IDS: u32 = 0o6000;
 
 /// A file that is being written. What is written is there under the file's name only after
 /// [`Saving::keep`]; but a target that is no regular file, as a pipe or `/dev/null`, is written in
@@ -30,7 +35,8 @@ pub struct Saving<'a, T, F> {
 struct Beside {
     /// The name of the temporary file; None before it is made.
     temporary: Option<String>,
-    /// The mode that the temporary file is to get; None where it has got it, or no file is there whose mode to keep.
+    /// The mode that the temporary file is to get, without [`SET_IDS`]; None where it has got it, or no file is there whose
+    /// mode to keep.
     mode: Option<Permissions>,
     /// The name of the target.
     target: String,
@@ -46,7 +52,8 @@ pub struct Unsaved {
 }
 
 /// Begins to write the file of this name. A link is followed. Of a regular file, or where there is
-/// none, the text goes to a new file beside it, with the mode of the old file. That is made with the first byte.
+/// none, the text goes to a new file beside it, with the mode of the old file, but without the bits by which a program runs
+/// as its owner or its group. That is made with the first byte.
 ///
 /// # Errors
 ///
@@ -71,13 +78,19 @@ fn over<'a, T: Files<File = F> + AllocGlobal, F: OpenFile>(
 ) -> io::Result<Saving<'a, T, F>> {
     let metadata = file.metadata()?;
     if metadata.is_file() {
-        return begin_beside(rt, name, Some(metadata.permissions()));
+        let old = metadata.permissions();
+        return begin_beside(rt, name, Some(mode_of(&old)));
     }
     Ok(Saving {
         rt,
         file: Some(file),
         beside: None,
     })
+}
+
+/// The mode of a file that takes the place of one with this mode.
+fn mode_of(old: &Permissions) -> Permissions {
+    Permissions::from_mode(old.mode() & !SET_IDS)
 }
 
 /// Begins to write beside the file that the name leads to.
@@ -103,7 +116,8 @@ fn begin_beside<'a, T: Files<File = F> + AllocGlobal, F: OpenFile>(
     })
 }
 
-/// Makes a file with a name of its own in a folder.
+/// Makes a file with a name of its own in a folder. The error is [`ErrorKind::AlreadyExists`], without a number of the
+/// system's, only where all names are taken.
 fn create_in<T: Files<File = F> + AllocGlobal, F>(rt: &T, folder: &str) -> io::Result<(String, F)> {
     for n in 1..=TRIES {
         let name = format!(in rt.alloc(); "{folder}.print1525-{n}.tmp")?;

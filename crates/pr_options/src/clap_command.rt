@@ -18,7 +18,7 @@ use std::alloc::{AllocError, Global};
 const FILE: &str = "FILE";
 
 /// The version of the program, and the kit and the program logic in which it is proved.
-const VERSION: &str = "0.1.0 (rattle-kit-13, logic dac8208d650f15bf)";
+const VERSION: &str = "1.0.0 (rattle-kit-13f, logic dac8208d650f15bf)";
 
 /// An option.
 fn option_argument<'a>(alloc: Global, opt: Opt) -> Arg<'a>

@@ -37,28 +37,28 @@ SELECT_UPPER, SELECT_LOWER = 256, 257
 class Settings(TypedDict, total=False):
     """The program's options. A setting that a call does not read is refused, unless it has its default."""
 
-    as_: As
-    from_: From
-    present: Present
-    status: Status
-    set: Set
-    device: int
-    paper: Paper
-    holes: bool
-    top: int
-    scale: int
-    bounds: Bounds
-    intervals: bool
-    invert: bool
-    listening: Listening
-    strict: bool
-    explain: bool
-    sheet: int
-    from_time: int
-    rate: int
-    delays: str
-    names: str
-    characters: bytes
+    as_: As  # what the text is; each call has its own, and refuses others
+    from_: From  # what the input is
+    present: Present  # the printers on the bus
+    status: Status  # whether the status is cleared before each statement, or kept
+    set: Set  # the character set before the first byte
+    device: int  # the printer 4 or 5 alone; 0 for all
+    paper: Paper  # of a PDF document
+    holes: bool  # continuous paper with its holes and perforations
+    top: int  # the lines of 1/6 inch from the paper's upper edge to the first row, at most 65; 3 if none are given
+    scale: int  # the pixels of a PNG file for the place of a dot, 1 to 8; 2 if none are given
+    bounds: Bounds  # of intervals: this project's, or those of the Programmer's Reference Guide
+    intervals: bool  # also the intervals outside their bounds, and a table
+    invert: bool  # the levels of a dump or a table are inverted
+    listening: Listening  # the printers that listen when a recording begins
+    strict: bool  # status 1 where pages or bytes leave out something of a recording
+    explain: bool  # the text is what the program says with --explain
+    sheet: int  # this sheet alone, from 1; 0 for all
+    from_time: int  # the microsecond at which a dump or a table starts
+    rate: int  # samples in a second, of a table without times; 0 where it says it
+    delays: str  # as "900,999/9"
+    names: str  # of ATN, CLOCK and DATA, as "A,C,D"
+    characters: bytes  # a file of characters
 
 
 class Answer(NamedTuple):

@@ -1,4 +1,4 @@
-"""Numbers of BASIC as what is certain of them, by docs/DEFINITIONS.md; and what ends a run.
+"""Numbers of BASIC as what is certain of them, by docs/BASIC.md; and what ends a run.
 
 A value is known exactly, or as an interval in which the machine's value is. A use of it that has not one answer raises
 NotCertain."""
