@@ -1,5 +1,6 @@
 """The crates of this repository, for the tools: their order, their files, and the libraries that `rt ci` leaves."""
 
+import functools
 import hashlib
 import os
 import re
@@ -116,6 +117,13 @@ def has_gate_libraries(name):
         return False
     lines = text_of(GATE_SUM).split("\n")
     return lines[0] == sum_of_all() and all(f"{it} {library_sum(it)}" in lines[1:] for it in below(name))
+
+
+@functools.cache
+def has_gate_library(name):
+    """Whether a crate's own library, and those below it, are those of a whole gate over these very sources."""
+    is_there = os.path.isdir(f"{ROOT}/crates/{name}/out/rlib/{name}.rlib")
+    return is_there and has_gate_libraries(name) and f"{name} {library_sum(name)}" in text_of(GATE_SUM).split("\n")
 
 
 def words_over(name):
