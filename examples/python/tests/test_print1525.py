@@ -73,7 +73,7 @@ class Texts(unittest.TestCase):
         dump = print1525.bus(HELLO, as_="vcd", delays="7,9/1").text
         edges = print1525.edges(dump)
         self.assertEqual(print1525.bus(HELLO, delays="7,9/1").text, b"".join(b"%d %d%d%d\n" % it for it in edges))
-        self.assertEqual(print1525.decode(trace, as_="text").text, print1525.pages(HELLO, as_="text").text)
+        self.assertEqual(print1525.decode(trace, as_="text").text, b"Printer 4\nHI\n")
         self.assertTrue(print1525.decode(trace, as_="svg", device=4, top=0).text.startswith(b"<"))
         broken = b"".join(trace.splitlines(keepends=True)[:50]) + b"x\n"
         why = self.refused("line 51: bad trace line", print1525.edges, broken)

@@ -21,10 +21,9 @@ fn texts() {
     assert_eq!(lines.collect::<String>(), trace);
     assert!(text(print1525::check(trace.as_bytes(), &usual).unwrap()).ends_with("lawful\n"));
     let shown = Settings { as_: As::Text, ..usual };
-    let printed = pages(HELLO, &shown).unwrap().text;
-    assert_eq!(print1525::decode(trace.as_bytes(), &shown).unwrap().text, printed);
-    let listening = Settings { listening: Listening::Both, ..shown };
-    assert_eq!(print1525::decode(trace.as_bytes(), &listening).unwrap().text, printed);
+    assert_eq!(text(print1525::decode(trace.as_bytes(), &shown).unwrap()), "Printer 4\nHI\n");
+    let listening = Settings { listening: Listening::Four, ..shown };
+    assert_eq!(text(print1525::decode(trace.as_bytes(), &listening).unwrap()), "Printer 4\nHI\n");
     let lower = Settings { set: Set::Lower, ..usual };
     let inputs = [257, 72, 73, 13];
     assert_eq!(print1525::raw(b"HI\r", &lower), print1525::print_inputs(&inputs, &usual));
