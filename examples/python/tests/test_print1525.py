@@ -78,7 +78,8 @@ class Texts(unittest.TestCase):
         broken = b"".join(trace.splitlines(keepends=True)[:50]) + b"x\n"
         why = self.refused("line 51: bad trace line", print1525.edges, broken)
         self.assertEqual(len(why.edges), 50)
-        self.assertEqual(self.refused("line 51: bad trace line", print1525.decode, broken).text[:1], b"c")
+        text = self.refused("line 51: bad trace line", print1525.decode, broken).text
+        self.assertTrue(text and print1525.decode(trace).text.startswith(text), text)
         renamed = dump.replace(b"CLOCK", b"C")
         self.refused("line 7: no signal CLOCK", print1525.edges, renamed)
         self.assertEqual(print1525.edges(renamed, names="ATN,C,DATA"), edges)
