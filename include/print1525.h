@@ -27,7 +27,7 @@
  *     print1525_version           the version of the library that is linked
  *
  * This file is the manual. docs/C.md shows how to build and link, and a program for each purpose. include/print1525.hpp
- * wraps the calls for C++17; examples/ has wrappers for Python and Rust.
+ * wraps the calls for C++17; examples/ has packages for Python and Rust.
  *
  * The library is for 64-bit processors whose numbers have their lowest byte first. Each call is a function in C that is
  * tested only: it says settings as words of a command line, refuses pointers, and calls proved functions. These give
@@ -37,9 +37,9 @@
  * reason to `details`. Where it fills a buffer, it writes how many items it has put there to `length`. Either may be
  * NULL. What it gives is at the front of the buffer, without a zero byte after it; the rest of the buffer stays as it
  * was. With a refusal and a failure (2 and 3) the whole buffer does, and the length is 0; but what a recording says
- * before its first fault is given with status 2. Nothing is cut: if the buffer is too small, the call fails with
- * PRINT1525_FAULT_TOO_SMALL, and the length is what it needs. So a caller may ask for the length with a NULL buffer of
- * capacity 0, or guess, and ask again.
+ * before its first fault, and why an input is refused (`explain`), is given with status 2. Nothing is cut: if the
+ * buffer is too small, the call fails with PRINT1525_FAULT_TOO_SMALL, and the length is what it needs. So a caller may
+ * ask for the length with a NULL buffer of capacity 0, or guess, and ask again.
  *
  * POINTERS. A pointer may be NULL where its length is 0. With another length, and where a structure is read or
  * written, NULL is refused (NULL_POINTER). A buffer that overlaps what the call reads is refused (OVERLAP). Settings

@@ -21,6 +21,7 @@ typedef struct {
     size_t capacity;
     print1525_settings settings;
     unsigned as, from; /* the format and the form that the settings mean, as sets of one */
+    int is_given; /* words are the caller's, and not those of settings */
     uint64_t nothing[2]; /* what NULL points to */
 } task;
 
@@ -226,6 +227,8 @@ static print1525_plain_end run(const growing *words, const task *t, void *output
 static int ask(const growing *words, int explains, const task *t, size_t *length, print1525_details *details) {
     print1525_plain_end end = run(words, t, explains ? NULL : t->buffer, explains ? 0 : t->capacity, NULL, 0);
     size_t made = explains ? end.messages : end.output;
+    /* (what is said of words that nobody wrote is not given) */
+    if (end.fault == PRINT1525_FAULT_BAD_WORDS && !t->is_given) return refuse(details, PRINT1525_FAULT_BAD_WORDS);
     if (explains && end.status != PRINT1525_FAILED && made > 0 && made <= t->capacity) {
         /* (It says something also where it has no memory, which is no explanation: the buffer stays as it was then.) */
         uint8_t *const said = (uint8_t *)malloc(made);
@@ -288,8 +291,6 @@ static int ask_as(unsigned call, const void *input, size_t input_length, const p
         else
             status = blame(&t.settings, ask(&words, t.settings.explain, &t, &made, &own), &own);
         free(many);
-        /* (what is said of words that nobody wrote is not given) */
-        if (own.fault == PRINT1525_FAULT_BAD_SETTING) made = 0;
     }
     tell_length(length, made);
     if (details != NULL) *details = own;
@@ -345,6 +346,7 @@ int print1525_answer(const char *const *words, const void *input, size_t input_l
     t.buffer = text == NULL ? t.nothing : text;
     t.capacity = capacity;
     t.characters = t.nothing;
+    t.is_given = 1;
     if (words == NULL) words = none, fault = PRINT1525_FAULT_NULL_POINTER;
     for (index = 0; fault == PRINT1525_FAULT_NONE && words[index] != NULL; index++) {
         if (is_word(words[index], "--explain")) explains = 1;
