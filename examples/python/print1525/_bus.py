@@ -3,11 +3,12 @@ pulled and anything else for released. An object serves one thread at a time."""
 
 from __future__ import annotations
 
-from ctypes import byref, c_uint64
+from ctypes import byref, c_uint64, memmove, sizeof
+from functools import partial
 from typing import Any, Iterable, Iterator, Literal, NamedTuple, Optional, get_args
 
 from . import _library
-from ._library import Details, called, fitting
+from ._library import LIBRARY, Details, called, checked, fitting
 
 # What comes to a device, and how a byte ended, in the order of their numbers from 1 on.
 Heard = Literal["byte", "select", "listen", "unlisten", "open", "close"]
@@ -89,31 +90,32 @@ class _Kept:
         return bytes(self._kept)
 
     def _load(self, state: bytes) -> None:
-        if len(state) != len(bytes(self._kept)):
-            raise ValueError(f"a state has {len(bytes(self._kept))} bytes")
-        self._kept = type(self._kept).from_buffer_copy(state)
+        if len(state) != sizeof(self._kept):
+            raise ValueError(f"a state has {sizeof(self._kept)} bytes")
+        memmove(byref(self._kept), bytes(state), len(state))
 
 
 class _Edges(_Kept):
     """What takes edges: the structures of its calls are made once."""
 
-    def __init__(self) -> None:
+    def __init__(self, call: Any, kept: Any, made: Any) -> None:
+        self._kept, self._made = kept, made
         self._lines, self._details = _library.Edge(), Details()
+        self._call = partial(call, byref(kept), byref(self._lines), byref(made), byref(self._details))
 
-    def _show(self, call: Any, now: int, levels: tuple[int, int, int], made: Any) -> Any:
+    def _show(self, now: int, atn: int, clock: int, data: int) -> Any:
         lines = self._lines
         lines.time = fitting(now, 64, "a moment")
-        lines.atn, lines.clock, lines.data = map(bool, levels)
-        _library.checked(call(byref(self._kept), byref(lines), byref(made), byref(self._details)), self._details)
-        return made
+        lines.atn, lines.clock, lines.data = bool(atn), bool(clock), bool(data)
+        checked(self._call(), self._details)
+        return self._made
 
 
 class Device(_Edges):
     """A device of 4 to 30 on the bus that hears and answers; or the one whose state was kept."""
 
     def __init__(self, address: int = 4, timing: Timing = Timing(), *, state: Optional[bytes] = None):
-        super().__init__()
-        self._kept, self._made = _library.Device(), _library.Step()
+        super().__init__(LIBRARY.device_step, _library.Device(), _library.Step())
         if state is not None:
             self._load(state)
             return
@@ -123,7 +125,7 @@ class Device(_Edges):
     def step(self, now: int, atn: int, clock: int, data: int) -> Step:
         """Shows the device the lines at a moment: whenever one changes, and at each `wake`. DATA is pulled as long as
         anybody pulls it, this device too."""
-        made = self._show(_library.LIBRARY.device_step, now, (atn, clock, data), self._made)
+        made = self._show(now, atn, clock, data)
         return Step(bool(made.pulls_data), None if made.wake == _NO_WAKE else made.wake, _received(made.heard))
 
     def busy(self, until: int) -> None:
@@ -135,8 +137,7 @@ class Receiver(_Edges):
     """What comes to a device of 4 to 30 on any bus, edge by edge. It drives no line."""
 
     def __init__(self, device: int = 4, *, state: Optional[bytes] = None):
-        super().__init__()
-        self._kept, self._made = _library.Receiver(), _library.Received()
+        super().__init__(LIBRARY.receiver_edge, _library.Receiver(), _library.Received())
         if state is not None:
             self._load(state)
         else:
@@ -144,15 +145,14 @@ class Receiver(_Edges):
 
     def edge(self, time: int, atn: int, clock: int, data: int) -> Optional[Received]:
         """What comes to the device with the next edge, if anything does."""
-        return _received(self._show(_library.LIBRARY.receiver_edge, time, (atn, clock, data), self._made))
+        return _received(self._show(time, atn, clock, data))
 
 
 class Decoder(_Edges):
     """What any recording of the bus says, edge by edge, wherever it begins."""
 
     def __init__(self, *, state: Optional[bytes] = None):
-        super().__init__()
-        self._kept, self._made = _library.Decoder(), _library.Reading()
+        super().__init__(LIBRARY.decoder_edge, _library.Decoder(), _library.Reading())
         if state is not None:
             self._load(state)
         else:
@@ -160,7 +160,7 @@ class Decoder(_Edges):
 
     def edge(self, time: int, atn: int, clock: int, data: int) -> Optional[Reading]:
         """The reading that the next edge settles, if it settles one."""
-        return _reading(self._show(_library.LIBRARY.decoder_edge, time, (atn, clock, data), self._made))
+        return _reading(self._show(time, atn, clock, data))
 
     def end(self) -> Optional[Reading]:
         """The reading that the end of the recording cuts, if it cuts one. More edges may follow."""

@@ -172,11 +172,11 @@ class Refused(Exception):
 
 def checked(status: int, details: Details, text: bytes = b"", edges: Optional[list[Any]] = None) -> int:
     """The status of a call that has done what it was asked for. Raises Refused where it refuses."""
+    if status < 2:
+        return status
     if details.fault == Fault.NO_MEMORY:
         raise MemoryError
-    if status > 1:
-        raise Refused(details, text, edges)
-    return status
+    raise Refused(details, text, edges)
 
 
 def called(name: str, *given: Any) -> Details:
