@@ -42,11 +42,12 @@
  * ask for the length with a NULL buffer of capacity 0, or guess, and ask again.
  *
  * POINTERS. A pointer may be NULL where its length is 0. With another length, and where a structure is read or
- * written, NULL is refused (NULL_POINTER). A buffer that overlaps what the call reads is refused (OVERLAP). Settings
- * may be NULL: then all are 0. Structures may overlap: each is read before one is written, and length and details are
- * written last. What cannot be tested is the caller's part: as many items can be read as a length says, and written as
- * a capacity says; a pointer to numbers is aligned for them; a `const char *` ends with a zero byte; and during a call
- * no other thread writes what the call reads, or touches what it writes.
+ * written, NULL is refused (NULL_POINTER). A buffer that overlaps bytes, marks or words which the call reads is refused
+ * (OVERLAP); one over a structure is not noticed. Settings may be NULL: then all are 0. Structures may overlap: each is
+ * read before one is written, and length and details are written last. What cannot be tested is the caller's part: as
+ * many items can be read as a length says, and written as a capacity says; a pointer to numbers is aligned for them; a
+ * `const char *` ends with a zero byte; and during a call no other thread writes what the call reads, or touches what
+ * it writes.
  *
  * OWNERSHIP. The caller owns all memory that it passes. No call keeps a pointer or hands out memory; what a call takes
  * by malloc it frees before it returns. A buffer's bytes need not be initialised. Structures without pointers are
@@ -55,8 +56,8 @@
  * WHAT A CALLER CARRIES.
  * - Threads: no call keeps any state, so several threads may make calls at once.
  * - Stack: at most 4096 bytes of it for print1525_device_.., _printer_.., _receiver_.., _decoder_.. and the calls under
- *   `Words` above; at most PRINT1525_STACK for each other call. Where functions of the C library are bound at their
- *   first call (without `-z now`), the dynamic linker needs some 2500 bytes more then.
+ *   `Words` above; at most PRINT1525_STACK for each other call, as tests measure in our builds. Where functions of the
+ *   C library are bound at their first call (without `-z now`), the dynamic linker needs some 2500 bytes more then.
  * - Memory: the calls with at most 4096 bytes of stack take none. The others take it by malloc, realloc and free of one
  *   allocator, aligned as C demands. Where these give none, a call fails with PRINT1525_FAULT_NO_MEMORY and has freed
  *   what it took.
@@ -76,7 +77,7 @@
 #define PRINT1525_VERSION "1.0.0"
 #define PRINT1525_VERSION_NUMBER 10000
 
-/* The most bytes of stack that any call takes. */
+/* The most bytes of stack that a call takes, as tests measure in our builds. */
 #define PRINT1525_STACK 98304
 
 #ifdef __cplusplus
@@ -673,8 +674,8 @@ int print1525_bus(const void *script, size_t script_length, const print1525_sett
  * Reads: a trace text of at most 1,099,511,627,776 bytes, or a dump or a table.
  * Gives: what `print1525 check` writes.
  * Refuses: settings (82); a text above the limit (9), before it is read; and a trace by its first fault: a bad line (8)
- * with its number, an edge (11 to 16) with its index, or a line of a dump or a table (31 to 49, 70 to 77). The story
- * and the JSON of a trace that is refused are given up to the fault. */
+ * with its number, an edge (11 to 16) with its index, or a line of a dump or a table (31 to 49, 70 to 77). Of a refused
+ * trace the story is given up to the fault, the JSON whole. */
 int print1525_check(const void *trace, size_t trace_length, const print1525_settings *settings, void *text,
                     size_t capacity, size_t *length, print1525_details *details);
 
