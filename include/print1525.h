@@ -42,11 +42,12 @@
  * ask for the length with a NULL buffer of capacity 0, or guess, and ask again.
  *
  * POINTERS. A pointer may be NULL where its length is 0. With another length, and where a structure is read or
- * written, NULL is refused (NULL_POINTER). A buffer that overlaps what the call reads is refused (OVERLAP). Settings
- * may be NULL: then all are 0. Structures may overlap: each is read before one is written, and length and details are
- * written last. What cannot be tested is the caller's part: as many items can be read as a length says, and written as
- * a capacity says; a pointer to numbers is aligned for them; a `const char *` ends with a zero byte; and during a call
- * no other thread writes what the call reads, or touches what it writes.
+ * written, NULL is refused (NULL_POINTER). A buffer that overlaps bytes, marks or words which the call reads is refused
+ * (OVERLAP); one over a structure is not noticed. Settings may be NULL: then all are 0. Structures may overlap: each is
+ * read before one is written, and length and details are written last. What cannot be tested is the caller's part: as
+ * many items can be read as a length says, and written as a capacity says; a pointer to numbers is aligned for them; a
+ * `const char *` ends with a zero byte; and during a call no other thread writes what the call reads, or touches what
+ * it writes.
  *
  * OWNERSHIP. The caller owns all memory that it passes. No call keeps a pointer or hands out memory; what a call takes
  * by malloc it frees before it returns. A buffer's bytes need not be initialised. Structures without pointers are
@@ -55,8 +56,8 @@
  * WHAT A CALLER CARRIES.
  * - Threads: no call keeps any state, so several threads may make calls at once.
  * - Stack: at most 4096 bytes of it for print1525_device_.., _printer_.., _receiver_.., _decoder_.. and the calls under
- *   `Words` above; at most PRINT1525_STACK for each other call. Where functions of the C library are bound at their
- *   first call (without `-z now`), the dynamic linker needs some 2500 bytes more then.
+ *   `Words` above; at most PRINT1525_STACK for each other call, as tests measure in our builds. Where functions of the
+ *   C library are bound at their first call (without `-z now`), the dynamic linker needs some 2500 bytes more then.
  * - Memory: the calls with at most 4096 bytes of stack take none. The others take it by malloc, realloc and free of one
  *   allocator, aligned as C demands. Where these give none, a call fails with PRINT1525_FAULT_NO_MEMORY and has freed
  *   what it took.
@@ -76,7 +77,7 @@
 #define PRINT1525_VERSION "1.0.0"
 #define PRINT1525_VERSION_NUMBER 10000
 
-/* The most bytes of stack that any call takes. */
+/* The most bytes of stack that a call takes, as tests measure in our builds. */
 #define PRINT1525_STACK 98304
 
 #ifdef __cplusplus
@@ -253,7 +254,8 @@ typedef struct {
 
 /* What a device does at a moment, and what it hears then. */
 typedef struct {
-    uint64_t wake;            /* when to show it the lines again, if none changes before; or PRINT1525_NO_WAKE */
+    uint64_t wake;            /* later than this moment: then, or later, show it the lines again, if none changes
+                               * before; or PRINT1525_NO_WAKE */
     uint8_t pulls_data;       /* 1: it pulls DATA from this moment on; 0: it does not */
     print1525_received heard; /* with CLOCK's last pull in a byte what the byte says to the device, else nothing */
 } print1525_step;
@@ -274,7 +276,7 @@ int print1525_device_begin(print1525_device *device, uint8_t address, const prin
  * wire: it is pulled as long as anybody pulls it, this device too.
  *
  * Reads: a device that was begun; a moment in microseconds below 2^63 that is not earlier than the last one, and the
- * levels of the lines. The same moment may be shown several times.
+ * levels of the lines. Several moments may have one time; a byte is heard once.
  * Gives: the step. The device keeps pulling, or not, until the next step.
  * Refuses, with the device as it was: NULL (80), with nothing written but details; numbers that are no device's (21);
  * and a moment that is earlier than the last one, or is 2^63 or more (17). With these two the step pulls nothing, hears
@@ -282,8 +284,9 @@ int print1525_device_begin(print1525_device *device, uint8_t address, const prin
 int print1525_device_step(print1525_device *device, const print1525_edge *moment, print1525_step *step,
                           print1525_details *details);
 
-/* Lets a device print until a moment, in microseconds: before the next byte it holds DATA until then, and the talker
- * waits. It hears what comes meanwhile. Once it has released DATA before a byte, it does not pull it again for that.
+/* Lets a device print until a moment, in microseconds: before the next byte, also a command to another device, it holds
+ * DATA until then, and the talker waits. The next step has the new wake. It hears what comes meanwhile. Once it has
+ * released DATA before a byte, it does not pull it again for that.
  *
  * Refuses, with the device as it was: NULL (80). */
 int print1525_device_busy(print1525_device *device, uint64_t until, print1525_details *details);
@@ -314,9 +317,9 @@ typedef struct {
 } print1525_mark;
 
 /* A printer: what the library keeps of one between two bytes. It keeps no marks: the caller keeps those that it wants
- * to draw again. The numbers are the library's own, to be read; copy, save and load them freely, and each copy goes on
- * by itself. All numbers mean some printer: an `x` above 480 is 480, a `y` above 2^63 is 2^63, and a number that means
- * nothing is 0. Memory of zeros is a printer just begun. */
+ * to draw again. The numbers are to be read; copy, save and load them freely, and each copy goes on by itself. `y` may
+ * be set, as after a reset over used paper. All numbers mean some printer: an `x` above 480 is 480, a `y` above 2^63
+ * is 2^63, and a number that means nothing is 0. Memory of zeros is a printer just begun. */
 typedef struct {
     uint64_t y;           /* the line's distance from the top, in 1/126 inch: its marks have it too */
     uint16_t x;           /* the dot column to which the next mark goes, at most 480 */
@@ -335,8 +338,8 @@ typedef struct {
  * Refuses: NULL (80). */
 int print1525_printer_begin(print1525_printer *printer, print1525_details *details);
 
-/* Selects a character set of a printer, one of enum print1525_set. A selection makes no mark. A device selects
- * PRINT1525_SET_UPPER with each LISTEN, and PRINT1525_SET_LOWER with secondary address 7 directly after it.
+/* Selects a character set of a printer, one of enum print1525_set. A selection makes no mark. Where a device hears
+ * PRINT1525_RECEIVED_LISTEN select PRINT1525_SET_UPPER, and at PRINT1525_RECEIVED_SELECT of 7 PRINT1525_SET_LOWER.
  *
  * Refuses, with the printer as it was: NULL (80), and any other set (25). */
 int print1525_printer_select(print1525_printer *printer, uint8_t set, print1525_details *details);
@@ -346,7 +349,7 @@ int print1525_printer_select(print1525_printer *printer, uint8_t set, print1525_
  *
  * Reads: a printer that was begun.
  * Gives: the marks: none, one, or those of a repeat. Capacity and length count marks; PRINT1525_MARKS_OF_A_BYTE have
- * room for those of any byte. Where the line ends, the printer's `y` grows.
+ * room for those of any byte. Where the line ends, the printer's `y` grows by 21, or 14 in graphic mode.
  * Refuses: NULL (80) and OVERLAP (81). Where the buffer is too small (91) the byte is not taken. With all of these the
  * printer is as it was. */
 int print1525_printer_byte(print1525_printer *printer, uint8_t byte, print1525_mark *marks, size_t capacity,
@@ -358,7 +361,7 @@ int print1525_printer_byte(print1525_printer *printer, uint8_t byte, print1525_m
  * Gives: in `taken` how many of them it has taken, and their marks, as print1525_printer_byte. Give it the rest once
  * the marks are used: each call takes a byte at least, if there is one, where the capacity is
  * PRINT1525_MARKS_OF_A_BYTE or more.
- * Refuses, with all as it was: NULL (80) and OVERLAP (81). */
+ * Refuses, with all as it was, `taken` too: NULL (80) and OVERLAP (81). */
 int print1525_printer_bytes(print1525_printer *printer, const void *bytes, size_t *taken, print1525_mark *marks,
                             size_t capacity, size_t *length, print1525_details *details);
 
@@ -408,8 +411,9 @@ int print1525_printer_changed(const print1525_mark *marks, size_t length, print1
  *
  * Reads: marks, in any order; a region, also beyond the page.
  * Gives: all pixels of the region; bytes between two lines, and the last bits of a line's last byte, stay as they were.
- * With all marks of a page whose lines have ended they are the pixels of its PNG file. Characters are this project's
- * own. Capacity counts the bytes from the region's first pixel on. It takes time for the marks and the pixels.
+ * All marks of ended lines give the pixels of the PNG file with `top` PRINT1525_TOP_EDGE. Cells have this project's
+ * shapes: draw those of your own printer yourself. Capacity counts the bytes from the region's first pixel on. It
+ * takes time for the marks and the pixels.
  * Refuses, with the pixels as they were: NULL (80), OVERLAP (81), a region that needs 2^63 bytes or more (9), and a
  * stride that is smaller than a line, or pixels that mean nothing (27). Too small a capacity fails (91). */
 int print1525_printer_page(const print1525_mark *marks, size_t length, const print1525_region *region, void *pixels,
@@ -562,10 +566,10 @@ enum print1525_listening {
 /* `top` of paper whose first row is at its upper edge. */
 #define PRINT1525_TOP_EDGE 255
 
-/* What the options of the program say. 0 is the program's default of each, so begin with `{0}` and change what you
- * want. After each setting are the calls and the formats (`as`) that read it. Where it would not be read it is refused
- * unless it is 0, and so is a number that the option does not have (BAD_SETTING): `place` is then the number in
- * brackets, one of enum print1525_setting, and print1525_message says the name. */
+/* Most options of the program (print1525_answer has all). 0 is the program's default of each, so begin with `{0}` and
+ * change what you want. After each setting are the calls and the formats (`as`) that read it. Where it would not be
+ * read it is refused unless it is 0, and so is a number that the option does not have (BAD_SETTING): `place` is then
+ * the number in brackets, one of enum print1525_setting, and print1525_message says the name. */
 typedef struct {
     uint8_t as;         /* [1] --as: enum print1525_as (all but listing and edges) */
     uint8_t from;       /* [2] --from: enum print1525_from (all but raw and print) */
@@ -670,8 +674,8 @@ int print1525_bus(const void *script, size_t script_length, const print1525_sett
  * Reads: a trace text of at most 1,099,511,627,776 bytes, or a dump or a table.
  * Gives: what `print1525 check` writes.
  * Refuses: settings (82); a text above the limit (9), before it is read; and a trace by its first fault: a bad line (8)
- * with its number, an edge (11 to 16) with its index, or a line of a dump or a table (31 to 49, 70 to 77). The story
- * and the JSON of a trace that is refused are given up to the fault. */
+ * with its number, an edge (11 to 16) with its index, or a line of a dump or a table (31 to 49, 70 to 77). Of a refused
+ * trace the story is given up to the fault, the JSON whole. */
 int print1525_check(const void *trace, size_t trace_length, const print1525_settings *settings, void *text,
                     size_t capacity, size_t *length, print1525_details *details);
 

@@ -1,6 +1,7 @@
-// libprint1525 for C++17: texts in, texts out. print1525.h is the manual; this file says only what differs.
+// libprint1525 for C++17: texts in, texts out. print1525.h is the manual; this file says only what differs. `printer`
+// collects inputs for print1525_print; `watched_printer` is print1525_printer.
 //
-//     std::string picture = print1525::pages("OPEN 4,4:PRINT#4,\"HELLO\"", PRINT1525_PAGE_SVG).text;
+//     std::string picture = print1525::pages("OPEN 4,4:PRINT#4,\"HELLO\"", PRINT1525_AS_SVG).text;
 //
 // A call gives a `result`: the text, and the details with a BASIC error that stopped the run. Where the C call refuses,
 // it throws `print1525::error`, whose what() is the program's message; std::bad_alloc where there is no memory.

@@ -23,6 +23,7 @@ int print1525_decoder_edge(print1525_decoder *decoder, const print1525_edge *edg
     print1525_plain_numbers answer;
     if (decoder == NULL || edge == NULL || reading == NULL) return refuse(details, PRINT1525_FAULT_NULL_POINTER);
     read = *edge;
+    memset(&settled, 0, sizeof settled);
     print1525_plain_decode_edge(decoder, &read, &settled, &answer);
     *reading = settled;
     return report_order(details, answer);
@@ -32,6 +33,7 @@ int print1525_decoder_end(const print1525_decoder *decoder, print1525_reading *r
     print1525_reading cut;
     print1525_plain_numbers answer;
     if (decoder == NULL || reading == NULL) return refuse(details, PRINT1525_FAULT_NULL_POINTER);
+    memset(&cut, 0, sizeof cut);
     print1525_plain_decode_end(decoder, &cut, &answer);
     *reading = cut;
     return report(details, answer);

@@ -20,6 +20,7 @@ int print1525_device_step(print1525_device *device, const print1525_edge *moment
     print1525_plain_numbers answer;
     if (device == NULL || moment == NULL || step == NULL) return refuse(details, PRINT1525_FAULT_NULL_POINTER);
     read = *moment;
+    memset(&does, 0, sizeof does);
     print1525_plain_device_step(device, read.time, read.atn, read.clock, read.data, &does, &answer);
     *step = does;
     return report(details, answer);

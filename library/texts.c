@@ -159,6 +159,12 @@ static void option(growing *to, const char *name, const char *value) {
     word(to, value);
 }
 
+/* An option whose value may begin as an option does. */
+static void option_text(growing *to, const char *name, const char *value) {
+    word(to, name);
+    add(to, value);
+}
+
 static void option_number(growing *to, const char *name, uint64_t value) {
     option(to, name, "");
     add_number(to, value);
@@ -202,8 +208,8 @@ static void words_of(growing *to, unsigned call, const print1525_settings *s) {
     if (s->sheet) option_number(to, "--sheet", s->sheet);
     if (s->from_time) option_number(to, "--from-time", s->from_time);
     if (s->rate) option_number(to, "--rate", s->rate);
-    if (s->delays) option(to, "--delays", s->delays);
-    if (s->names) option(to, "--names", s->names);
+    if (s->delays) option_text(to, "--delays=", s->delays);
+    if (s->names) option_text(to, "--names=", s->names);
     if (s->characters_length > 0) option(to, "--characters", "given");
 }
 
@@ -322,7 +328,7 @@ int print1525_raw(const void *bytes, size_t bytes_length, const print1525_settin
     return ask_as(RAW, bytes, bytes_length, settings, text, capacity, length, details);
 }
 
-/* Whether a word is an option that takes no word after it here. */
+/* Whether a word is this one. */
 static int is_word(const char *text, const char *name) { return strcmp(text, name) == 0; }
 
 /* Adds the words of a caller; the text after --characters becomes a name. */

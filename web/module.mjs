@@ -174,7 +174,8 @@ export const loadPrint1525 = (() => {
   const flagOf = (name, flag) => (typeof flag === 'boolean' ? Number(flag) : wrong(name, 'true or false'));
 
   function wordsOf(words) {
-    return Array.isArray(words) && words.every(word => typeof word === 'string') ? words : wrong('words', 'an array of strings');
+    const isWord = word => typeof word === 'string' && !word.includes('\0');    // (a zero byte parts the words)
+    return Array.isArray(words) && words.every(isWord) ? words : wrong('words', 'an array of strings without a zero byte');
   }
 
   function numberOf(name, number, least, greatest) {

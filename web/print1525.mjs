@@ -84,7 +84,7 @@ async function makeFiles() {
   function openBeside(folder) {
     for (let n = 1; n <= 100; n++) {
       const name = path.join(folder, `.print1525-${n}.tmp`);
-      try { return { name, file: fs.openSync(name, 'wx') }; } catch (error) { if (error.code !== 'EEXIST') throw error; }
+      try { return { name, file: fs.openSync(name, 'wx', 0o600) }; } catch (error) { if (error.code !== 'EEXIST') throw error; }
     }
     throw Object.assign(new Error(NO_NAME), { code: 'NO_NAME', errno: 0 });
   }
@@ -111,7 +111,9 @@ async function makeFiles() {
     if (old !== null) fs.closeSync(old);
     const target = followed(name), beside = openBeside(path.dirname(target));
     const discard = () => { try { fs.closeSync(beside.file); } catch { /* it is closed */ } fs.rmSync(beside.name, { force: true }); };
-    try { if (state && process.platform !== 'win32') fs.fchmodSync(beside.file, state.mode & 0o1777); } catch (error) { discard(); throw error; }
+    // (nobody else reads the new file before it has the old one's mode, or that of any new file)
+    const mode = state ? state.mode & 0o1777 : 0o666 & ~process.umask();
+    try { if (process.platform !== 'win32') fs.fchmodSync(beside.file, mode); } catch (error) { discard(); throw error; }
     const keep = () => {
       try { fs.fsyncSync(beside.file); fs.closeSync(beside.file); fs.renameSync(beside.name, target); } catch (error) { discard(); throw error; }
     };
@@ -178,9 +180,10 @@ async function main() {
   try {
     process.exitCode = await run(process.argv.slice(2), files);
   } catch (error) {
-    if (!(error instanceof Failed)) throw error;
+    if (!(error instanceof Failed) && !(error instanceof RangeError)) throw error;
     process.exitCode = 3;
-    try { files.writeAll(2, Buffer.from(error.message)); } catch { /* there is nowhere to report it */ }
+    const words = error instanceof Failed ? error.message : 'print1525: out of memory\n';
+    try { files.writeAll(2, Buffer.from(words)); } catch { /* there is nowhere to report it */ }
   }
 }
 

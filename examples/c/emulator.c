@@ -1,9 +1,9 @@
 /* The serial bus as an emulator has it: emulator PREFIX < TEXT
- * A computer drives ATN, CLOCK and DATA bit by bit, as the KERNAL of a Commodore 64 does. It prints each line of the
- * text on two printers, 4 and 5 (the second in lower case), and writes it to a file on drive 8. The library says when
- * each device pulls and releases DATA; while a printer prints a line, the computer waits. Time is virtual: nothing here
- * sleeps. The first sheets come out as PREFIX-4.pgm and PREFIX-5.pgm, the file as PREFIX-8.seq, and a line says how
- * many microseconds all that took. Nothing here calls malloc. */
+ * A computer drives ATN, CLOCK and DATA bit by bit, as the KERNAL of a Commodore 64 does (no real one was tried). It
+ * prints each line of the text on two printers, 4 and 5 (the second in lower case), and writes it to a file on drive
+ * 8. The library says when each device pulls and releases DATA; while a printer prints a line, the computer waits.
+ * Time is virtual: nothing here sleeps. The first sheets come out as PREFIX-4.pgm and PREFIX-5.pgm, the file as
+ * PREFIX-8.seq, and a line says how many microseconds all that took. Nothing here calls malloc. */
 #include "print1525.h"
 #include <stdio.h>
 #include <string.h>
@@ -37,15 +37,16 @@ static int is_name;
 static int atn = 1, clock_line = 1, data = 1;
 static uint64_t now;
 
-/* A byte goes to a printer. It keeps a line until its end, and prints it then: so long the computer has to wait. */
+/* A byte goes to a printer. It keeps a line until its end, and prints it then: the computer waits that long. */
 static void print(device *it, uint8_t byte) {
     static const print1525_region sheet = {0, 0, WIDTH, HEIGHT, 0, PRINT1525_GRAY};
     print1525_mark marks[PRINT1525_MARKS_OF_A_BYTE];
+    const uint64_t line = it->printer.y;
     size_t length;
     print1525_printer_byte(&it->printer, byte, marks, PRINT1525_MARKS_OF_A_BYTE, &length, NULL);
     print1525_printer_draw(marks, length, &sheet, it->paper[0], sizeof it->paper, NULL);
     it->waiting++;
-    if (byte != 13) return;
+    if (it->printer.y == line) return;
     print1525_device_busy(&it->device, now + (uint64_t)it->waiting * MICROSECONDS_A_CHARACTER, NULL);
     it->waiting = 0;
 }

@@ -1,5 +1,14 @@
 """What stands twice in this repository, since one of the places cannot ask the other: whether both say the same.
-docs/DECISIONS.md has the reason of each, under `What stands twice`. tests/evidence/once looks."""
+tests/evidence/once looks. What it is, and why:
+
+- web/asked.js, the header, Python, Rust: values of options, numbers of settings; none reads another's enum
+- web/listing.js: keywords, petcat's names, which files are no input; the editor colours each key at once
+- web/page.js: the longest listing; a link is inflated before the module sees it
+- web/wire.js: names of delays, intervals and ends of a byte; it draws thousands of frames from numbers
+- web/sheets.js, pr_render, pr_pdf: lines above the first row, a disc's width; units differ
+- web/words.js: parts of hints; the page names its own choice in place of an option
+- pr_cli, pr_exports: how many first bytes show a format; both contracts have it
+- print1525.mjs: --quiet, and that the input is also the output; the module sees no files"""
 
 import ast
 import os
