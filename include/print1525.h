@@ -77,7 +77,7 @@
 #define PRINT1525_VERSION_NUMBER 10000
 
 /* The most bytes of stack that any call takes. */
-#define PRINT1525_STACK 98304
+#define PRINT1525_STACK 262144
 
 #ifdef __cplusplus
 extern "C" {
