@@ -78,7 +78,7 @@
 #define PRINT1525_VERSION_NUMBER 10000
 
 /* The most bytes of stack that a call takes, as tests measure in our builds. */
-#define PRINT1525_STACK 98304
+#define PRINT1525_STACK 262144
 
 #ifdef __cplusplus
 extern "C" {
