@@ -124,6 +124,13 @@ size_t print1525_message(const print1525_details *details, char *text, size_t ca
             add(&to, ": ");
         }
         add(&to, print1525_strerror(fault));
+        if (fault == PRINT1525_FAULT_NO_SUCH_SHEET && place == 1) {
+            add(&to, ": the paper has one sheet");
+        } else if (fault == PRINT1525_FAULT_NO_SUCH_SHEET) {
+            add(&to, ": the paper has ");
+            add_number(&to, place);
+            add(&to, " sheets");
+        }
     }
     if (to.capacity > 0) to.text[to.length < to.capacity ? to.length : to.capacity - 1] = '\0';
     return to.length;

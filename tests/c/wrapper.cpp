@@ -57,7 +57,7 @@ static void texts() {
     CHECK(print1525::pages(lines, one).text.size() < print1525::pages(lines, all).text.size() / 4);
     CHECK(print1525::pages(lines, first).text != print1525::pages(lines, one).text);
     one.sheet = 3;
-    CHECK(message_of([&] { print1525::pages(lines, one); }) == "no such sheet");
+    CHECK(message_of([&] { print1525::pages(lines, one); }) == "no such sheet: the paper has 2 sheets");
     one.as = PRINT1525_AS_PDF;
     CHECK(message_of([&] { print1525::pages(lines, one); }) == "setting sheet: bad setting");
 }

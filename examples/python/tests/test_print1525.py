@@ -42,7 +42,7 @@ class Texts(unittest.TestCase):
         self.refused("setting as: bad setting", print1525.pages, HELLO, as_="vcd")
         self.refused("setting scale: bad setting", print1525.pages, HELLO, as_="svg", scale=2)
         self.refused("setting top: bad setting", print1525.pages, HELLO, as_="svg", top=66)
-        why = self.refused("no such sheet", print1525.pages, HELLO, as_="svg", sheet=2)
+        why = self.refused("no such sheet: the paper has one sheet", print1525.pages, HELLO, as_="svg", sheet=2)
         self.assertEqual((why.fault, why.place), (Fault.NO_SUCH_SHEET, 1))
 
     def test_values_without_room(self):

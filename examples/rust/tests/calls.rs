@@ -49,7 +49,7 @@ fn refusals() {
         (Settings { as_: As::Svg, top: Some(255), ..usual }, "setting top: bad setting"),
         (Settings { as_: As::Svg, scale: 2, ..usual }, "setting scale: bad setting"),
         (Settings { delays: "1\0", ..usual }, "setting delays: bad setting"),
-        (Settings { as_: As::Svg, sheet: 2, ..usual }, "no such sheet"),
+        (Settings { as_: As::Svg, sheet: 2, ..usual }, "no such sheet: the paper has one sheet"),
     ] {
         assert_eq!(pages(HELLO, &settings).unwrap_err().to_string(), words);
     }
