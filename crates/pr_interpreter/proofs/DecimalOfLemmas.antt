@@ -77,14 +77,14 @@ has_found units place (suc more) d all before h =
     is_here p below before =
         elim (cases_lt p d.place) [
           | inl less ↦ absurd (let ten = h.finest p less in omega arith)
-          | inr no ↦ omega arith
+          | inr above ↦ omega arith
         ]
 
     is_after : ten_digits ≤ sixteenths place units → place ≤ d.place → place + 1 ≤ d.place
     is_after above before =
         elim (cases_eq place d.place) [
           | inl e ↦ absurd (let ten = subst (λ (p : ℕ). ten_digits ≤ sixteenths p units) e above in omega (arith, h.nine))
-          | inr no ↦ omega (arith, no)
+          | inr other ↦ omega (arith, other)
         ]
 
     same : place ≡ d.place → some_digits (digits_at units place) ≡ Some d
@@ -193,8 +193,8 @@ found_decimal n x e =
         let same = one_decimal (record { negative = false; magnitude = d }) x e in
         subst (λ (t : Decimal). IsDecimal n t) same (record {
           digits = has;
-          large = λ no. absurd (no none);
-          sign = λ no. absurd (no none);
+          large = λ some. absurd (some none);
+          sign = λ some. absurd (some none);
           nothing = λ _. refl;
         })
 

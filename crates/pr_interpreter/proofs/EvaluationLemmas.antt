@@ -1,11 +1,13 @@
-use Rattle.std.proofs.Common.{◌≡◌, ℕ, zero, suc, ◌+◌, ◌-◌, ◌<◌, false, nat_le, List, arith, refl, sym, ap, ◌∙◌, Option, Some, None}
+use Rattle.std.proofs.Common.{◌≡◌, ℕ, zero, suc, ◌+◌, ◌-◌, ◌*◌, ◌^◌, ◌<◌, Bool, true, false, nat_le, if◌then◌else◌, List, length, arith, refl, sym, ap, ◌∙◌, Option, Some, None}
 use Rattle.std.proofs.lemmas.Bool.{lt-leb}
 use Rattle.pr_interpreter.specs.Evaluation.{Scope, Working, element, give, in_array, through, worked}
+use Rattle.pr_interpreter.specs.Memory.{added, element_bytes, undimensioned}
 use Rattle.pr_interpreter.specs.Working.{element_of}
 use Rattle.pr_interpreter.specs.declared.evaluation.Given.{Given}
 use Rattle.pr_interpreter.specs.declared.evaluation.Given.TheVariants.{Stopped}
 use Rattle.pr_interpreter.specs.declared.expressions.Placed.{Placed}
 use Rattle.pr_interpreter.specs.declared.memory.Array.{Array}
+use Rattle.pr_interpreter.specs.declared.memory.Arrays.{Arrays}
 use Rattle.pr_interpreter.specs.declared.names.Name.{Name}
 use Rattle.pr_interpreter.specs.declared.values.Halt.TheVariants.{NotTaken}
 
@@ -51,6 +53,47 @@ pub in_array_none : (place : ℕ) (name : Name) (is : List ℕ) (w v : Working) 
 in_array_none place name is w v None e given = given
 in_array_none place name is w v (Some a) e given = absurd (no_given (element a is) (sym e))
 
--- there is no room
-pub no_room : (kept bytes : ℕ) → 30000 < bytes → nat_le (kept + bytes) 30000 ≡ false
-no_room kept bytes large = lt-leb (kept + bytes) 30000 (omega arith)
+-- ---- an array that is used before DIM
+
+abbrev pub elements_bytes : Name → List ℕ → ℕ
+elements_bytes name is = element_bytes name.kind * 11 ^ length is
+
+-- it has too many dimensions
+pub new_large : (place : ℕ) (name : Name) (is : List ℕ) (w v : Working) → 30000 < elements_bytes name is
+    → v ≡ give (Stopped (NotTaken place)) w → v ≡ in_array place name is w no_array
+unfolding in_array
+new_large place name is w v large given =
+    rw (lt-leb (w.arrays.bytes + elements_bytes name is) 30000 (omega arith)) given
+
+-- there is room
+pub new_added : (place : ℕ) (name : Name) (is : List ℕ) (w v : Working) (a : Array) (g : Given) (bytes : ℕ) (b : Bool)
+    (arrays : Arrays) → a ≡ undimensioned name (length is) → g ≡ element a is → bytes ≡ elements_bytes name is
+    → b ≡ nat_le (w.arrays.bytes + bytes) 30000
+    → arrays ≡ (if b then added a (w.arrays.bytes + bytes) w.arrays else w.arrays) → b ≡ true
+    → v ≡ give g (record w { arrays = arrays }) → v ≡ in_array place name is w no_array
+unfolding in_array
+new_added place name is w v a g bytes b arrays array value size room left test given =
+    let fits : nat_le (w.arrays.bytes + elements_bytes name is) 30000 ≡ true
+    = ap (λ (n : ℕ). nat_le (w.arrays.bytes + n) 30000) (sym size) ∙ (sym room ∙ test) in
+    let new = undimensioned name (length is) in
+    let after : arrays ≡ added new (w.arrays.bytes + elements_bytes name is) w.arrays
+    = left
+    ∙ (ap (λ (c : Bool). if c then added a (w.arrays.bytes + bytes) w.arrays else w.arrays) test
+    ∙ (ap (λ (x : Array). added x (w.arrays.bytes + bytes) w.arrays) array
+    ∙ ap (λ (n : ℕ). added new (w.arrays.bytes + n) w.arrays) size)) in
+    rw fits (given
+    ∙ (ap (λ (x : Given). give x (record w { arrays = arrays })) (value ∙ ap (λ (x : Array). element x is) array)
+    ∙ ap (λ (x : Arrays). give (element new is) (record w { arrays = x })) after))
+
+-- there is none
+pub new_full : (place : ℕ) (name : Name) (is : List ℕ) (w v : Working) (a : Array) (bytes : ℕ) (b : Bool)
+    (arrays : Arrays) → bytes ≡ elements_bytes name is → b ≡ nat_le (w.arrays.bytes + bytes) 30000
+    → arrays ≡ (if b then added a (w.arrays.bytes + bytes) w.arrays else w.arrays) → b ≡ false
+    → v ≡ give (Stopped (NotTaken place)) (record w { arrays = arrays }) → v ≡ in_array place name is w no_array
+unfolding in_array
+new_full place name is w v a bytes b arrays size room left test given =
+    let fits : nat_le (w.arrays.bytes + elements_bytes name is) 30000 ≡ false
+    = ap (λ (n : ℕ). nat_le (w.arrays.bytes + n) 30000) (sym size) ∙ (sym room ∙ test) in
+    let after : arrays ≡ w.arrays
+    = left ∙ ap (λ (c : Bool). if c then added a (w.arrays.bytes + bytes) w.arrays else w.arrays) test in
+    rw fits (given ∙ ap (λ (x : Arrays). give (Stopped (NotTaken place)) (record w { arrays = x })) after)

@@ -52,8 +52,8 @@ place_differs n [] (i ∷ is) h = refl
 place_differs n (b ∷ bs) [] h = refl
 place_differs n (b ∷ bs) (i ∷ is) h =
     elim (cases_Bool (nat_le i b && nat_lt (n * (b + 1) + i) 65536)) [
-      | inl yes ↦ rw yes (place_differs (n * (b + 1) + i) bs is (λ e. h (ap (λ (k : ℕ). suc k) e)))
-      | inr no ↦ rw no refl
+      | inl within ↦ rw within (place_differs (n * (b + 1) + i) bs is (λ e. h (ap (λ (k : ℕ). suc k) e)))
+      | inr outside ↦ rw outside refl
     ]
 
 -- an index is too great
@@ -65,8 +65,8 @@ place_outside n bs is k h g more = rw (drop-cons bs k 0 h, drop-cons is k 0 g, l
 pub place_beyond : (n : ℕ) (bs is : List ℕ) (k : ℕ) → k < length bs → k < length is
     → 65536 ≤ n * (get_or bs k 0 + 1) + get_or is k 0 → place_of n (drop k bs) (drop k is) ≡ None
 place_beyond n bs is k h g large =
-    let no : nat_lt (n * (get_or bs k 0 + 1) + get_or is k 0) 65536 ≡ false = le-ltb _ _ large in
-    let neither = and_right (nat_le (get_or is k 0) (get_or bs k 0)) _ no in
+    let large_test : nat_lt (n * (get_or bs k 0 + 1) + get_or is k 0) 65536 ≡ false = le-ltb _ _ large in
+    let neither = and_right (nat_le (get_or is k 0) (get_or bs k 0)) _ large_test in
     rw (drop-cons bs k 0 h, drop-cons is k 0 g, neither) refl
 
 -- one dimension more

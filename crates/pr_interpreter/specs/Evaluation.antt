@@ -69,9 +69,12 @@ abbrev pub string_or : ℕ → Result (List ℕ) Stop → Given
 string_or place (Ok s) = Made s
 string_or place (Err stop) = Stopped (halt_at place stop)
 
+abbrev pub made : Value → Given
+made (NumberValue n) = Number n
+made (TextValue s) = Made s
+
 abbrev pub value_or : ℕ → Result Value Stop → Given
-value_or place (Ok (NumberValue n)) = Number n
-value_or place (Ok (TextValue s)) = Made s
+value_or place (Ok v) = made v
 value_or place (Err stop) = Stopped (halt_at place stop)
 
 -- a value that a variable or an element has

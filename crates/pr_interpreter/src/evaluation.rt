@@ -1,7 +1,7 @@
 //! The value of an expression.
 
 ghost use Rattle.std.specs.Prelude.{◌≡◌, ◌⊎◌, ◌∷◌, [], Ok, Err, None, IfErr, IfOk, OnOk, MatchResult, count_by, length};
-ghost use Rattle.pr_interpreter.specs.Evaluation.{after, applied, arguments, called, element, ended, evaluation, give, halt_at, in_array, index, indexed, indices, is_made, is_not_taken, kept, last_given, literal, middle_by, number_in, number_of_number, number_of_string, number_or, of_one_argument, of_strings, of_three_arguments, of_two, of_two_arguments, own, position_for, put, refused_for, returned, string_in, string_of_number, string_or, takes_strings, value_in, value_or, variable, with_it, with_parameter, without, worked};
+ghost use Rattle.pr_interpreter.specs.Evaluation.{after, applied, arguments, called, element, ended, evaluation, give, halt_at, in_array, index, indexed, indices, is_made, is_not_taken, kept, last_given, literal, made, middle_by, number_in, number_of_number, number_of_string, number_or, of_one_argument, of_strings, of_three_arguments, of_two, of_two_arguments, own, position_for, put, refused_for, returned, string_in, string_of_number, string_or, takes_strings, value_in, value_or, variable, with_it, with_parameter, without, worked};
 ghost use Rattle.pr_interpreter.specs.ExpressionLaws.{operands};
 ghost use Rattle.pr_interpreter.specs.Functions.{middle, part_of, with_whole};
 ghost use Rattle.pr_interpreter.specs.Memory.{array_of, first_value, parameter, variable_value};
@@ -81,6 +81,16 @@ fn number_in(given: &Given) -> Result<Number, Halt>
     }
 }
 
+/// Returns what a number gives that a function of the program leaves.
+fn number_given(found: Result<Number, Halt>) -> Given
+    ensures { result ≡ with_it found (λ n. Given.Number n) }
+{
+    match found {
+        Ok(number) => Given::Number(number),
+        Err(halt) => Given::Stopped(halt),
+    }
+}
+
 /// Returns the string that a part gives, which has to be one.
 fn string_in(given: &Given) -> Result<&[u8], Halt>
     ensures { MatchResult result (λ s. string_in given.now ≡ Ok s.now) (λ halt. string_in given.now ≡ Err halt) }
@@ -125,6 +135,16 @@ fn takes_strings(operator: Operator) -> bool
     }
 }
 
+/// Returns what a value gives that is worked out.
+fn made(value: Value) -> Given
+    ensures { result ≡ made value }
+{
+    match value {
+        Value::Number(number) => Given::Number(number),
+        Value::Text(text) => Given::Made(text),
+    }
+}
+
 /// Returns what an operator gives of two strings.
 fn of_two_strings(
     alloc: Global,
@@ -136,8 +156,7 @@ fn of_two_strings(
     ensures { IfOk result (λ g. g ≡ value_or place (of_texts operator s.now t.now)) }
 {
     match of_texts(alloc, operator, s, t) {
-        Ok(Value::Number(number)) => Ok(Given::Number(number)),
-        Ok(Value::Text(text)) => Ok(Given::Made(text)),
+        Ok(value) => Ok(made(value)),
         Err(Stop::OutOfMemory) => Err(AllocError),
         Err(Stop::NotCertain) => Ok(Given::Stopped(Halt::NotCertain(place))),
         Err(Stop::Error(error)) => Ok(Given::Stopped(Halt::Error(error))),
@@ -719,10 +738,7 @@ impl Work {
     fn end(&mut self, count: usize, strings: usize) -> Result<(), AllocError>
         ensures { OnOk result (seen self.new ≡ ended count strings (seen self.old)) }
     {
-        let given = match self.last_number() {
-            Ok(number) => Given::Number(number),
-            Err(halt) => Given::Stopped(halt),
-        };
+        let given = number_given(self.last_number());
         self.given.truncate(count);
         self.strings = strings;
         self.put(given)
@@ -792,7 +808,6 @@ impl Work {
     }
 
     /// Makes an array that is used before DIM, if there is room, and gives an element.
-    #[tactic(auto, using(crate::proofs::EvaluationLemmas::no_room), unfolding(crate::specs::Evaluation::in_array))]
     fn in_new(
         &mut self,
         alloc: Global,
@@ -805,14 +820,16 @@ impl Work {
         let array = undimensioned(alloc, name, indices.len())?;
         let given = element(alloc, &array, indices)?;
         let Some(bytes) = undimensioned_bytes(name.kind, indices.len()) else {
-            return self.give(Given::Stopped(Halt::NotTaken(place)));
+            self.give(Given::Stopped(Halt::NotTaken(place)))?;
+            return Ok(());
         };
         let is_added = self.arrays.add(alloc, array, bytes)?;
         if is_added {
-            self.give(given)
+            self.give(given)?;
         } else {
-            self.give(Given::Stopped(Halt::NotTaken(place)))
+            self.give(Given::Stopped(Halt::NotTaken(place)))?;
         }
+        Ok(())
     }
 
     /// Works out an element of an array.
@@ -828,8 +845,14 @@ impl Work {
     {
         let found = element_of(alloc, name, self.arrays.list.as_slice(), indices)?;
         match found {
-            Some(given) => self.give(given),
-            None => self.in_new(alloc, place, name, indices),
+            Some(given) => {
+                self.give(given)?;
+                Ok(())
+            }
+            None => {
+                self.in_new(alloc, place, name, indices)?;
+                Ok(())
+            }
         }
     }
 
@@ -967,17 +990,26 @@ fn with_parameter(
     Ok(found)
 }
 
-/// Returns the value that is given last.
-fn value_in(given: Vec<Given>) -> Result<Value, Halt>
-    ensures { result ≡ value_in (last_given given.items) }
+/// Returns the value that a part gives.
+fn value_in(given: Given) -> Result<Value, Halt>
+    ensures { result ≡ value_in given }
+{
+    match given {
+        Given::Number(number) => Ok(Value::Number(number)),
+        Given::Made(text) => Ok(Value::Text(text)),
+        Given::Kept(text) => Ok(Value::Text(text)),
+        Given::Stopped(halt) => Err(halt),
+    }
+}
+
+/// Returns what is given last.
+fn last_of(given: Vec<Given>) -> Given
+    ensures { result ≡ last_given given.items }
 {
     let mut given = given;
     match given.pop() {
-        Some(Given::Number(number)) => Ok(Value::Number(number)),
-        Some(Given::Made(text)) => Ok(Value::Text(text)),
-        Some(Given::Kept(text)) => Ok(Value::Text(text)),
-        Some(Given::Stopped(halt)) => Err(halt),
-        None => Err(NOTHING),
+        Some(last) => last,
+        None => Given::Stopped(NOTHING),
     }
 }
 
@@ -1010,7 +1042,7 @@ pub fn evaluate(
     let Work { arrays: after, given, .. } = work;
     *arrays = after;
     match done {
-        Ok(()) => value_in(given),
+        Ok(()) => value_in(last_of(given)),
         Err(AllocError) => Err(Halt::OutOfMemory),
     }
 }

@@ -1,6 +1,6 @@
 //! The functions of BASIC.
 
-ghost use Rattle.std.specs.Prelude.{◌≡◌, ◌∷◌, [], map, IfOk};
+ghost use Rattle.std.specs.Prelude.{◌≡◌, ◌≤◌, ◌∷◌, [], map, IfOk};
 ghost use Rattle.std.specs.List.{filter};
 ghost use Rattle.pr_interpreter.specs.Functions.{character, constant_in, constant_number, first_byte, front_byte, integer_part, is_large, is_negative, is_solid, length_of, middle, negated_if, number_at_front, number_text, part_of, sign_number, signed_number, square_root, symbol_of, whole_or, whole_to, whole_within, without_sign};
 
@@ -28,7 +28,8 @@ const ILLEGAL: Stop = Stop::Error(BasicError::IllegalQuantity);
 
 /// Returns a whole number that is to be at most a greatest one.
 fn whole_within(greatest: u16, whole: Option<Whole>) -> Result<u16, Stop>
-    ensures { result ≡ whole_within greatest whole }
+    ensures value { result ≡ whole_within greatest whole }
+    ensures within { IfOk result (λ k. k ≤ greatest) }
 {
     let Some(whole) = whole else {
         return Err(Stop::NotCertain);
@@ -58,7 +59,8 @@ fn is_negative(order: Order) -> bool
 /// ILLEGAL QUANTITY where each value is below 0 or too large; or that it is not the same for all values.
 #[tactic(auto, unfolding(crate::specs::Functions::whole_to))]
 pub fn whole_to(greatest: u16, number: Number) -> Result<u16, Stop>
-    ensures { result ≡ whole_to greatest number }
+    ensures value { result ≡ whole_to greatest number }
+    ensures within { IfOk result (λ k. k ≤ greatest) }
 {
     let above = Number::whole(false, u32::from(greatest) + 1);
     if is_negative(order_of(number, Number::zero())) || !order_of(number, above).less {
