@@ -83,12 +83,15 @@ has_found units place (suc more) d all before h =
     is_after : ten_digits ≤ sixteenths place units → place ≤ d.place → place + 1 ≤ d.place
     is_after above before =
         elim (cases_eq place d.place) [
-          | inl e ↦ absurd (let ten = subst (λ (p : ℕ). ten_digits ≤ sixteenths p units) e above in omega (arith, h.nine))
+          | inl e ↦ absurd (let ten = subst (λ (p : ℕ). ten_digits ≤ sixteenths p units) e above in
+              omega (arith, h.nine))
           | inr other ↦ omega (arith, other)
         ]
 
     same : place ≡ d.place → some_digits (digits_at units place) ≡ Some d
-    same e = ap (λ (p : ℕ). some_digits (digits_at units p)) e ∙ ap (λ (n : ℕ). some_digits (record { digits = n; place = d.place })) (sym h.rounded)
+    same e =
+        ap (λ (p : ℕ). some_digits (digits_at units p)) e
+        ∙ ap (λ (n : ℕ). some_digits (record { digits = n; place = d.place })) (sym h.rounded)
 
 pub digits_has : (units : ℕ) (d : Digits) → digits_of units ≡ Some d → HasDigits units d
 unfolding digits_of
@@ -132,9 +135,9 @@ common_has (Some a) (Some b) d e =
 
 has_common : (d : Digits) → common (Some d) (Some d) ≡ Some d
 has_common d =
-    rw (and_from (d.place == d.place) (d.digits == d.digits) (eq-eqb d.place d.place refl) (eq-eqb d.digits d.digits refl))
+    rw (and_from (d.place == d.place) (d.digits == d.digits) (eq-eqb d.place d.place refl)
+    (eq-eqb d.digits d.digits refl))
     refl
-
 
 -- the sign by which a decimal is printed
 by_sign : (s : Sign) (d : Digits) (x : Decimal) → decimal_by s d ≡ Some x
@@ -147,7 +150,8 @@ by_sign Minus d x e =
     (ap (λ (t : Decimal). sign_of t.negative) same, ap (λ (t : Decimal). t.magnitude) same)
 by_sign Either d x e = absurd (none_is_some x e)
 
-sign_by : (negative : Bool) (d : Digits) → decimal_by (sign_of negative) d ≡ some_decimal (record { negative = negative; magnitude = d })
+sign_by : (negative : Bool) (d : Digits)
+    → decimal_by (sign_of negative) d ≡ some_decimal (record { negative = negative; magnitude = d })
 sign_by false d = refl
 sign_by true d = refl
 
@@ -181,7 +185,8 @@ found_decimal n x e =
         → common (digits_of (n.span.low * 2 ^ n.span.scale)) (digits_of (n.span.high * 2 ^ n.span.scale)) ≡ Some d
         → HasCommon n.span d
     both d e =
-        let each = common_has (digits_of (n.span.low * 2 ^ n.span.scale)) (digits_of (n.span.high * 2 ^ n.span.scale)) d e in
+        let each = common_has (digits_of (n.span.low * 2 ^ n.span.scale)) (digits_of (n.span.high * 2 ^ n.span.scale)) d
+        e in
         record {
           low = digits_has (n.span.low * 2 ^ n.span.scale) d each.0;
           high = digits_has (n.span.high * 2 ^ n.span.scale) d each.1;

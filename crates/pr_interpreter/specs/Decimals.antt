@@ -64,7 +64,7 @@ digits_from units place zero = None
 digits_from units place (suc more) =
     if nat_lt (sixteenths place units) ten_digits
     then (if nat_lt (sixteenths place units) next_place
-        then Some (record { digits = (sixteenths place units + 8) / 16; place = place }) else None)
+    then Some (record { digits = (sixteenths place units + 8) / 16; place = place }) else None)
     else digits_from units (place + 1) more
 
 unfoldable pub digits_of : ℕ → Option Digits

@@ -302,7 +302,7 @@ indexed place name w (Ok is) = in_array place name is w (array_of name w.arrays.
 abbrev pub Worker : Type 0
 Worker = ℕ → Scope → Working → List Placed → Working
 
--- after the nodes of a function there are as many things given as before, and strings, and a number: what they gave last
+-- after the nodes of a function as much is given as before, and then what they gave last, which has to be a number
 unfoldable pub ended : ℕ → ℕ → Working → Working
 ended count strings after = record {
   arrays = after.arrays;

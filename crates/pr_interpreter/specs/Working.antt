@@ -1,4 +1,4 @@
--- Linking words: what the functions that work out an expression have, for the definition. No reader needs to believe them.
+-- Linking words: what an expression is worked out with, for the code's types. No reader needs to believe them.
 use Rattle.std.specs.Prelude.{ℕ, List, Option, Some, None, Ok}
 use Rattle.pr_interpreter.specs.declared.evaluation.Given.{Given}
 use Rattle.pr_interpreter.specs.declared.evaluation.Work.{Work}

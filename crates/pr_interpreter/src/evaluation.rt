@@ -10,8 +10,14 @@ ghost use Rattle.pr_interpreter.specs.Working.{element_of, ends_as, scope_of, se
 
 use crate::constants::value_of;
 use crate::expressions::{Callee, Node, Operator, Placed};
-use crate::functions::{character, copied, first_byte, integer_part, length_of, middle, number_at_front, number_text, part_of, sign_number, square_root, whole_to};
-use crate::memory::{Array, Arrays, Function, Parameter, Scope, Variable, array_of, function_of, is_clock, is_status, parameter_of, place_of, same_name, undimensioned, undimensioned_bytes};
+use crate::functions::{
+    character, copied, first_byte, integer_part, length_of, middle, number_at_front, number_text,
+    part_of, sign_number, square_root, whole_to,
+};
+use crate::memory::{
+    Array, Arrays, Function, Parameter, Scope, Variable, array_of, function_of, is_clock,
+    is_status, parameter_of, place_of, same_name, undimensioned, undimensioned_bytes,
+};
 use crate::names::{Kind, Name};
 use crate::number::Number;
 use crate::orders::order_of;
@@ -308,12 +314,7 @@ fn refused_for(place: usize, a: &Given) -> Given
 }
 
 /// Returns what a function gives that makes a string of a number.
-fn string_by_number(
-    alloc: Global,
-    token: u8,
-    place: usize,
-    a: &Given,
-) -> Result<Given, AllocError>
+fn string_by_number(alloc: Global, token: u8, place: usize, a: &Given) -> Result<Given, AllocError>
     ensures { IfOk result (λ g. g ≡ with_it (number_in a.now) (λ n. string_or place (string_of_number token n))) }
 {
     match number_in(a) {
@@ -326,12 +327,7 @@ fn string_by_number(
 }
 
 /// Returns what a function gives that makes a number of a string.
-fn number_by_string(
-    alloc: Global,
-    token: u8,
-    place: usize,
-    a: &Given,
-) -> Result<Given, AllocError>
+fn number_by_string(alloc: Global, token: u8, place: usize, a: &Given) -> Result<Given, AllocError>
     ensures { IfOk result (λ g. g ≡ with_it (string_in a.now) (λ s. number_or place (number_of_string token s))) }
 {
     match string_in(a) {
@@ -528,11 +524,7 @@ fn first_given(alloc: Global, kind: Kind) -> Given
 }
 
 /// Returns what a variable of the program gives.
-fn variable_given(
-    alloc: Global,
-    name: Name,
-    variables: &[Variable],
-) -> Result<Given, AllocError>
+fn variable_given(alloc: Global, name: Name, variables: &[Variable]) -> Result<Given, AllocError>
     ensures { IfOk result (λ g. g ≡ kept (variable_value name variables.now)) }
 {
     for variable in variables {
@@ -719,7 +711,8 @@ impl Work {
     {
         let made = made_count(self.arguments(count));
         self.strings = self.strings.saturating_sub(made);
-        self.given.truncate(self.count().saturating_sub(count));
+        let left = self.count().saturating_sub(count);
+        self.given.truncate(left);
     }
 
     /// Returns the number that is given last.
@@ -768,20 +761,17 @@ impl Work {
         place: usize,
         name: Name,
     ) -> Result<(), AllocError>
-        ensures { OnOk result (seen self.new ≡ give (variable (scope_of parameters.now scope.now) place name) (seen self.old)) }
+        ensures { OnOk result (seen self.new
+            ≡ give (variable (scope_of parameters.now scope.now) place name) (seen self.old)) }
     {
         let given = variable(alloc, scope, parameters, place, name)?;
         self.give(given)
     }
 
     /// Works out an operator.
-    fn apply(
-        &mut self,
-        alloc: Global,
-        place: usize,
-        operator: Operator,
-    ) -> Result<(), AllocError>
-        ensures { OnOk result (seen self.new ≡ give (applied operator place (arguments (operands operator) (seen self.old)))
+    fn apply(&mut self, alloc: Global, place: usize, operator: Operator) -> Result<(), AllocError>
+        ensures { OnOk result (seen self.new
+            ≡ give (applied operator place (arguments (operands operator) (seen self.old)))
             (without (operands operator) (seen self.old))) }
     {
         let count = operator.operands();
@@ -826,9 +816,9 @@ impl Work {
         let is_added = self.arrays.add(alloc, array, bytes)?;
         if is_added {
             self.give(given)?;
-        } else {
-            self.give(Given::Stopped(Halt::NotTaken(place)))?;
+            return Ok(());
         }
+        self.give(Given::Stopped(Halt::NotTaken(place)))?;
         Ok(())
     }
 
@@ -841,7 +831,8 @@ impl Work {
         name: Name,
         indices: &[u16],
     ) -> Result<(), AllocError>
-        ensures { OnOk result (seen self.new ≡ in_array place name indices.now (seen self.old) (array_of name (seen self.old).arrays.list)) }
+        ensures { OnOk result (seen self.new
+            ≡ in_array place name indices.now (seen self.old) (array_of name (seen self.old).arrays.list)) }
     {
         let found = element_of(alloc, name, self.arrays.list.as_slice(), indices)?;
         match found {
@@ -888,12 +879,20 @@ impl Work {
         number: Number,
     ) -> Result<(), AllocError>
         ensures { OnOk result (seen self.new ≡ returned (seen self.old)
-            (worked depth place (with_parameter function.now.variable number (scope_of parameters.now scope.now)) (seen self.old) function.now.value)) }
+            (worked depth place (with_parameter function.now.variable number (scope_of parameters.now scope.now))
+            (seen self.old) function.now.value)) }
     {
         let inner = with_parameter(alloc, function.variable, number, parameters)?;
         let count = self.count();
         let strings = self.strings;
-        self.work(alloc, depth, scope, inner.as_slice(), place, function.value.as_slice())?;
+        self.work(
+            alloc,
+            depth,
+            scope,
+            inner.as_slice(),
+            place,
+            function.value.as_slice(),
+        )?;
         self.end(count, strings)
     }
 
@@ -908,14 +907,17 @@ impl Work {
         place: usize,
         name: Name,
     ) -> Result<(), AllocError>
-        ensures { OnOk result (seen self.new ≡ own (worked depth) place (scope_of parameters.now scope.now) (without 1 (seen self.old)) name
+        ensures { OnOk result (seen self.new
+            ≡ own (worked depth) place (scope_of parameters.now scope.now) (without 1 (seen self.old)) name
             (number_in (last_given (seen self.old).given))) }
     {
         let number = self.last_number();
         self.take(1);
         match number {
             Ok(number) => match function_of(name, scope.functions) {
-                Some(function) => self.enter(alloc, depth, scope, parameters, place, function, number),
+                Some(function) => self.enter(
+                    alloc, depth, scope, parameters, place, function, number,
+                ),
                 None => self.give(Given::Stopped(Halt::Error(BasicError::UndefinedFunction))),
             },
             Err(halt) => self.give(Given::Stopped(halt)),
@@ -934,7 +936,8 @@ impl Work {
         place: usize,
         node: Node,
     ) -> Result<(), AllocError>
-        ensures { OnOk result (seen self.new ≡ after (worked depth) (scope_of parameters.now scope.now) (seen self.old) place node) }
+        ensures { OnOk result (seen self.new
+            ≡ after (worked depth) (scope_of parameters.now scope.now) (seen self.old) place node) }
     {
         match node {
             Node::Number(constant) => self.give(number_or(place, calculated(value_of(constant)))),
@@ -963,7 +966,8 @@ impl Work {
         place: usize,
         nodes: &[Placed],
     ) -> Result<(), AllocError>
-        ensures { OnOk result (seen self.new ≡ worked depth place (scope_of parameters.now scope.now) (seen self.old) nodes.now) }
+        ensures { OnOk result (seen self.new
+            ≡ worked depth place (scope_of parameters.now scope.now) (seen self.old) nodes.now) }
     {
         if depth == 0 {
             return self.give(Given::Stopped(Halt::NotTaken(place)));
@@ -1039,7 +1043,11 @@ pub fn evaluate(
         strings: 0,
     };
     let done = work.work(alloc, DEPTH, scope, &[], 0, nodes);
-    let Work { arrays: after, given, .. } = work;
+    let Work {
+        arrays: after,
+        given,
+        ..
+    } = work;
     *arrays = after;
     match done {
         Ok(()) => value_in(last_of(given)),

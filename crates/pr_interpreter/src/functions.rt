@@ -290,10 +290,7 @@ fn solid(alloc: Global, text: &[u8]) -> Result<Vec<u8>, AllocError>
 
 /// Returns the number at the front of a string, as VAL: blanks count for nothing.
 #[tactic(auto, unfolding(crate::specs::Functions::number_at_front))]
-pub fn number_at_front(
-    alloc: Global,
-    text: &[u8],
-) -> Result<Result<Number, Stop>, AllocError>
+pub fn number_at_front(alloc: Global, text: &[u8]) -> Result<Result<Number, Stop>, AllocError>
     ensures { IfOk result (λ r. r ≡ number_at_front text.now) }
 {
     let solid = solid(alloc, text)?;

@@ -119,9 +119,7 @@ pub fn same_name(a: Name, b: Name) -> bool
 pub fn is_clock(name: Name) -> bool
     ensures { result ≡ is_clock name }
 {
-    name.first == b'T'
-        && same_second(name.second, Some(b'I'))
-        && !same_kind(name.kind, Kind::Whole)
+    name.first == b'T' && same_second(name.second, Some(b'I')) && !same_kind(name.kind, Kind::Whole)
 }
 
 /// Returns whether a name is that of the status, ST.
@@ -129,9 +127,7 @@ pub fn is_clock(name: Name) -> bool
 pub fn is_status(name: Name) -> bool
     ensures { result ≡ is_status name }
 {
-    name.first == b'S'
-        && same_second(name.second, Some(b'T'))
-        && same_kind(name.kind, Kind::Number)
+    name.first == b'S' && same_second(name.second, Some(b'T')) && same_kind(name.kind, Kind::Number)
 }
 
 /// Returns what the variable of a function that is worked out stands for.
@@ -148,7 +144,8 @@ pub fn parameter_of(name: Name, parameters: &[Parameter]) -> Option<Number>
 
 /// Returns the function of a name.
 pub fn function_of(name: Name, functions: &[Function]) -> Option<&Function>
-    ensures { MatchOption result (function_of name functions.now ≡ None) (λ f. function_of name functions.now ≡ Some f.now) }
+    ensures { MatchOption result (function_of name functions.now ≡ None)
+        (λ f. function_of name functions.now ≡ Some f.now) }
 {
     for function in functions {
         if same_name(name, function.name) {
@@ -195,7 +192,8 @@ fn elevens(count: usize) -> usize
 /// and more, for which there is no room.
 #[tactic(auto, using(crate::proofs::MemoryLemmas::too_many, crate::proofs::MemoryLemmas::bytes_fit))]
 pub fn undimensioned_bytes(kind: Kind, count: usize) -> Option<usize>
-    ensures value { MatchOption result (30000 < element_bytes kind * 11 ^ count) (λ n. n ≡ element_bytes kind * 11 ^ count) }
+    ensures value { MatchOption result (30000 < element_bytes kind * 11 ^ count)
+        (λ n. n ≡ element_bytes kind * 11 ^ count) }
 {
     if count <= 4 {
         Some(element_bytes(kind) * elevens(count))
@@ -237,7 +235,8 @@ impl Arrays {
     /// Adds an array with so many bytes for its elements, if there surely is room. Returns whether there is.
     pub fn add(&mut self, alloc: Global, array: Array, bytes: usize) -> Result<bool, AllocError>
         ensures room { IfOk result (λ b. b ≡ nat_le (self.old.bytes + bytes) 30000) }
-        ensures added { IfOk result (λ b. self.new ≡ (if b then added array (self.old.bytes + bytes) self.old else self.old)) }
+        ensures added { IfOk result (λ b. self.new
+            ≡ (if b then added array (self.old.bytes + bytes) self.old else self.old)) }
     {
         if ROOM < self.bytes || ROOM - self.bytes < bytes {
             return Ok(false);
