@@ -2,6 +2,8 @@ pub mod AnswerLemmas
 pub mod BitLemmas
 pub mod ConstantLemmas
 pub mod DecimalLemmas
+pub mod DecimalOfLemmas
+pub mod EvaluationLemmas
 pub mod ExactLemmas
 pub mod ExpressionLawLemmas
 pub mod KeywordLemmas
@@ -9,6 +11,7 @@ pub mod LexemeLemmas
 pub mod LineLawLemmas
 pub mod LineLemmas
 pub mod MadeLemmas
+pub mod MemoryLemmas
 pub mod NumberLemmas
 pub mod NumeralLemmas
 pub mod OrderLemmas
