@@ -1,9 +1,10 @@
-/* The serial bus as an emulator has it: emulator PREFIX < TEXT
+/* The serial bus as an emulator has it: emulator PREFIX [TRACE] < TEXT
  * A computer drives ATN, CLOCK and DATA bit by bit, as the KERNAL of a Commodore 64 does (no real one was tried). It
  * prints each line of the text on two printers, 4 and 5 (the second in lower case), and writes it to a file on drive
  * 8. The library says when each device pulls and releases DATA; while a printer prints a line, the computer waits.
  * Time is virtual: nothing here sleeps. The first sheets come out as PREFIX-4.pgm and PREFIX-5.pgm, the file as
- * PREFIX-8.seq, and a line says how many microseconds all that took. Nothing here calls malloc. */
+ * PREFIX-8.seq, and a line says how many microseconds all that took. Nothing here calls malloc. TRACE gets the edges
+ * of the bus, a line of moment, ATN, CLOCK and DATA for each, 1 where nobody pulls: `print1525 decode` reads it. */
 #include "print1525.h"
 #include <stdio.h>
 #include <string.h>
@@ -33,9 +34,10 @@ static uint8_t disk[65536];
 static size_t disk_length;
 static int is_name;
 
-/* What the computer does to the lines, 1 released and 0 pulled; and the moment, in microseconds. */
+/* What the computer does to the lines, 1 released and 0 pulled; the moment, in microseconds; and the trace. */
 static int atn = 1, clock_line = 1, data = 1;
 static uint64_t now;
+static FILE *trace;
 
 /* A byte goes to a printer. It keeps a line until its end, and prints it then: the computer waits that long. */
 static void print(device *it, uint8_t byte) {
@@ -116,10 +118,18 @@ static uint64_t next_wake(void) {
     return next;
 }
 
+/* Time goes on to a later moment. The trace gets the levels that the lines have until then, where they are new. */
+static void go_on(uint64_t moment) {
+    static int traced = -1;
+    const int levels = 100 * atn + 10 * clock_line + is_data_released();
+    if (trace != NULL && levels != traced) fprintf(trace, "%llu %03d\n", (unsigned long long)now, levels);
+    traced = levels, now = moment;
+}
+
 /* Time passes until DATA has a level, at most until a moment. Gives whether DATA has it then. */
 static int wait_for_data(int released, uint64_t end) {
     while (is_data_released() != released && next_wake() <= end && next_wake() != PRINT1525_NO_WAKE) {
-        now = next_wake();
+        go_on(next_wake());
         show();
     }
     return is_data_released() == released;
@@ -129,10 +139,10 @@ static int wait_for_data(int released, uint64_t end) {
 static void pass(uint64_t microseconds) {
     const uint64_t end = now + microseconds;
     while (next_wake() <= end) {
-        now = next_wake();
+        go_on(next_wake());
         show();
     }
-    now = end;
+    go_on(end);
 }
 
 /* Sends a byte. Gives whether all that listen have taken it. */
@@ -226,10 +236,11 @@ static int run(void) {
 int main(int words, char **word) {
     static const char head[] = "P5\n960 1386\n255\n";
     int index, is_written;
-    if (words != 2) {
-        fprintf(stderr, "usage: emulator PREFIX < TEXT\n");
+    if (words != 2 && words != 3) {
+        fprintf(stderr, "usage: emulator PREFIX [TRACE] < TEXT\n");
         return PRINT1525_REFUSED;
     }
+    if (words == 3 && (trace = fopen(word[2], "w")) == NULL) return PRINT1525_FAILED;
     for (index = 0; index < DEVICES; index++) {
         print1525_device_begin(&devices[index].device, addresses[index], NULL, NULL);
         print1525_printer_begin(&devices[index].printer, NULL);
@@ -241,6 +252,7 @@ int main(int words, char **word) {
         return PRINT1525_FAILED;
     }
     printf("%llu microseconds\n", (unsigned long long)now);
+    if (trace != NULL && fclose(trace) != 0) return PRINT1525_FAILED;
     is_written = write_file(word[1], "4.pgm", head, devices[0].paper[0], sizeof devices[0].paper) &&
                  write_file(word[1], "5.pgm", head, devices[1].paper[0], sizeof devices[1].paper) &&
                  write_file(word[1], "8.seq", "", disk, disk_length);
