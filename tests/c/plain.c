@@ -1,6 +1,6 @@
-/* A device and a printer in plain C, as an emulator's author would write them by hand, beside those of the library: both
- * are shown the same, and tools/device-speed counts the instructions of each. Written apart, from docs/DEFINITIONS.md; it
- * tests nothing that it is passed.
+/* A device and a printer in plain C, as an emulator's author would write them by hand, beside those of the library:
+ * both are shown the same, and tools/device-speed counts the instructions of each. Written apart, from
+ * docs/DEFINITIONS.md; they refuse nothing.
  *
  *     plain moments < TEXT > MOMENTS    the calls that the emulator of examples/c makes to its three devices
  *     plain device WAY < MOMENTS        makes them; says how many steps they are
