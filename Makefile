@@ -118,7 +118,7 @@ $(PARTS) &: $(SOURCES) tools/crates.py tools/library
 	@tools/library $(PART_CRATES)
 	@touch $(PARTS)
 
-bench: build $(TESTS)
+bench: build lib $(TESTS)
 	@tools/bench $(PROGRAM)
 
 # Not a part of the gate, which knows no WebAssembly. The module is made anew where a crate changed.
