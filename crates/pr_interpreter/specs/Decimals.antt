@@ -1,11 +1,11 @@
 -- Trusted: the nine digits that BASIC prints of a number.
 -- A digit's place is a power of ten, counted from 10 ^ -37: at place 37 are the ones, at place 38 the tens.
-use Rattle.std.specs.Prelude.{ℕ, ◌+◌, ◌-◌, ◌*◌, ◌/◌, ◌^◌, ◌<◌, ◌≤◌, ◌≡◌, ◌≢◌, Bool, true, false}
+use Rattle.std.specs.Prelude.{ℕ, ◌+◌, ◌-◌, ◌*◌, ◌/◌, ◌^◌, ◌<◌, ◌≤◌, ◌≡◌, ◌≢◌, ◌==◌, ◌&&◌, zero, suc, Bool, true, false, nat_lt, if◌then◌else◌, Option, Some, None}
 use Rattle.pr_interpreter.specs.declared.decimals.Digits.{Digits}
 use Rattle.pr_interpreter.specs.declared.decimals.Decimal.{Decimal}
 use Rattle.pr_interpreter.specs.declared.span.Span.{Span}
 use Rattle.pr_interpreter.specs.declared.number.Sign.{Sign}
-use Rattle.pr_interpreter.specs.declared.number.Sign.TheVariants.{Plus, Minus}
+use Rattle.pr_interpreter.specs.declared.number.Sign.TheVariants.{Plus, Minus, Either}
 use Rattle.pr_interpreter.specs.Machine.{unit_bits}
 use Rattle.pr_interpreter.specs.Numbers.{Known}
 
@@ -55,3 +55,39 @@ pub record IsDecimal (n : Known) (d : Decimal) : Type 0 where
   pub large : n.span.high ≢ 0 → 0 < d.magnitude.place
   pub sign : n.span.high ≢ 0 → n.sign ≡ sign_of d.negative
   pub nothing : n.span.high ≡ 0 → d.negative ≡ false
+
+-- ---- the decimal that is printed
+
+-- the digits of a magnitude at the first of so many places, from one on, where it has at most nine
+abbrev pub digits_from : ℕ → ℕ → ℕ → Option Digits
+digits_from units place zero = None
+digits_from units place (suc more) =
+    if nat_lt (sixteenths place units) ten_digits
+    then (if nat_lt (sixteenths place units) next_place
+        then Some (record { digits = (sixteenths place units + 8) / 16; place = place }) else None)
+    else digits_from units (place + 1) more
+
+unfoldable pub digits_of : ℕ → Option Digits
+digits_of units = digits_from units 0 68
+
+-- the digits of both ends, if they are the same
+abbrev pub common : Option Digits → Option Digits → Option Digits
+common None e = None
+common (Some d) None = None
+common (Some d) (Some e) = if (d.place == e.place) && (d.digits == e.digits) then Some d else None
+
+abbrev pub decimal_by : Sign → Digits → Option Decimal
+decimal_by Plus d = Some (record { negative = false; magnitude = d })
+decimal_by Minus d = Some (record { negative = true; magnitude = d })
+decimal_by Either d = None
+
+abbrev pub decimal_with : Known → Option Digits → Option Decimal
+decimal_with n None = None
+decimal_with n (Some d) =
+    if n.span.high == 0 then Some (record { negative = false; magnitude = d })
+    else if d.place == 0 then None else decimal_by n.sign d
+
+-- what is printed of a number, if it is the same for all its values
+unfoldable pub decimal_of : Known → Option Decimal
+decimal_of n =
+    decimal_with n (common (digits_of (n.span.low * 2 ^ n.span.scale)) (digits_of (n.span.high * 2 ^ n.span.scale)))

@@ -1,13 +1,16 @@
 pub mod Constants
 pub mod Decimals
+pub mod Evaluation
 pub mod ExpressionLaws
 pub mod Expressions
 pub mod Faults
+pub mod Functions
 pub mod LexemeLaws
 pub mod Lexemes
 pub mod LineLaws
 pub mod Lines
 pub mod Machine
+pub mod Memory
 pub mod NumberLaws
 pub mod Numbers
 pub mod Numerals
@@ -20,3 +23,4 @@ pub mod Spans
 pub mod Statements
 pub mod Symbols
 pub mod Values
+pub mod Working

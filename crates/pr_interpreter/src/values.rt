@@ -20,14 +20,27 @@ pub enum Value {
     Text(Sequence<u8>),
 }
 
-/// An error that the machine reports where it works out a value.
+/// An error that the machine reports.
 #[derive(Clone, Copy, Debug, PartialEq, Eq)]
 pub enum BasicError {
+    Syntax,
     TypeMismatch,
     IllegalQuantity,
     Overflow,
     DivisionByZero,
     StringTooLong,
+    FormulaTooComplex,
+    BadSubscript,
+    RedimensionedArray,
+    UndefinedFunction,
+    UndefinedStatement,
+    OutOfData,
+    ReturnWithoutGosub,
+    NextWithoutFor,
+    FileOpen,
+    FileNotOpen,
+    NotInputFile,
+    TooManyFiles,
 }
 
 /// Why there is no value.
@@ -38,6 +51,19 @@ pub enum Stop {
     /// What the machine would give is not certain.
     NotCertain,
     Error(BasicError),
+}
+
+/// Why an expression has no value.
+#[derive(Clone, Copy, Debug, PartialEq, Eq)]
+pub enum Halt {
+    /// Memory ran out.
+    OutOfMemory,
+    /// The machine reports an error.
+    Error(BasicError),
+    /// What the machine would give at this place, the number of bytes before it, is not certain.
+    NotCertain(usize),
+    /// At this place is what a run does not take, as RND or TI.
+    NotTaken(usize),
 }
 
 /// Returns why there is no value where a calculation has no result.
