@@ -11,21 +11,24 @@ use Rattle.pr_interpreter.specs.declared.statements.Way.TheVariants.{Gosub, Goto
 use Rattle.pr_interpreter.specs.declared.values.BasicError.TheVariants.{NextWithoutFor, ReturnWithoutGosub, Syntax, TypeMismatch, UndefinedStatement}
 use Rattle.pr_interpreter.specs.declared.values.Value.{Value}
 use Rattle.pr_interpreter.specs.declared.values.Value.TheVariants.{Number, Text}
-use Rattle.pr_interpreter.specs.Memory.{same_name, variable_value}
+use Rattle.pr_interpreter.specs.Memory.{variable_value}
 use Rattle.pr_interpreter.specs.Numbers.{Known, order_of, sum, whole_number, zero_number}
 use Rattle.pr_interpreter.specs.Values.{calculated}
 use Rattle.pr_run.specs.declared.ending.Ending.TheVariants.{Error, Refused}
 use Rattle.pr_run.specs.declared.ending.Refusal.TheVariants.{FullStack}
 use Rattle.pr_run.specs.declared.opened.Direction.{Direction}
+use Rattle.pr_run.specs.declared.opened.Loop.{Loop}
 use Rattle.pr_run.specs.declared.opened.Open.{Open}
 use Rattle.pr_run.specs.declared.opened.Open.TheVariants.{Calling, Looping}
 use Rattle.pr_run.specs.declared.place.Place.{Place}
 use Rattle.pr_run.specs.Opened.{Caller, Inner, caller_of, loop_of, stack_limit, stack_size, without}
-use Rattle.pr_run.specs.Places.{after_line, after_statement, beginning}
-use Rattle.pr_run.specs.States.{Program, State}
-use Rattle.pr_run.specs.Targets.{assigned, go_on, is_system, stored, system_ending}
-use Rattle.pr_run.specs.Uses.{Use, Valued, Worked, and_then, direction, ends_loop, line_at, line_use, number_in, use_at, use_of, used}
-use Rattle.pr_run.specs.Worked.{number, then_on, truth, valued, whole, worked}
+use Rattle.pr_run.specs.Places.{beginning}
+use Rattle.pr_run.specs.declared.program.Program.{Program}
+use Rattle.pr_run.specs.declared.uses.Use.{Use}
+use Rattle.pr_run.specs.States.{State, next_line}
+use Rattle.pr_run.specs.Targets.{assigned, is_system, stored, system_ending}
+use Rattle.pr_run.specs.Uses.{Valued, Worked, and_then, direction_by, ends_loop, line_at, line_use, use_at, use_of, used}
+use Rattle.pr_run.specs.Worked.{number, then_on, truth, whole, worked}
 
 -- ---- GOTO, GOSUB and RETURN
 
@@ -47,7 +50,7 @@ opening u o s =
 -- GOTO; GOSUB, after which RETURN goes on with the next statement
 unfoldable pub jump : Program → Way → ℕ → State → Worked State
 jump p Goto n s = go_to p n s
-jump p Gosub n s = and_then (opening (line_use p s) (Calling (after_statement s.place)) s) (λ t. go_to p n t)
+jump p Gosub n s = and_then (opening (line_use p s) (Calling s.place) s) (λ t. go_to p n t)
 
 abbrev pub returned : ℕ → State → Option Caller → Worked State
 returned line s None = Err (Error ReturnWithoutGosub line)
@@ -66,7 +69,7 @@ chosen (suc n) lines = slice_get lines n
 
 -- no jump where there are fewer lines
 abbrev pub jump_if : Program → Way → Option ℕ → State → Worked State
-jump_if p way None s = Ok (go_on s)
+jump_if p way None s = Ok s
 jump_if p way (Some n) s = jump p way n s
 
 unfoldable pub on_statement : Program → State → List Placed → Way → List ℕ → Worked State
@@ -76,8 +79,8 @@ on_statement p s choice way lines = then_on (whole 255 p s choice) (λ n t. jump
 
 -- a line, or the other statements of this line; if the condition is false, the next line
 abbrev pub branch : Program → Option ℕ → Bool → State → Worked State
-branch p line false s = Ok (record s { place = after_line s.place })
-branch p None true s = Ok (go_on s)
+branch p line false s = Ok (next_line s)
+branch p None true s = Ok s
 branch p (Some n) true s = go_to p n s
 
 unfoldable pub if_statement : Program → State → List Placed → Option ℕ → Worked State
@@ -94,20 +97,21 @@ abbrev pub step_use : Program → State → Option (List Placed) → Use
 step_use p s None = line_use p s
 step_use p s (Some nodes) = use_of p s nodes
 
--- a loop begins, and its body is next; one of the same variable is left, with those inside it
+-- the loop of a variable is left, with those inside it
+abbrev pub left_loop : Name → State → State
+left_loop name s = record s { opened = without (loop_of (Some name) s.opened) s.opened }
+
+-- a loop begins, and its body is next; one of the same variable is left
 unfoldable pub begun : Use → Name → Known → Known → Direction → State → Worked State
 begun u name limit step d s =
-    and_then
-    (opening u
-        (Looping (record { variable = name; limit = limit; step = step; direction = d; body = after_statement s.place }))
-        (record s { opened = without (loop_of (same_name name) s.opened) s.opened }))
-    (λ t. Ok (go_on t))
+    opening u (Looping (record { variable = name; limit = limit; step = step; direction = d; body = s.place }))
+    (left_loop name s)
 
 -- what comes after the limit of a loop
 unfoldable pub with_step : Program → Name → Option (List Placed) → Known → State → Worked State
 with_step p name step limit s =
     then_on (step_of p s step)
-    (λ by t. and_then (direction (step_use p s step) (order_of by zero_number)) (λ d. begun (line_use p t) name limit by d t))
+    (λ by t. and_then (used (step_use p t step) (direction_by (order_of by zero_number))) (λ d. begun (line_use p t) name limit by d t))
 
 -- what comes after the first value of a loop's variable
 unfoldable pub with_limit : Program → Name → List Placed → Option (List Placed) → State → Worked State
@@ -116,13 +120,13 @@ with_limit p name to step s = then_on (number p s to) (λ limit t. with_step p n
 -- the variable of a loop is a number that is no element and has no %
 abbrev pub for_kind : Program → State → Kind → Name → List Placed → Worked State
 for_kind p s Short name from = Err (Error Syntax (line_at p s))
-for_kind p s Letters name from = then_on (worked p s from) (λ v t. Err (Error TypeMismatch (line_at p s)))
-for_kind p s Numeric name from = then_on (worked p s from) (λ v t. assigned (use_of p s from) name None v t)
+for_kind p s Letters name from = then_on (worked p s from) (λ v t. Err (Error TypeMismatch (line_at p t)))
+for_kind p s Numeric name from = then_on (worked p s from) (λ v t. assigned (use_of p t from) name None v t)
 
 -- a loop's variable has its first value
 unfoldable pub for_variable : Program → State → Name → List Placed → Worked State
 for_variable p s name from =
-    if is_system name [] then system_ending (line_use p s) name.kind else for_kind p s name.kind name from
+    if is_system name [] then Err (system_ending (line_use p s) name.kind) else for_kind p s name.kind name from
 
 unfoldable pub for_statement : Program → State → Name → List Placed → List Placed → Option (List Placed) → Worked State
 for_statement p s name from to step = and_then (for_variable p s name from) (λ t. with_limit p name to step t)
@@ -148,16 +152,16 @@ abbrev pub number_or_zero : Value → Known
 number_or_zero (Number n) = n
 number_or_zero (Text t) = zero_number
 
--- the step is added to the variable, and then the limit decides
-unfoldable pub next_of_loop : Use → Inner → State → Worked Passed
-next_of_loop u i s =
-    and_then (used u (calculated (sum (number_or_zero (variable_value i.current.variable s.variables)) i.current.step)))
-    (λ n. and_then (ends_loop u i.current.direction (order_of n i.current.limit))
-    (λ ends. Ok (passed i ends (stored i.current.variable None (Number n) s))))
+-- the step is added to the variable of a loop, and then the limit says whether the loop is over
+unfoldable pub advanced : Use → Loop → State → Worked (Valued Bool)
+advanced u l s =
+    and_then (used u (calculated (sum (number_or_zero (variable_value l.variable s.variables)) l.step)))
+    (λ n. and_then (used u (ends_loop l.direction (order_of n l.limit)))
+    (λ over. Ok (record { value = over; after = stored l.variable None (Number n) s })))
 
 abbrev pub next_of : Use → Option Inner → State → Worked Passed
 next_of u None s = Err (Error NextWithoutFor u.line)
-next_of u (Some i) s = next_of_loop u i s
+next_of u (Some i) s = then_on (advanced u i.current s) (λ over t. Ok (passed i over t))
 
 -- NEXT takes no elements, and no variables with %
 abbrev pub is_loop_name : Kind → List (List Placed) → Bool
@@ -170,20 +174,17 @@ is_loop_name kind (i ∷ is) = false
 unfoldable pub next_variable : Program → State → Target → Worked Passed
 next_variable p s t =
     if is_loop_name t.name.kind t.indices
-    then next_of (use_at p s t.place) (loop_of (same_name t.name) s.opened) s else Err (Error Syntax (line_at p s))
+    then next_of (use_at p s t.place) (loop_of (Some t.name) s.opened) s else Err (Error Syntax (line_at p s))
 
 -- NEXT with several variables: each after a loop that is over
 abbrev pub next_variables : Program → State → List Target → Worked State
-next_variables p s [] = Ok (go_on s)
+next_variables p s [] = Ok s
 next_variables p s (t ∷ ts) = and_then (next_variable p s t) (λ r. after_pass r (λ u. next_variables p u ts))
-
-abbrev pub any_name : Name → Bool
-any_name name = true
 
 -- NEXT without a variable: that of the last loop
 unfoldable pub next_last : Program → State → Worked State
 next_last p s =
-    and_then (next_of (line_use p s) (loop_of any_name s.opened) s) (λ r. after_pass r (λ t. Ok (go_on t)))
+    and_then (next_of (line_use p s) (loop_of None s.opened) s) (λ r. after_pass r (λ t. Ok t))
 
 unfoldable pub next_statement : Program → State → List Target → Worked State
 next_statement p s [] = next_last p s

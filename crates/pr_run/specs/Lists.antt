@@ -10,9 +10,11 @@ use Rattle.pr_interpreter.specs.declared.values.Value.{Value}
 use Rattle.pr_interpreter.specs.declared.values.Value.TheVariants.{Number, Text}
 use Rattle.pr_interpreter.specs.Functions.{number_text}
 use Rattle.pr_run.specs.declared.ending.Ending.TheVariants.{Refused}
-use Rattle.pr_run.specs.declared.ending.Refusal.TheVariants.{LongList}
-use Rattle.pr_run.specs.States.{Program, State}
-use Rattle.pr_run.specs.Uses.{Valued, Use, Worked, and_then, uncertain, use_at, used, whole_in}
+use Rattle.pr_run.specs.declared.ending.Refusal.TheVariants.{LongList, NotCertain}
+use Rattle.pr_run.specs.declared.program.Program.{Program}
+use Rattle.pr_run.specs.declared.uses.Use.{Use}
+use Rattle.pr_run.specs.States.{State}
+use Rattle.pr_run.specs.Uses.{Valued, Worked, and_then, use_at, used, whole_of}
 use Rattle.pr_run.specs.Worked.{then_on, valued, worked}
 
 -- the byte of a step to the right: a cursor right to the screen, a blank to a file
@@ -26,7 +28,7 @@ steps_right channel n = repeat n (step_byte channel ∷ [])
 -- The column is that of the screen's cursor, also where the output goes to a file. It is known only if all that is on
 -- the screen ends with a return: then it is 0.
 abbrev pub at_column : Use → State → List ℕ → Worked (List ℕ)
-at_column u s bytes = if s.at_left then Ok bytes else uncertain u
+at_column u s bytes = if s.at_left then Ok bytes else Err (Refused NotCertain u.place)
 
 -- TAB goes right from column 0
 abbrev pub tab_bytes : Use → State → Worked ℕ → Worked (List ℕ)
@@ -47,8 +49,8 @@ value_bytes u s (Number n) = number_bytes s (used u (number_text n))
 -- the bytes of a part of a list
 unfoldable pub part_bytes : Program → Use → State → Part → Worked (Valued (List ℕ))
 part_bytes p u s (Shows nodes) = then_on (worked p s nodes) (λ v t. valued t (value_bytes u t v))
-part_bytes p u s (Tab nodes) = then_on (worked p s nodes) (λ v t. valued t (tab_bytes u t (whole_in 255 u v)))
-part_bytes p u s (Spaces nodes) = then_on (worked p s nodes) (λ v t. valued t (space_bytes t (whole_in 255 u v)))
+part_bytes p u s (Tab nodes) = then_on (worked p s nodes) (λ v t. valued t (tab_bytes u t (used u (whole_of 255 v))))
+part_bytes p u s (Spaces nodes) = then_on (worked p s nodes) (λ v t. valued t (space_bytes t (used u (whole_of 255 v))))
 part_bytes p u s Comma = valued s (at_column u s (steps_right s.channel 10))
 part_bytes p u s Semicolon = valued s (Ok [])
 

@@ -1,6 +1,7 @@
 -- Trusted: the loops of FOR and the calls of GOSUB that are open, the last first.
-use Rattle.std.specs.Prelude.{ℕ, ◌+◌, Bool, List, [], ◌∷◌, Option, Some, None, if◌then◌else◌}
+use Rattle.std.specs.Prelude.{ℕ, ◌+◌, Bool, true, List, [], ◌∷◌, Option, Some, None, if◌then◌else◌}
 use Rattle.pr_interpreter.specs.declared.names.Name.{Name}
+use Rattle.pr_interpreter.specs.Memory.{same_name}
 use Rattle.pr_run.specs.declared.opened.Loop.{Loop}
 use Rattle.pr_run.specs.declared.opened.Open.{Open}
 use Rattle.pr_run.specs.declared.opened.Open.TheVariants.{Calling, Looping}
@@ -11,12 +12,17 @@ pub record Inner : Type 0 where
   pub current : Loop
   pub before : List Open
 
--- the last loop of a name that is wanted, among those since the last GOSUB
-abbrev pub loop_of : (Name → Bool) → List Open → Option Inner
+-- a loop's variable is the one of a name, or any
+abbrev pub is_wanted : Option Name → Name → Bool
+is_wanted None name = true
+is_wanted (Some n) name = same_name n name
+
+-- the last loop of a name, or the last of all, among those since the last GOSUB
+abbrev pub loop_of : Option Name → List Open → Option Inner
 loop_of wanted [] = None
 loop_of wanted (Calling p ∷ os) = None
 loop_of wanted (Looping l ∷ os) =
-    if wanted l.variable then Some (record { current = l; before = os }) else loop_of wanted os
+    if is_wanted wanted l.variable then Some (record { current = l; before = os }) else loop_of wanted os
 
 -- what is open without that loop and those inside it
 abbrev pub without : Option Inner → List Open → List Open

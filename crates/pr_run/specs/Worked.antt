@@ -6,8 +6,9 @@ use Rattle.pr_interpreter.specs.declared.values.Halt.{Halt}
 use Rattle.pr_interpreter.specs.declared.values.Value.{Value}
 use Rattle.pr_interpreter.specs.Evaluation.{Evaluation, Scope, evaluation}
 use Rattle.pr_interpreter.specs.Numbers.{Known}
-use Rattle.pr_run.specs.States.{Program, State}
-use Rattle.pr_run.specs.Uses.{Valued, Worked, halted, line_at, number_in, truth_in, use_of, whole_in}
+use Rattle.pr_run.specs.declared.program.Program.{Program}
+use Rattle.pr_run.specs.States.{State}
+use Rattle.pr_run.specs.Uses.{Valued, Worked, halted, line_at, number_of, truth_of, use_of, used, whole_of}
 
 -- what comes after a value is worked out
 abbrev pub then_on : {A B : Type 0} → Worked (Valued A) → (A → State → Worked B) → Worked B
@@ -43,12 +44,12 @@ worked p s nodes = let e = evaluation (scope p s) s.arrays nodes in worked_out (
 
 -- a number
 unfoldable pub number : Program → State → List Placed → Worked (Valued Known)
-number p s nodes = then_on (worked p s nodes) (λ v t. valued t (number_in (line_at p s) v))
+number p s nodes = then_on (worked p s nodes) (λ v t. valued t (used (use_of p t nodes) (number_of v)))
 
 -- a whole number from 0 to a greatest one
 unfoldable pub whole : ℕ → Program → State → List Placed → Worked (Valued ℕ)
-whole greatest p s nodes = then_on (worked p s nodes) (λ v t. valued t (whole_in greatest (use_of p s nodes) v))
+whole greatest p s nodes = then_on (worked p s nodes) (λ v t. valued t (used (use_of p t nodes) (whole_of greatest v)))
 
 -- whether a condition is true
 unfoldable pub truth : Program → State → List Placed → Worked (Valued Bool)
-truth p s nodes = then_on (worked p s nodes) (λ v t. valued t (truth_in (use_of p s nodes) v))
+truth p s nodes = then_on (worked p s nodes) (λ v t. valued t (used (use_of p t nodes) (truth_of v)))

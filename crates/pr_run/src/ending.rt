@@ -42,4 +42,6 @@ pub enum Ending {
     Refused { refusal: Refusal, place: usize },
     /// After so many steps, in a line.
     TooManySteps(u16),
+    /// Memory ran out.
+    OutOfMemory,
 }
