@@ -9,6 +9,7 @@ pub mod LexemeLemmas
 pub mod LineLawLemmas
 pub mod LineLemmas
 pub mod MadeLemmas
+pub mod MemoryLemmas
 pub mod NumberLemmas
 pub mod NumeralLemmas
 pub mod OrderLemmas

@@ -26,7 +26,7 @@ use Rattle.pr_interpreter.specs.declared.values.Value.TheVariants.{Number as Num
 use Rattle.pr_interpreter.specs.Constants.{value_of}
 use Rattle.pr_interpreter.specs.ExpressionLaws.{operands}
 use Rattle.pr_interpreter.specs.Functions.{character, first_byte, integer_part, length_of, middle, number_at_front, number_text, part_of, sign_number, square_root, whole_to, with_whole}
-use Rattle.pr_interpreter.specs.Memory.{array_of, element_at, element_bytes, function_of, is_clock, is_status, parameter_value, place_of, undimensioned, with_array}
+use Rattle.pr_interpreter.specs.Memory.{array_of, element_at, element_bytes, function_of, is_clock, is_status, parameter, parameter_of, place_of, undimensioned, variable_value, with_array}
 use Rattle.pr_interpreter.specs.Numbers.{Known, absolute, order_of, whole_number, zero_number}
 use Rattle.pr_interpreter.specs.Values.{calculated, of_numbers, of_texts}
 
@@ -186,12 +186,15 @@ abbrev pub at_place : {A : Type 0} → ℕ → Result A Stop → Result A Halt
 at_place place (Ok a) = Ok a
 at_place place (Err stop) = Err (halt_at place stop)
 
--- MID$ with two numbers
+-- MID$ with two numbers: the machine works the second out when the first is one that it takes
+abbrev pub middle_by : ℕ → List ℕ → ℕ → Given → Given
+middle_by place s first c =
+    with_it (number_in c) (λ m. string_or place (with_whole (whole_to 255 m) (λ count. middle s first count)))
+
 unfoldable pub of_three_arguments : ℕ → Given → Given → Given → Given
 of_three_arguments place a b c =
     with_it (string_in a) (λ s. with_it (number_in b) (λ n. with_it (at_place place (whole_to 255 n))
-    (λ first. with_it (number_in c)
-    (λ m. string_or place (with_whole (whole_to 255 m) (λ count. middle s first count))))))
+    (λ first. middle_by place s first c)))
 
 -- what a function of the language gives of its arguments
 unfoldable pub called : ℕ → ℕ → Option ℕ → List Given → Given
@@ -208,11 +211,16 @@ literal place text start end =
     if nat_le start end && nat_le end (length text) && nat_le (end - start) 255
     then Made (slice_range text start end) else Stopped (NotTaken place)
 
+-- the variable of a function hides the one of its name
+abbrev pub named : Option Known → Value → Given
+named (Some n) v = Number n
+named None v = kept v
+
 unfoldable pub variable : Scope → ℕ → Name → Given
 variable scope place name =
     if is_clock name then Stopped (NotTaken place)
     else if is_status name then (if scope.has_sent then Stopped (NotTaken place) else Number zero_number)
-    else kept (parameter_value name scope.parameters scope.variables)
+    else named (parameter_of name scope.parameters) (variable_value name scope.variables)
 
 -- ---- what is taken and given
 
@@ -238,12 +246,9 @@ put g w = record w { given = w.given ++ g ∷ [] }
 
 -- something more is given; the machine keeps at most three strings for an expression
 unfoldable pub give : Given → Working → Working
-give (Made s) w =
-    if nat_lt w.strings 3 then put (Made s) (record w { strings = w.strings + 1 })
-    else put (Stopped (Error FormulaTooComplex)) w
-give (Number n) w = put (Number n) w
-give (Kept s) w = put (Kept s) w
-give (Stopped halt) w = put (Stopped halt) w
+give g w =
+    if is_made g && not (nat_lt w.strings 3) then put (Stopped (Error FormulaTooComplex)) w
+    else put g (record w { strings = if is_made g then w.strings + 1 else w.strings })
 
 -- what is given last
 abbrev pub last_given : List Given → Given
@@ -304,7 +309,7 @@ returned before after = record {
 }
 
 abbrev pub with_parameter : Name → Known → Scope → Scope
-with_parameter name n scope = record scope { parameters = record { name = name; value = n } ∷ scope.parameters }
+with_parameter name n scope = record scope { parameters = parameter name n ∷ scope.parameters }
 
 abbrev pub defined : Worker → ℕ → Scope → Working → Known → Option Function → Working
 defined worker place scope w n None = give (Stopped (Error UndefinedFunction)) w

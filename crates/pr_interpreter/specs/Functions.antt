@@ -119,13 +119,18 @@ abbrev pub negated_if : Bool → Result Known Stop → Result Known Stop
 negated_if negative (Ok n) = Ok (if negative then negated n else n)
 negated_if negative (Err stop) = Err stop
 
--- a sign may be at the front of bytes without blanks
-abbrev pub signed_number : List ℕ → Result Known Stop
-signed_number [] = constant_number (constant_in []).0
-signed_number (b ∷ bs) =
-    if b == 45 then negated_if true (constant_number (constant_in bs).0)
-    else if b == 43 then constant_number (constant_in bs).0
-    else constant_number (constant_in (b ∷ bs)).0
+-- the first byte; 0 if there is none
+abbrev pub front_byte : List ℕ → ℕ
+front_byte [] = 0
+front_byte (b ∷ bs) = b
+
+-- bytes without the sign at their front
+abbrev pub without_sign : List ℕ → List ℕ
+without_sign bs = if (front_byte bs == 43) || (front_byte bs == 45) then drop 1 bs else bs
+
+-- the number at the front of bytes without blanks
+unfoldable pub signed_number : List ℕ → Result Known Stop
+signed_number bs = negated_if (front_byte bs == 45) (constant_number (constant_in (without_sign bs)).0)
 
 -- VAL: the number at the front of a string, in which blanks count for nothing; 0 if there is none
 unfoldable pub number_at_front : List ℕ → Result Known Stop

@@ -10,7 +10,7 @@ use Rattle.pr_interpreter.specs.declared.names.Kind.TheVariants.{Number as Numer
 use Rattle.pr_interpreter.specs.declared.names.Name.{Name}
 use Rattle.pr_interpreter.specs.declared.values.Value.{Value}
 use Rattle.pr_interpreter.specs.declared.values.Value.TheVariants.{Number, Text}
-use Rattle.pr_interpreter.specs.Numbers.{zero_number}
+use Rattle.pr_interpreter.specs.Numbers.{Known, zero_number}
 
 -- ---- names
 
@@ -50,14 +50,18 @@ first_value Numeric = Number zero_number
 first_value Whole = Number zero_number
 first_value Letters = Text []
 
--- what a variable has; the variable of a function that is worked out hides the one of its name
+-- what a variable has
 abbrev pub variable_value : Name → List Variable → Value
 variable_value name [] = first_value name.kind
 variable_value name (v ∷ vs) = if same_name name v.name then v.value else variable_value name vs
 
-abbrev pub parameter_value : Name → List Parameter → List Variable → Value
-parameter_value name [] vs = variable_value name vs
-parameter_value name (p ∷ ps) vs = if same_name name p.name then Number p.value else parameter_value name ps vs
+-- what the variable of a function that is worked out stands for
+abbrev pub parameter_of : Name → List Parameter → Option Known
+parameter_of name [] = None
+parameter_of name (p ∷ ps) = if same_name name p.name then Some p.value else parameter_of name ps
+
+abbrev pub parameter : Name → Known → Parameter
+parameter name n = record { name = name; value = n }
 
 -- ---- functions
 
@@ -80,6 +84,9 @@ element_bytes Letters = 3
 -- an array that is used before DIM: in each dimension it has elements 0 to 10
 abbrev pub undimensioned : Name → ℕ → Array
 undimensioned name count = record { name = name; bounds = replicate count 10; elements = [] }
+
+abbrev pub no_arrays : Arrays
+no_arrays = record { list = []; bytes = 0 }
 
 abbrev pub added : Array → ℕ → Arrays → Arrays
 added a bytes arrays = record { list = arrays.list ++ a ∷ []; bytes = bytes }

@@ -1,10 +1,13 @@
 -- Linking words: what the functions that work out an expression have, for the definition. No reader needs to believe them.
-use Rattle.std.specs.Prelude.{List, Ok}
+use Rattle.std.specs.Prelude.{ℕ, List, Option, Some, None, Ok}
+use Rattle.pr_interpreter.specs.declared.evaluation.Given.{Given}
+use Rattle.pr_interpreter.specs.declared.evaluation.Work.{Work}
+use Rattle.pr_interpreter.specs.declared.memory.Array.{Array}
 use Rattle.pr_interpreter.specs.declared.memory.Arrays.{Arrays}
 use Rattle.pr_interpreter.specs.declared.memory.Parameter.{Parameter}
 use Rattle.pr_interpreter.specs.declared.memory.Scope.{Scope as Sources}
 use Rattle.pr_interpreter.specs.declared.values.Value.{Value}
-use Rattle.pr_interpreter.specs.Evaluation.{Evaluation, Scope}
+use Rattle.pr_interpreter.specs.Evaluation.{Evaluation, Scope, Working, element}
 
 -- the scope of an expression, in functions with these parameters
 abbrev pub scope_of : List Parameter → Sources → Scope
@@ -20,3 +23,12 @@ scope_of parameters s = record {
 -- an expression has a value, and leaves arrays
 abbrev pub ends_as : Value → Arrays → Evaluation
 ends_as v arrays = record { value = Ok v; arrays = arrays }
+
+-- what is worked with
+abbrev pub seen : Work → Working
+seen w = record { arrays = w.arrays; given = w.given.items; strings = w.strings }
+
+-- what an element of an array gives, if there is the array
+abbrev pub element_of : Option Array → List ℕ → Option Given
+element_of None is = None
+element_of (Some a) is = Some (element a is)

@@ -1,6 +1,7 @@
 //! The nodes of expressions.
 
 ghost use Rattle.std.specs.Prelude.{◌≡◌};
+ghost use Rattle.pr_interpreter.specs.ExpressionLaws.{operands};
 ghost use Rattle.pr_interpreter.specs.Expressions.{greatest_count, least_count, operator_of, precedence};
 
 use crate::constants::Constant;
@@ -69,6 +70,23 @@ impl Operator {
             Operator::Not => 3,
             Operator::And => 2,
             Operator::Or => 1,
+        }
+    }
+
+    /// Returns how many operands it takes.
+    pub(crate) fn operands(self) -> usize
+        ensures { result ≡ operands self }
+    {
+        match self {
+            Operator::Negate | Operator::Not => 1,
+            Operator::Power
+            | Operator::Times
+            | Operator::Over
+            | Operator::Plus
+            | Operator::Minus
+            | Operator::Compare(_)
+            | Operator::And
+            | Operator::Or => 2,
         }
     }
 }

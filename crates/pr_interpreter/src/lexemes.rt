@@ -47,12 +47,10 @@ fn begins_constant(code: u8) -> bool
     is_digit(code) || code == b'.'
 }
 
-/// Returns the constant at the front of symbols, and how many symbols it has.
-#[tactic(auto, using(crate::proofs::NumeralLemmas::numeral_some), unfolding(crate::specs::Lexemes::constant_front))]
-fn constant_front(symbols: &[Symbol]) -> (Word, usize)
-    requires { begins_constant (first_code symbols.now) ≡ true }
+/// Returns the constant at the front of symbols, and how many symbols it has. Without a digit or a point there, it is 0.
+#[tactic(auto, unfolding(crate::specs::Lexemes::constant_front))]
+pub fn constant_at(symbols: &[Symbol]) -> (Word, usize)
     ensures value { result ≡ constant_front symbols.now }
-    ensures some { 0 < result.1 }
     ensures within { result.1 ≤ length symbols.now }
 {
     let (numeral, size) = numeral_of(symbols);
@@ -63,6 +61,17 @@ fn constant_front(symbols: &[Symbol]) -> (Word, usize)
         Word::Code(0)
     };
     (word, size + exponent.size)
+}
+
+/// Returns the constant at the front of symbols, and how many symbols it has.
+#[tactic(auto, using(crate::proofs::NumeralLemmas::numeral_some), unfolding(crate::specs::Lexemes::constant_front))]
+fn constant_front(symbols: &[Symbol]) -> (Word, usize)
+    requires { begins_constant (first_code symbols.now) ≡ true }
+    ensures value { result ≡ constant_front symbols.now }
+    ensures some { 0 < result.1 }
+    ensures within { result.1 ≤ length symbols.now }
+{
+    constant_at(symbols)
 }
 
 /// Returns the word of a symbol that begins nothing longer.

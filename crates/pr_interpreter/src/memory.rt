@@ -1,10 +1,15 @@
 //! What the machine keeps while a program runs: variables, arrays and functions.
 
-use crate::names::Name;
+ghost use Rattle.std.specs.Prelude.{◌≡◌, ◌+◌, ◌*◌, ◌^◌, ◌++◌, ◌∷◌, [], length, None, Some, ◌<◌, if◌then◌else◌, nat_le, replicate, MatchOption, IfOk};
+ghost use Rattle.pr_interpreter.specs.Memory.{added, array_of, element_bytes, function_of, is_clock, is_status, no_arrays, parameter, parameter_of, place_of, same_kind, same_name, same_second, undimensioned};
+
+use crate::names::{Kind, Name};
 use crate::number::Number;
 use crate::statements::Nodes;
 use crate::values::Value;
 use pr_page::Sequence;
+use std::alloc::{AllocError, Global};
+use std::mem;
 
 /// A variable, and its value.
 #[derive(Debug, Drop)]
@@ -57,4 +62,203 @@ pub struct Scope<'a> {
     pub column: Option<u8>,
     /// Whether something was sent to a device: ST is 0 before.
     pub has_sent: bool,
+}
+
+/// How many bytes the elements of all arrays surely have room for.
+const ROOM: usize = 30_000;
+
+/// From so many elements on, there is no array.
+const ELEMENTS: u32 = 65_536;
+
+/// Returns whether two second characters are the same.
+fn same_second(a: Option<u8>, b: Option<u8>) -> bool
+    ensures { result ≡ same_second a b }
+{
+    match a {
+        None => match b {
+            None => true,
+            Some(_) => false,
+        },
+        Some(c) => match b {
+            None => false,
+            Some(d) => c == d,
+        },
+    }
+}
+
+/// Returns whether two kinds are the same.
+fn same_kind(a: Kind, b: Kind) -> bool
+    ensures { result ≡ same_kind a b }
+{
+    match a {
+        Kind::Number => match b {
+            Kind::Number => true,
+            Kind::Whole | Kind::Text => false,
+        },
+        Kind::Whole => match b {
+            Kind::Whole => true,
+            Kind::Number | Kind::Text => false,
+        },
+        Kind::Text => match b {
+            Kind::Text => true,
+            Kind::Number | Kind::Whole => false,
+        },
+    }
+}
+
+/// Returns whether two names are the same.
+#[tactic(auto, unfolding(crate::specs::Memory::same_name))]
+pub fn same_name(a: Name, b: Name) -> bool
+    ensures { result ≡ same_name a b }
+{
+    a.first == b.first && same_second(a.second, b.second) && same_kind(a.kind, b.kind)
+}
+
+/// Returns whether a name is that of the clock, TI or TI$.
+#[tactic(auto, unfolding(crate::specs::Memory::is_clock))]
+pub fn is_clock(name: Name) -> bool
+    ensures { result ≡ is_clock name }
+{
+    name.first == b'T'
+        && same_second(name.second, Some(b'I'))
+        && !same_kind(name.kind, Kind::Whole)
+}
+
+/// Returns whether a name is that of the status, ST.
+#[tactic(auto, unfolding(crate::specs::Memory::is_status))]
+pub fn is_status(name: Name) -> bool
+    ensures { result ≡ is_status name }
+{
+    name.first == b'S'
+        && same_second(name.second, Some(b'T'))
+        && same_kind(name.kind, Kind::Number)
+}
+
+/// Returns what the variable of a function that is worked out stands for.
+pub fn parameter_of(name: Name, parameters: &[Parameter]) -> Option<Number>
+    ensures { result ≡ parameter_of name parameters.now }
+{
+    for parameter in parameters {
+        if same_name(name, parameter.name) {
+            return Some(parameter.value);
+        }
+    }
+    None
+}
+
+/// Returns the function of a name.
+pub fn function_of(name: Name, functions: &[Function]) -> Option<&Function>
+    ensures { MatchOption result (function_of name functions.now ≡ None) (λ f. function_of name functions.now ≡ Some f.now) }
+{
+    for function in functions {
+        if same_name(name, function.name) {
+            return Some(function);
+        }
+    }
+    None
+}
+
+/// Returns the array of a name.
+pub fn array_of(name: Name, arrays: &[Array]) -> Option<&Array>
+    ensures { MatchOption result (array_of name arrays.now ≡ None) (λ a. array_of name arrays.now ≡ Some a.now) }
+{
+    for array in arrays {
+        if same_name(name, array.name) {
+            return Some(array);
+        }
+    }
+    None
+}
+
+/// Returns how many bytes an element has.
+fn element_bytes(kind: Kind) -> usize
+    ensures { result ≡ element_bytes kind }
+{
+    match kind {
+        Kind::Number => 5,
+        Kind::Whole => 2,
+        Kind::Text => 3,
+    }
+}
+
+/// Returns how many bytes the elements of an array with so many dimensions have that is used before DIM; None of five
+/// and more, for which there is no room.
+#[tactic(auto, using(crate::proofs::MemoryLemmas::too_many))]
+pub fn undimensioned_bytes(kind: Kind, count: usize) -> Option<usize>
+    ensures value { MatchOption result (30000 < element_bytes kind * 11 ^ count) (λ n. n ≡ element_bytes kind * 11 ^ count) }
+{
+    if count <= 4 {
+        Some(element_bytes(kind) * 11usize.pow(count as u32))
+    } else {
+        None
+    }
+}
+
+/// Returns the bounds of an array that is used before DIM.
+fn tens(alloc: Global, count: usize) -> Result<Vec<u16>, AllocError>
+    ensures { IfOk result (λ bounds. bounds.items ≡ replicate count 10) }
+{
+    let mut bounds = Vec::new(alloc);
+    for _ in 0..count {
+        bounds.push(10)?;
+    }
+    Ok(bounds)
+}
+
+/// Returns an array that is used before DIM.
+pub fn undimensioned(alloc: Global, name: Name, count: usize) -> Result<Array, AllocError>
+    ensures { IfOk result (λ a. a ≡ undimensioned name count) }
+{
+    let bounds = tens(alloc, count)?;
+    Ok(Array {
+        name,
+        bounds: Sequence::from_vec(bounds),
+        elements: Sequence::new(alloc),
+    })
+}
+
+impl Arrays {
+    /// Returns no arrays.
+    pub fn new(alloc: Global) -> Arrays
+        ensures { result ≡ no_arrays }
+    {
+        Arrays {
+            list: Sequence::new(alloc),
+            bytes: 0,
+        }
+    }
+
+    /// Adds an array with so many bytes for its elements, if there surely is room. Returns whether there is.
+    pub fn add(&mut self, alloc: Global, array: Array, bytes: usize) -> Result<bool, AllocError>
+        ensures room { IfOk result (λ b. b ≡ nat_le (self.old.bytes + bytes) 30000) }
+        ensures added { IfOk result (λ b. self.new ≡ (if b then added array (self.old.bytes + bytes) self.old else self.old)) }
+    {
+        if ROOM < self.bytes || ROOM - self.bytes < bytes {
+            return Ok(false);
+        }
+        let mut list = mem::replace(&mut self.list, Sequence::new(alloc)).into_vec();
+        let pushed = list.push(array);
+        self.list = Sequence::from_vec(list);
+        pushed?;
+        self.bytes += bytes;
+        Ok(true)
+    }
+}
+
+/// Returns the place of an element among those of its array.
+pub fn place_of(bounds: &[u16], indices: &[u16]) -> Option<u32>
+    ensures { result ≡ place_of 0 bounds.now indices.now }
+{
+    if bounds.len() != indices.len() {
+        return None;
+    }
+    let mut place = 0;
+    for (i, bound) in bounds.iter().enumerate() {
+        let next = place * (u32::from(*bound) + 1) + u32::from(indices[i]);
+        if *bound < indices[i] || ELEMENTS <= next {
+            return None;
+        }
+        place = next;
+    }
+    Some(place)
 }

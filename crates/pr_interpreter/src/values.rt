@@ -78,7 +78,7 @@ fn stop_of(fault: NumberFault) -> Stop
 }
 
 /// Returns the result of a calculation.
-fn calculated(result_of: Result<Number, NumberFault>) -> Result<Number, Stop>
+pub fn calculated(result_of: Result<Number, NumberFault>) -> Result<Number, Stop>
     ensures { result ≡ calculated result_of }
 {
     match result_of {
