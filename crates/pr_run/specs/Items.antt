@@ -15,12 +15,12 @@ use Rattle.pr_interpreter.specs.Symbols.{is_quote}
 use Rattle.pr_run.specs.declared.data.DataItem.{DataItem}
 use Rattle.pr_run.specs.declared.ending.Ending.TheVariants.{Error, Refused}
 use Rattle.pr_run.specs.declared.ending.Refusal.TheVariants.{NotTaken}
-use Rattle.pr_run.specs.declared.program.Program.{Program}
+use Rattle.pr_run.specs.declared.programs.Program.{Program}
 use Rattle.pr_run.specs.declared.uses.Use.{Use}
 use Rattle.pr_run.specs.States.{State}
-use Rattle.pr_run.specs.Targets.{assigned, target_place}
+use Rattle.pr_run.specs.Assignments.{assigned, target_place}
 use Rattle.pr_run.specs.Uses.{Worked, and_then, line_at, use_at, used}
-use Rattle.pr_run.specs.Worked.{then_on}
+use Rattle.pr_run.specs.Worked.{each, then_on}
 
 -- ---- numbers
 
@@ -82,9 +82,8 @@ read_target p s t =
     then_on (target_place p s t) (λ at r. read_item p r t at (slice_get p.items r.items_read))
 
 -- READ
-abbrev pub read_statement : Program → State → List Target → Worked State
-read_statement p s [] = Ok s
-read_statement p s (t ∷ ts) = and_then (read_target p s t) (λ r. read_statement p r ts)
+unfoldable pub read_statement : Program → State → List Target → Worked State
+read_statement p s ts = each (read_target p) s ts
 
 -- RESTORE: the first item is the next
 unfoldable pub restore_statement : State → State

@@ -23,10 +23,10 @@ use Rattle.pr_run.specs.declared.opened.Open.TheVariants.{Calling, Looping}
 use Rattle.pr_run.specs.declared.place.Place.{Place}
 use Rattle.pr_run.specs.Opened.{Caller, Inner, caller_of, loop_of, stack_limit, stack_size, without}
 use Rattle.pr_run.specs.Places.{beginning}
-use Rattle.pr_run.specs.declared.program.Program.{Program}
+use Rattle.pr_run.specs.declared.programs.Program.{Program}
 use Rattle.pr_run.specs.declared.uses.Use.{Use}
 use Rattle.pr_run.specs.States.{State, next_line}
-use Rattle.pr_run.specs.Targets.{assigned, is_system, stored, system_ending}
+use Rattle.pr_run.specs.Assignments.{assigned, is_system, stored, system_ending}
 use Rattle.pr_run.specs.Uses.{Valued, Worked, and_then, direction_by, ends_loop, line_at, line_use, use_at, use_of, used}
 use Rattle.pr_run.specs.Worked.{number, then_on, truth, whole, worked}
 

@@ -1,3 +1,4 @@
+pub mod Assignments
 pub mod Data
 pub mod Items
 pub mod Jumps
@@ -9,6 +10,5 @@ pub mod Runs
 pub mod Seen
 pub mod States
 pub mod Steps
-pub mod Targets
 pub mod Uses
 pub mod Worked

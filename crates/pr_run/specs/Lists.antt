@@ -1,6 +1,6 @@
 -- Trusted: the bytes of the lists of PRINT, PRINT# and CMD.
-use Rattle.std.specs.Prelude.{ℕ, ◌==◌, Bool, true, false, List, [], ◌∷◌, ◌++◌, length, nat_le, if◌then◌else◌, Option, Some, None, Ok, Err}
-use Rattle.std.specs.List.{last_or, repeat}
+use Rattle.std.specs.Prelude.{ℕ, ◌==◌, Bool, true, false, List, [], ◌∷◌, ◌++◌, length, replicate, nat_le, if◌then◌else◌, Option, Some, None, Ok, Err}
+use Rattle.std.specs.List.{last_or}
 use Rattle.pr_basic.specs.Limits.{byte_limit}
 use Rattle.pr_basic.specs.Text.{Text as Line}
 use Rattle.pr_interpreter.specs.declared.statements.Item.{Item}
@@ -11,7 +11,7 @@ use Rattle.pr_interpreter.specs.declared.values.Value.TheVariants.{Number, Text}
 use Rattle.pr_interpreter.specs.Functions.{number_text}
 use Rattle.pr_run.specs.declared.ending.Ending.TheVariants.{Refused}
 use Rattle.pr_run.specs.declared.ending.Refusal.TheVariants.{LongList, NotCertain}
-use Rattle.pr_run.specs.declared.program.Program.{Program}
+use Rattle.pr_run.specs.declared.programs.Program.{Program}
 use Rattle.pr_run.specs.declared.uses.Use.{Use}
 use Rattle.pr_run.specs.States.{State}
 use Rattle.pr_run.specs.Uses.{Valued, Worked, and_then, use_at, used, whole_of}
@@ -23,7 +23,7 @@ step_byte channel = if channel == 0 then 29 else 32
 
 -- so many steps to the right
 abbrev pub steps_right : ℕ → ℕ → List ℕ
-steps_right channel n = repeat n (step_byte channel ∷ [])
+steps_right channel n = replicate n (step_byte channel)
 
 -- The column is that of the screen's cursor, also where the output goes to a file. It is known only if all that is on
 -- the screen ends with a return: then it is 0.

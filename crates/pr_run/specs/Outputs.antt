@@ -11,10 +11,10 @@ use Rattle.pr_interpreter.specs.declared.values.BasicError.TheVariants.{FileNotO
 use Rattle.pr_run.specs.declared.ending.Ending.TheVariants.{Refused}
 use Rattle.pr_run.specs.declared.ending.Refusal.TheVariants.{Device, FileName, SecondAddress}
 use Rattle.pr_run.specs.Lists.{printed}
-use Rattle.pr_run.specs.declared.program.Program.{Program}
+use Rattle.pr_run.specs.declared.programs.Program.{Program}
 use Rattle.pr_run.specs.States.{State}
 use Rattle.pr_run.specs.Uses.{Valued, Worked, and_then, first_place, line_use}
-use Rattle.pr_run.specs.Worked.{then_on, whole}
+use Rattle.pr_run.specs.Worked.{every, then_on, whole}
 
 -- the statement that is performed; the error that the machine reports, if it does; and the state after it
 pub record Output : Type 0 where
@@ -31,10 +31,9 @@ failed error statement s = record { statement = statement; error = Some error; a
 
 -- ---- OPEN and CLOSE
 
--- whole numbers from 0 to 255 after others
-abbrev pub numbers : Program → State → List ℕ → List (List Placed) → Worked (Valued (List ℕ))
-numbers p s found [] = Ok (record { value = found; after = s })
-numbers p s found (i ∷ is) = then_on (whole 255 p s i) (λ n t. numbers p t (found ++ n ∷ []) is)
+-- whole numbers from 0 to 255
+unfoldable pub numbers : Program → State → List (List Placed) → Worked (Valued (List ℕ))
+numbers p s is = every (whole 255 p) [] s is
 
 -- a fourth value is a file name, which is not taken
 abbrev pub unnamed : {A : Type 0} → List (List Placed) → Worked A → Worked A
@@ -43,7 +42,7 @@ unnamed (name ∷ names) more = Err (Refused FileName (first_place name))
 
 -- the numbers of a file
 abbrev pub file_numbers : Program → State → List (List Placed) → Worked (Valued (List ℕ))
-file_numbers p s is = then_on (numbers p s [] (take 3 is)) (λ found t. unnamed (drop 3 is) (Ok (record { value = found; after = t })))
+file_numbers p s is = then_on (numbers p s (take 3 is)) (λ found t. unnamed (drop 3 is) (Ok (record { value = found; after = t })))
 
 abbrev pub is_open : ℕ → List ℕ → Bool
 is_open file files = list_any (λ f. f == file) files

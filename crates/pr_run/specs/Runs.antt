@@ -8,7 +8,7 @@ use Rattle.pr_run.specs.declared.ending.Ending.TheVariants.{TooManySteps}
 use Rattle.pr_run.specs.declared.outcome.Outcome.{Outcome}
 use Rattle.pr_run.specs.declared.performed.Performed.{Performed}
 use Rattle.pr_run.specs.Data.{data_of}
-use Rattle.pr_run.specs.declared.program.Program.{Program}
+use Rattle.pr_run.specs.declared.programs.Program.{Program}
 use Rattle.pr_run.specs.States.{State, first_state}
 use Rattle.pr_run.specs.Steps.{Ends, Goes, Steps, Stops, Turn, step}
 use Rattle.pr_run.specs.Uses.{line_at}

@@ -15,7 +15,7 @@ use Rattle.pr_run.specs.declared.opened.Open.TheVariants.{Looping}
 use Rattle.pr_run.specs.declared.place.Place.{Place}
 use Rattle.pr_run.specs.declared.outcome.Outcome.{Outcome}
 use Rattle.pr_run.specs.declared.performed.Performed.{Performed}
-use Rattle.pr_run.specs.declared.program.Program.{Program}
+use Rattle.pr_run.specs.declared.programs.Program.{Program}
 use Rattle.pr_run.specs.declared.state.Run.{Run}
 use Rattle.pr_run.specs.declared.steps.Done.{Done}
 use Rattle.pr_run.specs.Jumps.{Passed, Again, Over}

@@ -18,9 +18,9 @@ use Rattle.pr_run.specs.Items.{read_statement, restore_statement}
 use Rattle.pr_run.specs.Jumps.{for_statement, if_statement, jump, next_statement, on_statement, return_statement}
 use Rattle.pr_run.specs.Outputs.{Output, close_statement, command_statement, open_statement, print_file_statement, print_statement}
 use Rattle.pr_run.specs.Places.{Found, Doing, LineEnd, ProgramEnd, after_statement, found_at}
-use Rattle.pr_run.specs.declared.program.Program.{Program}
+use Rattle.pr_run.specs.declared.programs.Program.{Program}
 use Rattle.pr_run.specs.States.{State, next_line}
-use Rattle.pr_run.specs.Targets.{clear_statement, dim_statement, let_statement, replaced}
+use Rattle.pr_run.specs.Assignments.{clear_statement, dim_statement, let_statement, replaced}
 use Rattle.pr_run.specs.Uses.{Worked, first_place, line_at}
 use Rattle.pr_run.specs.Worked.{then_on, whole}
 

@@ -21,7 +21,7 @@ use Rattle.pr_run.specs.declared.ending.Ending.TheVariants.{Error, OutOfMemory, 
 use Rattle.pr_run.specs.declared.ending.Refusal.TheVariants.{NotCertain, NotTaken}
 use Rattle.pr_run.specs.declared.opened.Direction.{Direction}
 use Rattle.pr_run.specs.declared.opened.Direction.TheVariants.{Down, Still, Up}
-use Rattle.pr_run.specs.declared.program.Program.{Program}
+use Rattle.pr_run.specs.declared.programs.Program.{Program}
 use Rattle.pr_run.specs.declared.uses.Use.{Use}
 use Rattle.pr_run.specs.Places.{number_at}
 use Rattle.pr_run.specs.States.{State}

@@ -10,9 +10,9 @@ ghost use Rattle.pr_run.specs.Seen.{EndsAs, state_of};
 
 use crate::data::{DataItem, slice_of};
 use crate::ending::{Ending, Refusal};
-use crate::program::Program;
+use crate::programs::Program;
 use crate::state::Run;
-use crate::targets::{store, target_place};
+use crate::assignments::{store, target_place};
 use crate::uses::{Use, ending_of, kept};
 use crate::worked::line_at;
 use pr_interpreter::{
@@ -232,6 +232,7 @@ fn read_target(
 }
 
 /// Performs READ.
+#[tactic(auto, unfolding(crate::specs::Items::read_statement))]
 pub fn read_statement(
     alloc: Global,
     program: &Program,

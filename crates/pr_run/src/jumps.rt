@@ -11,9 +11,9 @@ ghost use Rattle.pr_run.specs.Seen.{EndsAs, gives, passes, state_of};
 use crate::ending::{Ending, Refusal};
 use crate::opened::{Direction, Loop, Open, has_room, loop_of, take_caller};
 use crate::place::beginning;
-use crate::program::Program;
+use crate::programs::Program;
 use crate::state::Run;
-use crate::targets::{is_system, store, system_ending};
+use crate::assignments::{is_system, store, system_ending};
 use crate::uses::{Use, direction_by, ending_of, ends_loop, kept};
 use crate::worked::{ended, line_at, line_use, number, truth, use_of, whole, worked};
 use pr_interpreter::{
@@ -41,11 +41,11 @@ pub fn go_to(program: &Program, number: u16, run: &mut Run) -> Result<(), Ending
 }
 
 /// Opens something more, if the machine's stack surely has room for it.
-fn open(at: Use, more: Open, run: &mut Run) -> Result<(), Ending>
+fn add_open(at: Use, more: Open, run: &mut Run) -> Result<(), Ending>
     ensures ok { OnOk result (opening at more (state_of run.old) ≡ Ok (state_of run.new)) }
     ensures err { IfErr result (λ e. EndsAs e (opening at more (state_of run.old))) }
 {
-    if !has_room(run.opened.as_slice(), more) {
+    if !has_room(run.opened.as_slice(), &more) {
         return Err(Ending::Refused {
             refusal: Refusal::FullStack,
             place: at.place,
@@ -67,7 +67,7 @@ pub fn jump(program: &Program, way: Way, number: u16, run: &mut Run) -> Result<(
         Way::Goto => go_to(program, number, run),
         Way::Gosub => {
             let at = line_use(program, run);
-            open(at, Open::Calling(run.place), run)?;
+            add_open(at, Open::Calling(run.place), run)?;
             go_to(program, number, run)
         }
     }
@@ -209,7 +209,7 @@ fn begin(
 {
     leave_loop(run, variable);
     let body = run.place;
-    open(
+    add_open(
         at,
         Open::Looping(Loop {
             variable,
@@ -346,9 +346,9 @@ fn summed(a: Number, b: Number) -> Result<Number, Stop>
 }
 
 /// Adds the step of a loop to its variable. Returns whether the loop is over, by its limit.
-fn advance(at: Use, current: Loop, run: &mut Run, alloc: Global) -> Result<bool, Ending>
-    ensures ok { IfOk result (λ b. advanced at current (state_of run.old) ≡ gives b run.new) }
-    ensures err { IfErr result (λ e. EndsAs e (advanced at current (state_of run.old))) }
+fn advance(alloc: Global, at: Use, current: &Loop, run: &mut Run) -> Result<bool, Ending>
+    ensures ok { IfOk result (λ b. advanced at current.now (state_of run.old) ≡ gives b run.new) }
+    ensures err { IfErr result (λ e. EndsAs e (advanced at current.now (state_of run.old))) }
 {
     let number = match summed(
         variable_number(current.variable, run.variables.as_slice()),
@@ -381,7 +381,7 @@ fn next_of(
             line: at.line,
         });
     };
-    let over = advance(at, current, run, alloc)?;
+    let over = advance(alloc, at, &current, run)?;
     if over {
         run.opened.truncate(count);
     } else {

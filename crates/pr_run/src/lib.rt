@@ -5,15 +5,16 @@
 //! as steps from state to state, and `run_program` performs exactly what it says. A statement is not run where what it
 //! does is not certain: the run ends there, with the place.
 //!
-//! - `program` has programs with the items of DATA (`data`), `place` the places in them; `ending` says how a run ends,
+//! - `programs` has programs with the items of DATA (`data`), `place` the places in them; `ending` says how a run ends,
 //!   and `outcome` what it performed.
 //! - `state` has the state of a run, with the loops and calls that are open (`opened`).
 //! - `worked` works out expressions, and `uses` says what statements make of their values.
-//! - `targets` has LET, DIM and CLR, `jumps` GOTO, GOSUB, RETURN, ON, IF, FOR and NEXT, `items` READ and RESTORE, `lists`
+//! - `assignments` has LET, DIM and CLR, `jumps` GOTO, GOSUB, RETURN, ON, IF, FOR and NEXT, `items` READ and RESTORE, `lists`
 //!   what PRINT writes, and `outputs` OPEN, CLOSE, CMD, PRINT and PRINT#.
 //! - `steps` has one step, with DEF FN and POKE, and `run` all.
 #![tactic(auto)]
 
+mod assignments;
 mod data;
 mod ending;
 mod items;
@@ -24,11 +25,10 @@ mod outcome;
 mod outputs;
 mod performed;
 mod place;
-mod program;
+mod programs;
 mod run;
 mod state;
 mod steps;
-mod targets;
 mod uses;
 mod worked;
 
@@ -36,5 +36,5 @@ pub use data::DataItem;
 pub use ending::{Ending, Refusal};
 pub use outcome::Outcome;
 pub use performed::Performed;
-pub use program::{Program, program_of};
+pub use programs::{Program, program_of};
 pub use run::run_program;

@@ -9,7 +9,7 @@ ghost use Rattle.pr_run.specs.Uses.{used};
 ghost use Rattle.pr_interpreter.specs.Functions.{number_text};
 
 use crate::ending::{Ending, Refusal};
-use crate::program::Program;
+use crate::programs::Program;
 use crate::state::Run;
 use crate::uses::{Use, ending_of, whole_of};
 use crate::worked::{line_at, worked};
@@ -45,7 +45,7 @@ fn steps_right(alloc: Global, channel: u8, count: u16) -> Result<Vec<u8>, Ending
 {
     let step = step_byte(channel);
     let mut bytes = Vec::new(alloc);
-    for _ in 0..count {
+    while bytes.len() < usize::from(count) {
         put(&mut bytes, step)?;
     }
     Ok(bytes)

@@ -84,8 +84,8 @@ pub fn take_caller(opened: &mut Vec<Open>) -> Option<Place>
 }
 
 /// Returns how many bytes of the machine's stack something takes.
-fn open_size(open: Open) -> usize
-    ensures { result ≡ open_size open }
+fn open_size(open: &Open) -> usize
+    ensures { result ≡ open_size open.now }
 {
     match open {
         Open::Looping(_) => 18,
@@ -94,12 +94,12 @@ fn open_size(open: Open) -> usize
 }
 
 /// Returns whether the machine's stack surely has room for something more.
-pub fn has_room(opened: &[Open], more: Open) -> bool
-    ensures { result ≡ nat_le (stack_size (more ∷ reverse opened.now)) stack_limit }
+pub fn has_room(opened: &[Open], more: &Open) -> bool
+    ensures { result ≡ nat_le (stack_size (more.now ∷ reverse opened.now)) stack_limit }
 {
     let mut size = open_size(more);
     for open in opened {
-        size += open_size(*open);
+        size += open_size(open);
         if STACK < size {
             return false;
         }

@@ -7,7 +7,7 @@ ghost use Rattle.pr_run.specs.Seen.{EndsAs, IsDevice, IsSecond, gives, puts, sta
 
 use crate::ending::{Ending, Refusal};
 use crate::lists::printed;
-use crate::program::Program;
+use crate::programs::Program;
 use crate::state::Run;
 use crate::uses::first_place;
 use crate::worked::{line_use, whole};
@@ -36,14 +36,15 @@ fn byte(
 }
 
 /// Works out whole numbers from 0 to 255.
+#[tactic(auto, unfolding(crate::specs::Outputs::numbers))]
 fn numbers(
     alloc: Global,
     program: &Program,
     run: &mut Run,
     values: &[Nodes],
 ) -> Result<Vec<u8>, Ending>
-    ensures ok { IfOk result (λ found. numbers program.now (state_of run.old) [] values.now ≡ gives found.items run.new) }
-    ensures err { IfErr result (λ e. EndsAs e (numbers program.now (state_of run.old) [] values.now)) }
+    ensures ok { IfOk result (λ found. numbers program.now (state_of run.old) values.now ≡ gives found.items run.new) }
+    ensures err { IfErr result (λ e. EndsAs e (numbers program.now (state_of run.old) values.now)) }
 {
     let mut found = Vec::new(alloc);
     'each: for nodes in values {

@@ -8,7 +8,7 @@ ghost use Rattle.pr_run.specs.Seen.{LeadsOn};
 use crate::ending::Ending;
 use crate::outcome::Outcome;
 use crate::performed::Performed;
-use crate::program::Program;
+use crate::programs::Program;
 use crate::state::Run;
 use crate::steps::step;
 use crate::worked::line_at;
@@ -59,7 +59,9 @@ pub fn run_program(alloc: Global, program: &Program, limit: u64) -> Result<Outco
 {
     let mut run = Run::new(alloc);
     let mut performed = Vec::new(alloc);
-    'steps: for _ in 0..limit {
+    let mut left = limit;
+    'steps: while 0 < left {
+        left -= 1;
         if let Some(ending) = advance(alloc, program, &mut run, &mut performed)? {
             return Ok(Outcome {
                 performed: Sequence::from_vec(performed),

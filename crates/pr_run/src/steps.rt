@@ -16,9 +16,9 @@ use crate::outputs::{
     print_statement,
 };
 use crate::performed::Performed;
-use crate::program::Program;
+use crate::programs::Program;
 use crate::state::Run;
-use crate::targets::{clear_statement, dim_statement, let_statement};
+use crate::assignments::{clear_statement, dim_statement, let_statement};
 use crate::uses::first_place;
 use crate::worked::{line_at, whole};
 use pr_interpreter::{BasicError, Function, Kind, Name, Placed, Statement, same_name};
@@ -156,7 +156,7 @@ fn ended(ending: Ending) -> Done
 }
 
 /// Returns that an output statement of a line is performed.
-fn output(line: u16, output: Output) -> Done
+fn put_out(line: u16, output: Output) -> Done
     ensures { result ≡ output_done line output }
 {
     let (statement, error) = output;
@@ -194,7 +194,7 @@ fn output_turn(
         Statement::Close { values } => close_statement(alloc, program, run, values.as_slice())?,
         _ => return Ok(nothing()),
     };
-    Ok(output(line, put))
+    Ok(put_out(line, put))
 }
 
 /// Performs a statement in a state whose place is the one after it.

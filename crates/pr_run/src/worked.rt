@@ -6,7 +6,7 @@ ghost use Rattle.pr_run.specs.Uses.{ending_of, line_at, line_use, use_of};
 ghost use Rattle.pr_run.specs.Worked.{number, truth, whole, worked};
 
 use crate::ending::Ending;
-use crate::program::Program;
+use crate::programs::Program;
 use crate::state::Run;
 use crate::uses::{Use, ending_of, first_place, halted, number_of, truth_of, whole_of};
 use pr_interpreter::{Number, Placed, Scope, Stop, Value, evaluate};

@@ -5,11 +5,11 @@ ghost use Rattle.std.specs.List.{position_or_len};
 ghost use Rattle.std.specs.Option.{option_copied};
 ghost use Rattle.pr_interpreter.specs.Memory.{array_of, first_value, same_name, with_array};
 ghost use Rattle.pr_run.specs.Seen.{EndsAs, gives, state_of};
-ghost use Rattle.pr_run.specs.Targets.{clear_statement, dim_statement, dimension, dimensioned, element_count, element_in, index, indices, is_system, let_statement, made_array, made_undimensioned, place_in, stored, system_ending, target_place, with_element, with_its_array, with_value_at, with_variable};
+ghost use Rattle.pr_run.specs.Assignments.{clear_statement, dim_statement, dimension, dimensioned, element_count, element_in, index, indices, is_system, let_statement, made_array, made_undimensioned, place_in, stored, system_ending, target_place, with_element, with_its_array, with_value_at, with_variable};
 ghost use Rattle.pr_run.specs.Worked.{valued};
 
 use crate::ending::{Ending, Refusal};
-use crate::program::Program;
+use crate::programs::Program;
 use crate::state::Run;
 use crate::uses::{Use, ending_of, kept, whole_of};
 use crate::worked::{ended, line_at, line_use, worked};
@@ -34,7 +34,7 @@ fn variable_place(name: Name, variables: &[Variable]) -> usize
 }
 
 /// Gives a variable a value.
-#[tactic(auto, unfolding(crate::specs::Targets::with_variable))]
+#[tactic(auto, unfolding(crate::specs::Assignments::with_variable))]
 fn set_variable(variables: &mut Vec<Variable>, name: Name, value: Value) -> Result<(), Ending>
     ensures ok { OnOk result (variables.new.items ≡ with_variable name value variables.old.items) }
     ensures err { IfErr result (λ e. e ≡ Ending.OutOfMemory) }
@@ -90,7 +90,7 @@ fn set_element(
 }
 
 /// Gives an element of an array, at a place among its elements, a value.
-#[tactic(auto, unfolding(crate::specs::Targets::with_value_at))]
+#[tactic(auto, unfolding(crate::specs::Assignments::with_value_at))]
 fn set_value_at(
     alloc: Global,
     arrays: &mut Arrays,
@@ -134,6 +134,7 @@ pub fn store(
 }
 
 /// Works out an index.
+#[tactic(auto, unfolding(crate::specs::Assignments::index))]
 fn index(
     alloc: Global,
     program: &Program,
@@ -151,7 +152,8 @@ fn index(
     }
 }
 
-/// Works out indices, and adds them.
+/// Works out indices.
+#[tactic(auto, unfolding(crate::specs::Assignments::indices))]
 fn indices(
     alloc: Global,
     program: &Program,
@@ -159,8 +161,8 @@ fn indices(
     run: &mut Run,
     expressions: &[Nodes],
 ) -> Result<Vec<u16>, Ending>
-    ensures ok { IfOk result (λ found. indices program.now at (state_of run.old) [] expressions.now ≡ gives found.items run.new) }
-    ensures err { IfErr result (λ e. EndsAs e (indices program.now at (state_of run.old) [] expressions.now)) }
+    ensures ok { IfOk result (λ found. indices program.now at (state_of run.old) expressions.now ≡ gives found.items run.new) }
+    ensures err { IfErr result (λ e. EndsAs e (indices program.now at (state_of run.old) expressions.now)) }
 {
     let mut found = Vec::new(alloc);
     'each: for nodes in expressions {
@@ -257,7 +259,7 @@ fn make_its_array(
 }
 
 /// Returns the place of an element among those of its array, which is made if it is used before DIM.
-#[tactic(auto, unfolding(crate::specs::Targets::element_in))]
+#[tactic(auto, unfolding(crate::specs::Assignments::element_in))]
 fn element_in(
     alloc: Global,
     at: Use,
@@ -297,7 +299,7 @@ pub fn system_ending(at: Use, kind: Kind) -> Ending
 }
 
 /// Returns where a target's value is kept: none for a variable, and the place of an element among those of its array.
-#[tactic(auto, unfolding(crate::specs::Targets::target_place))]
+#[tactic(auto, unfolding(crate::specs::Assignments::target_place))]
 pub fn target_place(
     alloc: Global,
     program: &Program,
@@ -322,7 +324,7 @@ pub fn target_place(
 }
 
 /// Performs LET: where the value is kept is worked out first.
-#[tactic(auto, unfolding(crate::specs::Targets::let_statement))]
+#[tactic(auto, unfolding(crate::specs::Assignments::let_statement))]
 pub fn let_statement(
     alloc: Global,
     program: &Program,
@@ -387,14 +389,15 @@ fn dimensioned(
 }
 
 /// Makes an array that DIM has. A variable is not changed.
+#[tactic(auto, unfolding(crate::specs::Assignments::dimension))]
 fn dimension(
     alloc: Global,
     program: &Program,
     run: &mut Run,
     target: &Target,
 ) -> Result<(), Ending>
-    ensures ok { OnOk result (dimension program.now (state_of run.old) target.now target.now.indices ≡ Ok (state_of run.new)) }
-    ensures err { IfErr result (λ e. EndsAs e (dimension program.now (state_of run.old) target.now target.now.indices)) }
+    ensures ok { OnOk result (dimension program.now (state_of run.old) target.now ≡ Ok (state_of run.new)) }
+    ensures err { IfErr result (λ e. EndsAs e (dimension program.now (state_of run.old) target.now)) }
 {
     if target.indices.is_empty() {
         return Ok(());
@@ -408,6 +411,7 @@ fn dimension(
 }
 
 /// Performs DIM.
+#[tactic(auto, unfolding(crate::specs::Assignments::dim_statement))]
 pub fn dim_statement(
     alloc: Global,
     program: &Program,
@@ -424,7 +428,7 @@ pub fn dim_statement(
 }
 
 /// Performs CLR.
-#[tactic(auto, unfolding(crate::specs::Targets::clear_statement))]
+#[tactic(auto, unfolding(crate::specs::Assignments::clear_statement))]
 pub fn clear_statement(alloc: Global, program: &Program, run: &mut Run) -> Result<(), Ending>
     ensures ok { OnOk result (clear_statement program.now (state_of run.old) ≡ Ok (state_of run.new)) }
     ensures err { IfErr result (λ e. EndsAs e (clear_statement program.now (state_of run.old))) }

@@ -14,11 +14,11 @@ use Rattle.pr_interpreter.specs.Memory.{array_of, element_bytes, first_value, is
 use Rattle.pr_run.specs.declared.ending.Ending.{Ending}
 use Rattle.pr_run.specs.declared.ending.Ending.TheVariants.{Error, Refused}
 use Rattle.pr_run.specs.declared.ending.Refusal.TheVariants.{FullMemory, NotTaken, OpenFiles}
-use Rattle.pr_run.specs.declared.program.Program.{Program}
+use Rattle.pr_run.specs.declared.programs.Program.{Program}
 use Rattle.pr_run.specs.declared.uses.Use.{Use}
 use Rattle.pr_run.specs.States.{State, cleared}
 use Rattle.pr_run.specs.Uses.{Valued, Worked, and_then, kept, line_use, use_at, use_of, used, whole_of}
-use Rattle.pr_run.specs.Worked.{then_on, valued, worked}
+use Rattle.pr_run.specs.Worked.{each, every, then_on, valued, worked}
 
 -- ---- where a value is kept
 
@@ -58,10 +58,8 @@ stored name (Some n) v s = record s { arrays = with_value_at name n v s.arrays }
 unfoldable pub index : Program → Use → State → List Placed → Worked (Valued ℕ)
 index p u s nodes = then_on (worked p s nodes) (λ v t. valued t (used u (whole_of 32767 v)))
 
--- the indices after others
-abbrev pub indices : Program → Use → State → List ℕ → List (List Placed) → Worked (Valued (List ℕ))
-indices p u s found [] = Ok (record { value = found; after = s })
-indices p u s found (i ∷ is) = then_on (index p u s i) (λ n t. indices p u t (found ++ n ∷ []) is)
+unfoldable pub indices : Program → Use → State → List (List Placed) → Worked (Valued (List ℕ))
+indices p u s is = every (index p u) [] s is
 
 -- one more array, if the machine surely has room for it
 abbrev pub made_array : Use → State → Option Arrays → Worked State
@@ -95,7 +93,7 @@ element_in u s name is =
 abbrev pub place_for : Program → State → Target → List (List Placed) → Worked (Valued (Option ℕ))
 place_for p s t [] = Ok (record { value = None; after = s })
 place_for p s t (i ∷ is) = let u = use_at p s t.place in
-    then_on (indices p u s [] (i ∷ is)) (λ found r. element_in u r t.name found)
+    then_on (indices p u s (i ∷ is)) (λ found r. element_in u r t.name found)
 
 -- TI and ST cannot be assigned to; TI$ sets the clock, which is not taken
 abbrev pub is_system : Name → List (List Placed) → Bool
@@ -137,15 +135,17 @@ dimensioned u s name bounds None =
     (with_array (record { name = name; bounds = bounds; elements = [] }) (element_bytes name.kind * element_count bounds) s.arrays)
 
 -- a variable is not changed
-abbrev pub dimension : Program → State → Target → List (List Placed) → Worked State
-dimension p s t [] = Ok s
-dimension p s t (i ∷ is) = let u = use_at p s t.place in
-    then_on (indices p u s [] (i ∷ is)) (λ bounds r. dimensioned u r t.name bounds (array_of t.name r.arrays.list))
+abbrev pub dimension_with : Program → State → Target → List (List Placed) → Worked State
+dimension_with p s t [] = Ok s
+dimension_with p s t (i ∷ is) = let u = use_at p s t.place in
+    then_on (indices p u s (i ∷ is)) (λ bounds r. dimensioned u r t.name bounds (array_of t.name r.arrays.list))
+
+unfoldable pub dimension : Program → State → Target → Worked State
+dimension p s t = dimension_with p s t t.indices
 
 -- DIM
-abbrev pub dim_statement : Program → State → List Target → Worked State
-dim_statement p s [] = Ok s
-dim_statement p s (t ∷ ts) = and_then (dimension p s t t.indices) (λ r. dim_statement p r ts)
+unfoldable pub dim_statement : Program → State → List Target → Worked State
+dim_statement p s ts = each (dimension p) s ts
 
 -- ---- CLR
 
