@@ -40,8 +40,8 @@ array_with n v a = record a { elements = with_element (first_value a.name.kind) 
 
 -- an element of an array of these has a value
 abbrev pub with_element_of : Name → ℕ → Value → Option Array → List Array → List Array
-with_element_of name n v None as = as
-with_element_of name n v (Some a) as = replaced (λ x. same_name name x.name) (array_with n v a) as
+with_element_of name n v None list = list
+with_element_of name n v (Some a) list = replaced (λ x. same_name name x.name) (array_with n v a) list
 
 unfoldable pub with_value_at : Name → ℕ → Value → Arrays → Arrays
 with_value_at name n v arrays =
