@@ -1,2 +1,4 @@
 pub mod DataLemmas
 pub mod LoopLemmas
+pub mod OpenedLemmas
+pub mod ReplacedLemmas

@@ -1,0 +1,29 @@
+use Rattle.std.proofs.Common.{◌≡◌, ℕ, zero, suc, ◌+◌, ◌<◌, ◌≤◌, Bool, true, false, List, [], ◌∷◌, ◌++◌, length, get_or, set, Option, Some, None, arith, refl, sym, ap, inl, inr, absurd}
+use Rattle.std.proofs.lemmas.Bool.{cases_Bool}
+use Rattle.std.specs.List.{position_or_len}
+use Rattle.pr_interpreter.specs.declared.memory.Array.{Array}
+use Rattle.pr_interpreter.specs.declared.names.Name.{Name}
+use Rattle.pr_interpreter.specs.Memory.{array_of, same_name}
+use Rattle.pr_run.specs.Assignments.{replaced}
+
+-- there is one that is wanted
+pub replaced_at : {A : Type 0} (wanted : A → Bool) (a : A) (xs : List A) → position_or_len wanted xs < length xs
+    → replaced wanted a xs ≡ set xs (position_or_len wanted xs) a
+replaced_at wanted a [] h = absurd (omega arith)
+replaced_at {A = A} wanted a (x ∷ xs) h =
+    elim (cases_Bool (wanted x)) [
+      | inl yes ↦ rw yes refl
+      | inr no ↦
+          let less : position_or_len wanted xs < length xs = rw no at h in
+          rw no (ap (λ (ys : List A). x ∷ ys) (replaced_at wanted a xs less))
+    ]
+
+-- there is none
+pub replaced_end : {A : Type 0} (wanted : A → Bool) (a : A) (xs : List A) → length xs ≤ position_or_len wanted xs
+    → replaced wanted a xs ≡ xs ++ a ∷ []
+replaced_end wanted a [] h = refl
+replaced_end {A = A} wanted a (x ∷ xs) h =
+    elim (cases_Bool (wanted x)) [
+      | inl yes ↦ let none : suc (length xs) ≤ 0 = rw yes at h in absurd (omega arith)
+      | inr no ↦ rw no (ap (λ (ys : List A). x ∷ ys) (replaced_end wanted a xs (rw no at h)))
+    ]
