@@ -2,6 +2,8 @@ pub mod AnswerLemmas
 pub mod BitLemmas
 pub mod ConstantLemmas
 pub mod DecimalLemmas
+pub mod DecimalOfLemmas
+pub mod EvaluationLemmas
 pub mod ExactLemmas
 pub mod ExpressionLawLemmas
 pub mod KeywordLemmas

@@ -299,14 +299,16 @@ indexed place name w (Ok is) = in_array place name is w (array_of name w.arrays.
 abbrev pub Worker : Type 0
 Worker = ℕ → Scope → Working → List Placed → Working
 
--- what the nodes of a function leave has to be a number
-unfoldable pub returned : Working → Working → Working
-returned before after = record {
+-- after the nodes of a function there are as many things given as before, and strings, and a number: what they gave last
+unfoldable pub ended : ℕ → ℕ → Working → Working
+ended count strings after = record {
   arrays = after.arrays;
-  given = take (length before.given) after.given
-    ++ with_it (number_in (last_given after.given)) (λ n. Number n) ∷ [];
-  strings = before.strings;
+  given = take count after.given ++ with_it (number_in (last_given after.given)) (λ n. Number n) ∷ [];
+  strings = strings;
 }
+
+abbrev pub returned : Working → Working → Working
+returned before after = ended (length before.given) before.strings after
 
 abbrev pub with_parameter : Name → Known → Scope → Scope
 with_parameter name n scope = record scope { parameters = parameter name n ∷ scope.parameters }

@@ -73,7 +73,7 @@ function_of name (f ∷ fs) = if same_name name f.name then Some f else function
 
 abbrev pub array_of : Name → List Array → Option Array
 array_of name [] = None
-array_of name (a ∷ as) = if same_name name a.name then Some a else array_of name as
+array_of name (a ∷ more) = if same_name name a.name then Some a else array_of name more
 
 -- how many bytes an element has
 abbrev pub element_bytes : Kind → ℕ

@@ -1,7 +1,7 @@
 //! The value of an expression.
 
 ghost use Rattle.std.specs.Prelude.{◌≡◌, ◌⊎◌, ◌∷◌, [], Ok, Err, None, IfErr, IfOk, OnOk, MatchResult, count_by, length};
-ghost use Rattle.pr_interpreter.specs.Evaluation.{after, applied, arguments, called, element, evaluation, give, halt_at, in_array, index, indexed, indices, is_made, is_not_taken, kept, last_given, literal, middle_by, number_in, number_of_number, number_of_string, number_or, of_one_argument, of_strings, of_three_arguments, of_two, of_two_arguments, own, position_for, put, refused_for, returned, string_in, string_of_number, string_or, takes_strings, value_in, value_or, variable, with_it, with_parameter, without, worked, Working};
+ghost use Rattle.pr_interpreter.specs.Evaluation.{after, applied, arguments, called, element, ended, evaluation, give, halt_at, in_array, index, indexed, indices, is_made, is_not_taken, kept, last_given, literal, middle_by, number_in, number_of_number, number_of_string, number_or, of_one_argument, of_strings, of_three_arguments, of_two, of_two_arguments, own, position_for, put, refused_for, returned, string_in, string_of_number, string_or, takes_strings, value_in, value_or, variable, with_it, with_parameter, without, worked};
 ghost use Rattle.pr_interpreter.specs.ExpressionLaws.{operands};
 ghost use Rattle.pr_interpreter.specs.Functions.{middle, part_of, with_whole};
 ghost use Rattle.pr_interpreter.specs.Memory.{array_of, first_value, parameter, variable_value};
@@ -528,12 +528,12 @@ fn variable_given(
 #[tactic(auto, unfolding(crate::specs::Evaluation::variable))]
 fn variable(
     alloc: Global,
-    scope: Scope<'_>,
+    scope: &Scope<'_>,
     parameters: &[Parameter],
     place: usize,
     name: Name,
 ) -> Result<Given, AllocError>
-    ensures { IfOk result (λ g. g ≡ variable (scope_of parameters.now scope) place name) }
+    ensures { IfOk result (λ g. g ≡ variable (scope_of parameters.now scope.now) place name) }
 {
     if is_clock(name) {
         return Ok(Given::Stopped(Halt::NotTaken(place)));
@@ -658,8 +658,10 @@ impl Work {
     fn put(&mut self, given: Given) -> Result<(), AllocError>
         ensures { OnOk result (seen self.new ≡ put given (seen self.old)) }
     {
-        self.given.push(given)?;
-        Ok(())
+        match self.given.push(given) {
+            Ok(()) => Ok(()),
+            Err(_) => Err(AllocError),
+        }
     }
 
     /// Gives something more: of the strings for an expression alone there are at most three.
@@ -677,11 +679,18 @@ impl Work {
         self.put(given)
     }
 
+    /// Returns how much is given.
+    fn count(&self) -> usize
+        ensures { result ≡ length (seen self.now).given }
+    {
+        self.given.as_slice().len()
+    }
+
     /// Returns the last so many of what is given.
     fn arguments(&self, count: usize) -> &[Given]
         ensures { result.now ≡ arguments count (seen self.now) }
     {
-        &self.given[self.given.len().saturating_sub(count)..]
+        &self.given.as_slice()[self.count().saturating_sub(count)..]
     }
 
     /// Takes the last so many of what is given.
@@ -691,24 +700,24 @@ impl Work {
     {
         let made = made_count(self.arguments(count));
         self.strings = self.strings.saturating_sub(made);
-        self.given.truncate(self.given.len().saturating_sub(count));
+        self.given.truncate(self.count().saturating_sub(count));
     }
 
     /// Returns the number that is given last.
     fn last_number(&self) -> Result<Number, Halt>
         ensures { result ≡ number_in (last_given (seen self.now).given) }
     {
-        match self.given.as_slice() {
-            [.., last] => number_in(last),
-            [] => Err(NOTHING),
+        let count = self.count();
+        if count == 0 {
+            return Err(NOTHING);
         }
+        number_in(&self.given.as_slice()[count - 1])
     }
 
     /// Leaves of what a function's nodes gave the last, which has to be a number.
-    #[tactic(auto, unfolding(crate::specs::Evaluation::returned))]
-    fn leave(&mut self, count: usize, strings: usize) -> Result<(), AllocError>
-        ensures { (before : Working) → count ≡ length before.given → strings ≡ before.strings
-            → OnOk result (seen self.new ≡ returned before (seen self.old)) }
+    #[tactic(auto, unfolding(crate::specs::Evaluation::ended))]
+    fn end(&mut self, count: usize, strings: usize) -> Result<(), AllocError>
+        ensures { OnOk result (seen self.new ≡ ended count strings (seen self.old)) }
     {
         let given = match self.last_number() {
             Ok(number) => Given::Number(number),
@@ -738,12 +747,12 @@ impl Work {
     fn give_variable(
         &mut self,
         alloc: Global,
-        scope: Scope<'_>,
+        scope: &Scope<'_>,
         parameters: &[Parameter],
         place: usize,
         name: Name,
     ) -> Result<(), AllocError>
-        ensures { OnOk result (seen self.new ≡ give (variable (scope_of parameters.now scope) place name) (seen self.old)) }
+        ensures { OnOk result (seen self.new ≡ give (variable (scope_of parameters.now scope.now) place name) (seen self.old)) }
     {
         let given = variable(alloc, scope, parameters, place, name)?;
         self.give(given)
@@ -783,6 +792,7 @@ impl Work {
     }
 
     /// Makes an array that is used before DIM, if there is room, and gives an element.
+    #[tactic(auto, using(crate::proofs::EvaluationLemmas::no_room), unfolding(crate::specs::Evaluation::in_array))]
     fn in_new(
         &mut self,
         alloc: Global,
@@ -797,7 +807,8 @@ impl Work {
         let Some(bytes) = undimensioned_bytes(name.kind, indices.len()) else {
             return self.give(Given::Stopped(Halt::NotTaken(place)));
         };
-        if self.arrays.add(alloc, array, bytes)? {
+        let is_added = self.arrays.add(alloc, array, bytes)?;
+        if is_added {
             self.give(given)
         } else {
             self.give(Given::Stopped(Halt::NotTaken(place)))
@@ -805,6 +816,7 @@ impl Work {
     }
 
     /// Works out an element of an array.
+    #[tactic(auto, using(crate::proofs::EvaluationLemmas::in_array_some, crate::proofs::EvaluationLemmas::in_array_none))]
     fn in_array(
         &mut self,
         alloc: Global,
@@ -814,7 +826,8 @@ impl Work {
     ) -> Result<(), AllocError>
         ensures { OnOk result (seen self.new ≡ in_array place name indices.now (seen self.old) (array_of name (seen self.old).arrays.list)) }
     {
-        match element_of(alloc, name, self.arrays.list.as_slice(), indices)? {
+        let found = element_of(alloc, name, self.arrays.list.as_slice(), indices)?;
+        match found {
             Some(given) => self.give(given),
             None => self.in_new(alloc, place, name, indices),
         }
@@ -845,20 +858,20 @@ impl Work {
         &mut self,
         alloc: Global,
         depth: usize,
-        scope: Scope<'_>,
+        scope: &Scope<'_>,
         parameters: &[Parameter],
         place: usize,
         function: &Function,
         number: Number,
     ) -> Result<(), AllocError>
         ensures { OnOk result (seen self.new ≡ returned (seen self.old)
-            (worked depth place (with_parameter function.now.variable number (scope_of parameters.now scope)) (seen self.old) function.now.value)) }
+            (worked depth place (with_parameter function.now.variable number (scope_of parameters.now scope.now)) (seen self.old) function.now.value)) }
     {
         let inner = with_parameter(alloc, function.variable, number, parameters)?;
-        let count = self.given.len();
+        let count = self.count();
         let strings = self.strings;
         self.work(alloc, depth, scope, inner.as_slice(), place, function.value.as_slice())?;
-        self.leave(count, strings)
+        self.end(count, strings)
     }
 
     /// Works out a function of the program.
@@ -867,12 +880,12 @@ impl Work {
         &mut self,
         alloc: Global,
         depth: usize,
-        scope: Scope<'_>,
+        scope: &Scope<'_>,
         parameters: &[Parameter],
         place: usize,
         name: Name,
     ) -> Result<(), AllocError>
-        ensures { OnOk result (seen self.new ≡ own (worked depth) place (scope_of parameters.now scope) (without 1 (seen self.old)) name
+        ensures { OnOk result (seen self.new ≡ own (worked depth) place (scope_of parameters.now scope.now) (without 1 (seen self.old)) name
             (number_in (last_given (seen self.old).given))) }
     {
         let number = self.last_number();
@@ -893,12 +906,12 @@ impl Work {
         &mut self,
         alloc: Global,
         depth: usize,
-        scope: Scope<'_>,
+        scope: &Scope<'_>,
         parameters: &[Parameter],
         place: usize,
         node: Node,
     ) -> Result<(), AllocError>
-        ensures { OnOk result (seen self.new ≡ after (worked depth) (scope_of parameters.now scope) (seen self.old) place node) }
+        ensures { OnOk result (seen self.new ≡ after (worked depth) (scope_of parameters.now scope.now) (seen self.old) place node) }
     {
         match node {
             Node::Number(constant) => self.give(number_or(place, calculated(value_of(constant)))),
@@ -917,16 +930,17 @@ impl Work {
 
     /// Works out nodes from left to right, where functions may call others so many deep.
     #[cycle(work)]
+    #[tactic(auto, using(crate::proofs::EvaluationLemmas::worked_more, crate::proofs::EvaluationLemmas::worked_none))]
     fn work(
         &mut self,
         alloc: Global,
         depth: usize,
-        scope: Scope<'_>,
+        scope: &Scope<'_>,
         parameters: &[Parameter],
         place: usize,
         nodes: &[Placed],
     ) -> Result<(), AllocError>
-        ensures { OnOk result (seen self.new ≡ worked depth place (scope_of parameters.now scope) (seen self.old) nodes.now) }
+        ensures { OnOk result (seen self.new ≡ worked depth place (scope_of parameters.now scope.now) (seen self.old) nodes.now) }
     {
         if depth == 0 {
             return self.give(Given::Stopped(Halt::NotTaken(place)));
@@ -979,13 +993,13 @@ const DEPTH: usize = 10;
 #[tactic(auto, unfolding(crate::specs::Evaluation::evaluation))]
 pub fn evaluate(
     alloc: Global,
-    scope: Scope<'_>,
+    scope: &Scope<'_>,
     arrays: &mut Arrays,
     nodes: &[Placed],
 ) -> Result<Value, Halt>
-    ensures ok { IfOk result (λ v. evaluation (scope_of [] scope) arrays.old nodes.now ≡ ends_as v arrays.new) }
+    ensures ok { IfOk result (λ v. evaluation (scope_of [] scope.now) arrays.old nodes.now ≡ ends_as v arrays.new) }
     ensures err { IfErr result (λ halt. (halt ≡ Halt.OutOfMemory)
-        ⊎ ((evaluation (scope_of [] scope) arrays.old nodes.now).value ≡ Err halt)) }
+        ⊎ ((evaluation (scope_of [] scope.now) arrays.old nodes.now).value ≡ Err halt)) }
 {
     let mut work = Work {
         arrays: mem::replace(arrays, Arrays::new(alloc)),

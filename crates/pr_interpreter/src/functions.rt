@@ -135,7 +135,7 @@ pub fn square_root(number: Number) -> Result<Number, Stop>
 }
 
 /// Returns what is printed of a number without what follows it, as STR$.
-#[tactic(auto, unfolding(crate::specs::Functions::number_text))]
+#[tactic(auto, using(crate::proofs::DecimalOfLemmas::text_some, crate::proofs::DecimalOfLemmas::text_none))]
 pub fn number_text(alloc: Global, number: Number) -> Result<Result<Sequence<u8>, Stop>, AllocError>
     ensures { IfOk result (λ r. r ≡ number_text number) }
 {

@@ -23,20 +23,13 @@
 //!   and `program` reads the lines of a text with their statements; `specs/Reading.antt`, `specs/Statements.antt` and
 //!   `specs/Programs.antt` define how.
 //! - `values` has what operators give of two numbers or two strings; `specs/Values.antt` defines it.
+//! - `evaluation` has the value of an expression, with `functions` and `memory`, which has variables, arrays and
+//!   functions of the program; `specs/Evaluation.antt`, `specs/Functions.antt` and `specs/Memory.antt` define it.
 //! - `laws` has what is proved of the definitions: what the machine may answer to a calculation
 //!   (`specs/Machine.antt`) is in the number that the calculation gives, for all values in its operands; what is
 //!   printed of a number is so for each of its values; the lines of a text are sorted.
 //!
 //! # How the rest is to be built on it
-//!
-//! **Values.** A value is a number or a string of at most 255 bytes. A variable has a name of at most two
-//! significant characters and a kind: number, whole number (`%`) or string (`$`); arrays are apart.
-//!
-//! **Expressions.** An expression is a list of nodes, each with its place (the number of bytes before it), operands
-//! before what takes them. Its value is a fold over the nodes with a stack of values, where a stop is a fault of BASIC
-//! (an error with its line, which ends the run) or a refusal (`not certain`, or what is refused by name) with its
-//! place: the first stop counts. A number goes into an index, `TAB`, `CHR$` or `ON` by [`floor`], and into a text by
-//! [`decimal_of`] and [`text_of`], which answer only if the whole span gives one answer.
 //!
 //! **Statements.** A state is the variables, the arrays, the loops and returns that are open (a stack), the
 //! place in DATA, the files, the column of the screen (known or not), and the place of the next statement.
@@ -89,7 +82,7 @@ pub use functions::whole_to;
 pub use fault::{NumberFault, ProgramFault};
 pub use lexemes::{Lexeme, Word, lexemes_of};
 pub use lines::{Line, lines_of};
-pub use memory::{Array, Arrays, Function, Parameter, Scope, Variable};
+pub use memory::{Array, Arrays, Function, Scope, Variable};
 pub use names::{Kind, Name};
 pub use number::{Number, Sign, product, quotient};
 pub use orders::{Order, order_of};

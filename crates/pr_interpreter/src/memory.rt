@@ -1,7 +1,7 @@
 //! What the machine keeps while a program runs: variables, arrays and functions.
 
-ghost use Rattle.std.specs.Prelude.{◌≡◌, ◌+◌, ◌*◌, ◌^◌, ◌++◌, ◌∷◌, [], length, None, Some, ◌<◌, if◌then◌else◌, nat_le, replicate, MatchOption, IfOk};
-ghost use Rattle.pr_interpreter.specs.Memory.{added, array_of, element_bytes, function_of, is_clock, is_status, no_arrays, parameter, parameter_of, place_of, same_kind, same_name, same_second, undimensioned};
+ghost use Rattle.std.specs.Prelude.{◌≡◌, ◌+◌, ◌*◌, ◌^◌, ◌<◌, ◌≤◌, None, Some, if◌then◌else◌, nat_le, replicate, MatchOption, IfOk};
+ghost use Rattle.pr_interpreter.specs.Memory.{added, array_of, element_bytes, function_of, is_clock, is_status, no_arrays, parameter_of, place_of, same_kind, same_name, same_second, undimensioned};
 
 use crate::names::{Kind, Name};
 use crate::number::Number;
@@ -181,14 +181,24 @@ fn element_bytes(kind: Kind) -> usize
     }
 }
 
+/// Returns how many elements an array with so many dimensions has that is used before DIM.
+#[tactic(auto, using(crate::proofs::MemoryLemmas::few_elements))]
+fn elevens(count: usize) -> usize
+    requires { count ≤ 4 }
+    ensures value { result ≡ 11 ^ count }
+    ensures within { result ≤ 11 ^ 4 }
+{
+    11usize.pow(count as u32)
+}
+
 /// Returns how many bytes the elements of an array with so many dimensions have that is used before DIM; None of five
 /// and more, for which there is no room.
-#[tactic(auto, using(crate::proofs::MemoryLemmas::too_many))]
+#[tactic(auto, using(crate::proofs::MemoryLemmas::too_many, crate::proofs::MemoryLemmas::bytes_fit))]
 pub fn undimensioned_bytes(kind: Kind, count: usize) -> Option<usize>
     ensures value { MatchOption result (30000 < element_bytes kind * 11 ^ count) (λ n. n ≡ element_bytes kind * 11 ^ count) }
 {
     if count <= 4 {
-        Some(element_bytes(kind) * 11usize.pow(count as u32))
+        Some(element_bytes(kind) * elevens(count))
     } else {
         None
     }
@@ -198,11 +208,7 @@ pub fn undimensioned_bytes(kind: Kind, count: usize) -> Option<usize>
 fn tens(alloc: Global, count: usize) -> Result<Vec<u16>, AllocError>
     ensures { IfOk result (λ bounds. bounds.items ≡ replicate count 10) }
 {
-    let mut bounds = Vec::new(alloc);
-    for _ in 0..count {
-        bounds.push(10)?;
-    }
-    Ok(bounds)
+    Ok(vec![in alloc; 10; count]?)
 }
 
 /// Returns an array that is used before DIM.
@@ -246,6 +252,7 @@ impl Arrays {
 }
 
 /// Returns the place of an element among those of its array.
+#[tactic(auto, using(crate::proofs::MemoryLemmas::place_fits, crate::proofs::MemoryLemmas::place_differs, crate::proofs::MemoryLemmas::place_outside, crate::proofs::MemoryLemmas::place_beyond, crate::proofs::MemoryLemmas::place_goes, crate::proofs::MemoryLemmas::place_ends))]
 pub fn place_of(bounds: &[u16], indices: &[u16]) -> Option<u32>
     ensures { result ≡ place_of 0 bounds.now indices.now }
 {
@@ -255,7 +262,10 @@ pub fn place_of(bounds: &[u16], indices: &[u16]) -> Option<u32>
     let mut place = 0;
     for (i, bound) in bounds.iter().enumerate() {
         let next = place * (u32::from(*bound) + 1) + u32::from(indices[i]);
-        if *bound < indices[i] || ELEMENTS <= next {
+        if *bound < indices[i] {
+            return None;
+        }
+        if ELEMENTS <= next {
             return None;
         }
         place = next;
