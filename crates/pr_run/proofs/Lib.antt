@@ -2,3 +2,4 @@ pub mod DataLemmas
 pub mod LoopLemmas
 pub mod OpenedLemmas
 pub mod ReplacedLemmas
+pub mod RunLawLemmas

@@ -6,6 +6,7 @@ pub mod Lists
 pub mod Opened
 pub mod Outputs
 pub mod Places
+pub mod RunLaws
 pub mod Runs
 pub mod Seen
 pub mod States

@@ -21,7 +21,7 @@ pub struct DataItem {
 }
 
 /// Returns the bytes of a text from a place to another one, as far as it has them.
-#[tactic(auto, using(crate::proofs::DataLemmas::clamped))]
+#[tactic(auto, using(crate::proofs::DataLemmas::clamped, crate::proofs::DataLemmas::clamped_none))]
 pub fn slice_of(text: &[u8], start: usize, end: usize) -> &[u8]
     ensures { result.now ≡ slice_range text.now start end }
 {

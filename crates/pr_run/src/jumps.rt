@@ -6,7 +6,7 @@ ghost use Rattle.pr_run.specs.Jumps.{advanced, begun, branch, chosen, for_kind, 
 ghost use Rattle.pr_interpreter.specs.Numbers.{sum};
 ghost use Rattle.pr_interpreter.specs.Values.{calculated};
 ghost use Rattle.pr_run.specs.Opened.{loop_of};
-ghost use Rattle.pr_run.specs.Seen.{EndsAs, gives, passes, state_of};
+ghost use Rattle.pr_run.specs.Seen.{EndsAs, NextLeads, gives, passes, state_of};
 
 use crate::ending::{Ending, Refusal};
 use crate::opened::{Direction, Loop, Open, has_room, loop_of, take_caller};
@@ -408,6 +408,7 @@ fn next_variable(
 ) -> Result<bool, Ending>
     ensures ok { IfOk result (λ b. next_variable program.now (state_of run.old) target.now ≡ passes b run.new) }
     ensures err { IfErr result (λ e. EndsAs e (next_variable program.now (state_of run.old) target.now)) }
+    ensures leads { IfOk result (λ b. NextLeads program.now (state_of run.old) target.now b (state_of run.new)) }
 {
     let line = line_at(program, run);
     if !is_loop_name(target.name.kind, target.indices.as_slice()) {

@@ -27,6 +27,7 @@ mod performed;
 mod place;
 mod programs;
 mod run;
+pub mod run_laws;
 mod state;
 mod steps;
 mod uses;

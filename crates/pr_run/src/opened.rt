@@ -52,6 +52,7 @@ fn is_wanted(wanted: Option<Name>, name: Name) -> bool
 
 /// Finds the last loop of a name, or of any, among those since the last GOSUB; what is open is in the order of opening.
 /// Returns how many come before it, and the loop.
+#[tactic(auto, using(crate::proofs::OpenedLemmas::loop_is, crate::proofs::OpenedLemmas::loop_other, crate::proofs::OpenedLemmas::loop_hidden, crate::proofs::OpenedLemmas::last_first))]
 pub fn loop_of(wanted: Option<Name>, opened: &[Open]) -> Option<(usize, Loop)>
     ensures { MatchOption result (loop_of wanted (reverse opened.now) ≡ None) (FindsLoop wanted opened.now) }
 {
@@ -71,6 +72,7 @@ pub fn loop_of(wanted: Option<Name>, opened: &[Open]) -> Option<(usize, Loop)>
 }
 
 /// Leaves the last call of GOSUB and the loops since then. Returns where it goes on.
+#[tactic(auto, using(crate::proofs::OpenedLemmas::caller_is, crate::proofs::OpenedLemmas::caller_before))]
 pub fn take_caller(opened: &mut Vec<Open>) -> Option<Place>
     ensures { MatchOption result (caller_of (reverse opened.old.items) ≡ None) (FindsCaller opened.old.items opened.new.items) }
 {
@@ -94,6 +96,7 @@ fn open_size(open: &Open) -> usize
 }
 
 /// Returns whether the machine's stack surely has room for something more.
+#[tactic(auto, using(crate::proofs::OpenedLemmas::size_reverse))]
 pub fn has_room(opened: &[Open], more: &Open) -> bool
     ensures { result ≡ nat_le (stack_size (more.now ∷ reverse opened.now)) stack_limit }
 {

@@ -45,7 +45,7 @@ fn function_place(name: Name, functions: &[Function]) -> usize
 }
 
 /// Defines a function.
-#[tactic(auto, unfolding(crate::specs::Steps::with_function))]
+#[tactic(auto, using(crate::proofs::ReplacedLemmas::replaced_at, crate::proofs::ReplacedLemmas::replaced_end), unfolding(crate::specs::Steps::with_function))]
 fn set_function(functions: &mut Vec<Function>, function: Function) -> Result<(), Ending>
     ensures ok { OnOk result (functions.new.items ≡ with_function function functions.old.items) }
     ensures err { IfErr result (λ e. e ≡ Ending.OutOfMemory) }

@@ -66,7 +66,7 @@ pub fn worked(
         column: if run.at_left { Some(0) } else { None },
         has_sent: run.has_sent,
     };
-    match evaluate(alloc, scope, &mut run.arrays, nodes) {
+    match evaluate(alloc, &scope, &mut run.arrays, nodes) {
         Ok(value) => Ok(value),
         Err(halt) => Err(halted(line, halt)),
     }
