@@ -3,3 +3,4 @@ pub mod LoopLemmas
 pub mod OpenedLemmas
 pub mod ReplacedLemmas
 pub mod RunLawLemmas
+pub mod UseLemmas

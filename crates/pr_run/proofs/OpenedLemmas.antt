@@ -1,6 +1,7 @@
-use Rattle.std.proofs.Common.{◌≡◌, ℕ, suc, ◌+◌, ◌<◌, ◌≤◌, Bool, true, false, nat_le, List, [], ◌∷◌, ◌++◌, length, take, drop, reverse, get_or, Option, Some, None, arith, refl, sym, ap, ◌∙◌, add-one}
+use Rattle.std.proofs.Common.{◌≡◌, ℕ, suc, ◌+◌, ◌<◌, ◌≤◌, Bool, true, false, nat_le, List, [], ◌∷◌, ◌++◌, length, take, drop, reverse, get_or, Option, Some, None, arith, refl, sym, ap, ◌∙◌, add-one, drop-cons}
 use Rattle.std.proofs.Math.Seq.{take-suc}
-use Rattle.std.proofs.lemmas.List.{reverse-append, take_all}
+use Rattle.std.proofs.lemmas.List.{drop_all, reverse-append}
+use Rattle.std.proofs.lemmas.Bool.{le-leb, lt-leb}
 use Rattle.pr_interpreter.specs.declared.names.Name.{Name}
 use Rattle.pr_run.specs.declared.opened.Loop.{Loop}
 use Rattle.pr_run.specs.declared.opened.Open.{Open}
@@ -23,13 +24,13 @@ no_loop = None
 pub loop_is : (wanted : Option Name) (xs : List Open) (k : ℕ) (d : Open) (l : Loop) → k < length xs
     → get_or xs k d ≡ Looping l → is_wanted wanted l.variable ≡ true
     → loop_of wanted (reverse (take (k + 1) xs)) ≡ found_loop l (reverse (take k xs))
-loop_is wanted xs k d l h e yes = rw (last_first xs k d h, e, yes) refl
+loop_is wanted xs k d l h e is = rw (last_first xs k d h, e, is) refl
 
 -- it is another one
 pub loop_other : (wanted : Option Name) (xs : List Open) (k : ℕ) (d : Open) (l : Loop) → k < length xs
     → get_or xs k d ≡ Looping l → is_wanted wanted l.variable ≡ false
     → loop_of wanted (reverse (take (k + 1) xs)) ≡ loop_of wanted (reverse (take k xs))
-loop_other wanted xs k d l h e no = rw (last_first xs k d h, e, no) refl
+loop_other wanted xs k d l h e is = rw (last_first xs k d h, e, is) refl
 
 -- a call of GOSUB hides what was opened before
 pub loop_hidden : (wanted : Option Name) (xs : List Open) (k : ℕ) (d : Open) (p : Place) → k < length xs
@@ -55,7 +56,7 @@ caller_before old new l e = rw (popped old new (Looping l) e) refl
 -- ---- the machine's stack
 
 pub size_append : (xs ys : List Open) → stack_size (xs ++ ys) ≡ stack_size xs + stack_size ys
-size_append [] ys = refl
+size_append [] ys = omega arith
 size_append (x ∷ xs) ys = let e = size_append xs ys in omega arith
 
 pub size_reverse : (xs : List Open) → stack_size (reverse xs) ≡ stack_size xs
@@ -65,3 +66,23 @@ size_reverse (x ∷ xs) =
     let both : stack_size (reverse (x ∷ xs)) ≡ stack_size (reverse xs) + stack_size (x ∷ []) =
     rw (reverse-append (x ∷ []) xs) (size_append (reverse xs) (x ∷ [])) in
     omega arith
+
+-- with one thing more there is no room
+pub room_full : (more o : Open) (xs : List Open) (i size n : ℕ) → i < length xs → o ≡ get_or xs i o → n ≡ open_size o
+    → size + stack_size (drop i xs) ≡ open_size more + stack_size xs → 162 < size + n
+    → nat_le (open_size more + stack_size (reverse xs)) 162 ≡ false
+room_full more o xs i size n h item taken all large =
+    let cut : drop i xs ≡ get_or xs i o ∷ drop (i + 1) xs = rw add-one (drop-cons xs i o h) in
+    let sizes : stack_size (drop i xs) ≡ open_size (get_or xs i o) + stack_size (drop (i + 1) xs) = rw cut refl in
+    let same : open_size (get_or xs i o) ≡ open_size o = ap (λ (p : Open). open_size p) (sym item) in
+    let back = size_reverse xs in
+    lt-leb _ _ (omega arith)
+
+-- nothing is left, and there is room
+pub room_left : (more : Open) (xs : List Open) (i size : ℕ) → length xs ≤ i
+    → size + stack_size (drop i xs) ≡ open_size more + stack_size xs → size ≤ 162
+    → nat_le (open_size more + stack_size (reverse xs)) 162 ≡ true
+room_left more xs i size h all few =
+    let none : stack_size (drop i xs) ≡ 0 = rw (drop_all xs i h) refl in
+    let back = size_reverse xs in
+    le-leb _ _ (omega arith)

@@ -12,10 +12,10 @@ pub replaced_at : {A : Type 0} (wanted : A → Bool) (a : A) (xs : List A) → p
 replaced_at wanted a [] h = absurd (omega arith)
 replaced_at {A = A} wanted a (x ∷ xs) h =
     elim (cases_Bool (wanted x)) [
-      | inl yes ↦ rw yes refl
-      | inr no ↦
-          let less : position_or_len wanted xs < length xs = rw no at h in
-          rw no (ap (λ (ys : List A). x ∷ ys) (replaced_at wanted a xs less))
+      | inl hit ↦ rw hit refl
+      | inr miss ↦
+          let less : position_or_len wanted xs < length xs = rw miss at h in
+          rw miss (ap (λ (ys : List A). x ∷ ys) (replaced_at wanted a xs less))
     ]
 
 -- there is none
@@ -24,6 +24,6 @@ pub replaced_end : {A : Type 0} (wanted : A → Bool) (a : A) (xs : List A) → 
 replaced_end wanted a [] h = refl
 replaced_end {A = A} wanted a (x ∷ xs) h =
     elim (cases_Bool (wanted x)) [
-      | inl yes ↦ let none : suc (length xs) ≤ 0 = rw yes at h in absurd (omega arith)
-      | inr no ↦ rw no (ap (λ (ys : List A). x ∷ ys) (replaced_end wanted a xs (rw no at h)))
+      | inl hit ↦ let none : suc (length xs) ≤ 0 = rw hit at h in absurd (omega arith)
+      | inr miss ↦ rw miss (ap (λ (ys : List A). x ∷ ys) (replaced_end wanted a xs (rw miss at h)))
     ]

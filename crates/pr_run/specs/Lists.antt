@@ -1,6 +1,5 @@
 -- Trusted: the bytes of the lists of PRINT, PRINT# and CMD.
-use Rattle.std.specs.Prelude.{ℕ, ◌==◌, Bool, true, false, List, [], ◌∷◌, ◌++◌, length, replicate, nat_le, if◌then◌else◌, Option, Some, None, Ok, Err}
-use Rattle.std.specs.List.{last_or}
+use Rattle.std.specs.Prelude.{ℕ, ◌==◌, Bool, true, false, List, [], ◌∷◌, ◌++◌, length, replicate, nat_le, if◌then◌else◌, Ok, Err}
 use Rattle.pr_basic.specs.Limits.{byte_limit}
 use Rattle.pr_basic.specs.Text.{Text as Line}
 use Rattle.pr_interpreter.specs.declared.statements.Item.{Item}
@@ -55,14 +54,14 @@ part_bytes p u s Comma = valued s (at_column u s (steps_right s.channel 10))
 part_bytes p u s Semicolon = valued s (Ok [])
 
 -- the cursor is at the left after bytes that end with a return; after none it stays
-abbrev pub at_left_after : Bool → Option ℕ → Bool
-at_left_after before None = before
-at_left_after before (Some b) = b == 13
+abbrev pub at_left_after : Bool → List ℕ → Bool
+at_left_after before [] = before
+at_left_after before (b ∷ bs) = at_left_after (b == 13) bs
 
 -- the screen shows bytes if no file has the output
 abbrev pub shown : List ℕ → State → State
 shown bytes s =
-    record s { at_left = if s.channel == 0 then at_left_after s.at_left (last_or None bytes) else s.at_left }
+    record s { at_left = if s.channel == 0 then at_left_after s.at_left bytes else s.at_left }
 
 -- a list has at most 255 bytes
 abbrev pub fitting : Use → List ℕ → Worked (List ℕ)

@@ -1,7 +1,6 @@
 //! The bytes of the lists of PRINT, PRINT# and CMD.
 
 ghost use Rattle.std.specs.Prelude.{◌≡◌, ◌++◌, ◌∷◌, ◌≤◌, [], IfErr, IfOk, OnOk, length, true};
-ghost use Rattle.std.specs.List.{last_or};
 ghost use Rattle.pr_basic.specs.Limits.{byte_limit};
 ghost use Rattle.pr_run.specs.Lists.{at_column, at_left_after, ends_after, fitting, is_value, number_bytes, part_bytes, printed, shown, step_byte, steps_right, tab_bytes, space_bytes, value_bytes, with_part, with_parts};
 ghost use Rattle.pr_run.specs.Seen.{EndsAs, PartLeads, gives, state_of};
@@ -159,12 +158,13 @@ fn part_bytes(
 
 /// Returns whether the screen's cursor is at the left after bytes.
 fn at_left_after(before: bool, bytes: &[u8]) -> bool
-    ensures { result ≡ at_left_after before (last_or None bytes.now) }
+    ensures { result ≡ at_left_after before bytes.now }
 {
-    match bytes.last() {
-        Some(last) => *last == 13,
-        None => before,
+    let mut at_left = before;
+    for b in bytes {
+        at_left = *b == 13;
     }
+    at_left
 }
 
 /// Shows bytes on the screen, if no file has the output.
@@ -240,10 +240,11 @@ fn is_value(part: &Part) -> bool
 fn ends_line(items: &[Item]) -> bool
     ensures { result ≡ ends_after true items.now }
 {
-    match items.last() {
-        Some(last) => is_value(&last.part),
-        None => true,
+    let mut ends = true;
+    for item in items {
+        ends = is_value(&item.part);
     }
+    ends
 }
 
 /// Returns what a list prints.

@@ -11,7 +11,7 @@ use pr_interpreter::{Name, Number, same_name};
 const STACK: usize = 162;
 
 /// Which way a loop goes, by the sign of its step.
-#[derive(Clone, Copy, Debug, PartialEq, Eq)]
+#[derive(Clone, Copy)]
 pub enum Direction {
     /// The step is above 0: the loop ends when its variable is above the limit.
     Up,
@@ -22,7 +22,7 @@ pub enum Direction {
 }
 
 /// A loop that FOR began.
-#[derive(Clone, Copy, Debug)]
+#[derive(Clone, Copy)]
 pub struct Loop {
     pub variable: Name,
     pub limit: Number,
@@ -33,7 +33,7 @@ pub struct Loop {
 }
 
 /// What is open.
-#[derive(Clone, Copy, Debug)]
+#[derive(Clone, Copy)]
 pub enum Open {
     Looping(Loop),
     /// A call of GOSUB, and where RETURN goes on.
@@ -96,7 +96,6 @@ fn open_size(open: &Open) -> usize
 }
 
 /// Returns whether the machine's stack surely has room for something more.
-#[tactic(auto, using(crate::proofs::OpenedLemmas::size_reverse))]
 pub fn has_room(opened: &[Open], more: &Open) -> bool
     ensures { result ≡ nat_le (stack_size (more.now ∷ reverse opened.now)) stack_limit }
 {

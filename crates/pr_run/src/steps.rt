@@ -26,7 +26,7 @@ use pr_page::Sequence;
 use std::alloc::Global;
 
 /// What a step performs, if it is something for output, and how the run ends, if it does.
-#[derive(Debug, Drop)]
+#[derive(Drop)]
 pub struct Done {
     pub performed: Option<Performed>,
     pub ending: Option<Ending>,

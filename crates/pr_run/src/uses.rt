@@ -1,6 +1,6 @@
 //! What the values of a statement give.
 
-ghost use Rattle.std.specs.Prelude.{◌≡◌};
+ghost use Rattle.std.specs.Prelude.{◌≡◌, ◌≤◌, IfOk};
 ghost use Rattle.pr_run.specs.Uses.{direction_by, ending_of, ends_loop, first_place, halted, is_long, kept, may_end, may_go_on, number_of, number_value, place_from, short_of, short_value, truth_of, used, whole_of};
 
 use crate::ending::{Ending, Refusal};
@@ -10,7 +10,7 @@ use pr_interpreter::{
 };
 
 /// Where a value is used.
-#[derive(Clone, Copy, Debug, PartialEq, Eq)]
+#[derive(Clone, Copy)]
 pub struct Use {
     /// The number of the line.
     pub line: u16,
@@ -78,8 +78,10 @@ pub fn number_of(value: Value) -> Result<Number, Stop>
 }
 
 /// Returns the whole number, from 0 to a greatest one, that a value has to be.
+#[tactic(auto, using(crate::proofs::UseLemmas::whole_fits))]
 pub fn whole_of(greatest: u16, value: Value) -> Result<u16, Stop>
-    ensures { result ≡ whole_of greatest value }
+    ensures value { result ≡ whole_of greatest value }
+    ensures within { IfOk result (λ n. n ≤ greatest) }
 {
     match value {
         Value::Number(number) => whole_to(greatest, number),
