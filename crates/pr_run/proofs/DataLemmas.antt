@@ -6,7 +6,8 @@ use Rattle.pr_run.specs.Data.{front_item, front_size, more_items}
 -- an end behind a list is that of the list
 pub clamped : (xs : List ℕ) (start end : ℕ) → slice_range xs start (min end (length xs)) ≡ slice_range xs start end
 clamped xs start end =
-    let e : min end (length xs) - start ≡ min (end - start) (length (drop start xs)) = omega (arith, length-drop start xs) in
+    let e : min end (length xs) - start ≡ min (end - start) (length (drop start xs)) =
+    omega (arith, length-drop start xs) in
     rw e (take_min (end - start) (drop start xs))
 
 -- nothing is left before a start

@@ -107,7 +107,8 @@ system_ending u Short = Error Syntax u.line
 
 unfoldable pub target_place : Program → State → Target → Worked (Valued (Option ℕ))
 target_place p s t =
-    if is_system t.name t.indices then Err (system_ending (use_at p s t.place) t.name.kind) else place_for p s t t.indices
+    if is_system t.name t.indices then Err (system_ending (use_at p s t.place) t.name.kind)
+    else place_for p s t t.indices
 
 -- ---- LET
 
@@ -131,8 +132,8 @@ element_count (b ∷ bs) = (b + 1) * element_count bs
 abbrev pub dimensioned : Use → State → Name → List ℕ → Option Array → Worked State
 dimensioned u s name bounds (Some a) = Err (Error RedimensionedArray u.line)
 dimensioned u s name bounds None =
-    made_array u s
-    (with_array (record { name = name; bounds = bounds; elements = [] }) (element_bytes name.kind * element_count bounds) s.arrays)
+    let a : Array = record { name = name; bounds = bounds; elements = [] } in
+    made_array u s (with_array a (element_bytes name.kind * element_count bounds) s.arrays)
 
 -- a variable is not changed
 abbrev pub dimension_with : Program → State → Target → List (List Placed) → Worked State

@@ -111,7 +111,8 @@ begun u name limit step d s =
 unfoldable pub with_step : Program → Name → Option (List Placed) → Known → State → Worked State
 with_step p name step limit s =
     then_on (step_of p s step)
-    (λ by t. and_then (used (step_use p t step) (direction_by (order_of by zero_number))) (λ d. begun (line_use p t) name limit by d t))
+    (λ by t. and_then (used (step_use p t step) (direction_by (order_of by zero_number)))
+    (λ d. begun (line_use p t) name limit by d t))
 
 -- what comes after the first value of a loop's variable
 unfoldable pub with_limit : Program → Name → List Placed → Option (List Placed) → State → Worked State

@@ -42,7 +42,8 @@ unnamed (name ∷ names) more = Err (Refused FileName (first_place name))
 
 -- the numbers of a file
 abbrev pub file_numbers : Program → State → List (List Placed) → Worked (Valued (List ℕ))
-file_numbers p s is = then_on (numbers p s (take 3 is)) (λ found t. unnamed (drop 3 is) (Ok (record { value = found; after = t })))
+file_numbers p s is =
+    then_on (numbers p s (take 3 is)) (λ found t. unnamed (drop 3 is) (Ok (record { value = found; after = t })))
 
 abbrev pub is_open : ℕ → List ℕ → Bool
 is_open file files = list_any (λ f. f == file) files

@@ -41,4 +41,4 @@ Runs p zero s performed ending = (performed ≡ []) × (ending ≡ TooManySteps 
 Runs p (suc n) s performed ending =
     Stops p s performed ending
     ⊎ ((t : State) × (done : List Performed) × (rest : List Performed)
-        × Steps p s done t × Runs p n t rest ending × (performed ≡ done ++ rest))
+    × Steps p s done t × Runs p n t rest ending × (performed ≡ done ++ rest))

@@ -5,8 +5,6 @@ use Rattle.pr_basic.specs.declared.statement.Statement.{Statement}
 use Rattle.pr_interpreter.specs.declared.names.Name.{Name}
 use Rattle.pr_interpreter.specs.declared.statements.Item.{Item}
 use Rattle.pr_interpreter.specs.declared.statements.Target.{Target}
-use Rattle.pr_interpreter.specs.declared.statements.Statement.{Statement as Basic}
-use Rattle.pr_interpreter.specs.declared.statements.Statement.TheVariants.{Close, Command, Open as Opens, Print, PrintFile}
 use Rattle.pr_interpreter.specs.declared.values.BasicError.{BasicError}
 use Rattle.pr_run.specs.declared.ending.Ending.{Ending}
 use Rattle.pr_run.specs.declared.ending.Ending.TheVariants.{Error, OutOfMemory, Refused}
@@ -110,15 +108,6 @@ turned d r = turned_by (option_to_list d.performed) d.ending (state_of r)
 -- memory ran out, or the run ends without performing anything
 abbrev pub TurnEndsAs : Ending → Turn → Type 0
 TurnEndsAs ending wanted = (ending ≡ OutOfMemory) ⊎ (wanted ≡ Ends [] ending)
-
--- a statement for output
-abbrev pub IsOutput : Basic → Type 0
-IsOutput (Print items) = Unit {0}
-IsOutput (PrintFile file items) = Unit {0}
-IsOutput (Command file items) = Unit {0}
-IsOutput (Opens values) = Unit {0}
-IsOutput (Close values) = Unit {0}
-IsOutput _ = ⊥
 
 -- ---- runs
 

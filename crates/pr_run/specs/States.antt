@@ -9,9 +9,9 @@ use Rattle.pr_run.specs.declared.place.Place.{Place}
 use Rattle.pr_run.specs.Places.{after_line}
 
 -- A state of a run: the place of the next statement (while a statement is performed, that is the one after it); the
--- variables that have a value, the arrays and the functions; the loops and calls that are open, the last first; how many
--- items of DATA were read; the numbers of the open files; the number of the file that has the output, 0 for the screen;
--- whether all that is on the screen ends with a return; and whether something was sent to a file.
+-- variables that have a value, the arrays and the functions; the loops and calls that are open, the last first; how
+-- many items of DATA were read; the numbers of the open files; the number of the file that has the output, 0 for the
+-- screen; whether all that is on the screen ends with a return; and whether something was sent to a file.
 pub record State : Type 0 where
   pub place : Place
   pub variables : List Variable

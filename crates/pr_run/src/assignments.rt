@@ -14,8 +14,9 @@ use crate::state::Run;
 use crate::uses::{Use, ending_of, kept, whole_of};
 use crate::worked::{ended, line_at, line_use, worked};
 use pr_interpreter::{
-    Array, Arrays, BasicError, Kind, Name, Nodes, Number, Placed, Target, Value, Variable, array_of,
-    element_bytes, is_clock, is_status, place_of, same_name, undimensioned, undimensioned_bytes,
+    Array, Arrays, BasicError, Kind, Name, Nodes, Number, Placed, Target, Value, Variable,
+    array_of, element_bytes, is_clock, is_status, place_of, same_name, undimensioned,
+    undimensioned_bytes,
 };
 use pr_page::Sequence;
 use std::alloc::{AllocError, Global};
@@ -391,12 +392,7 @@ fn dimensioned(
 
 /// Makes an array that DIM has. A variable is not changed.
 #[tactic(auto, unfolding(crate::specs::Assignments::dimension))]
-fn dimension(
-    alloc: Global,
-    program: &Program,
-    run: &mut Run,
-    target: &Target,
-) -> Result<(), Ending>
+fn dimension(alloc: Global, program: &Program, run: &mut Run, target: &Target) -> Result<(), Ending>
     ensures ok { OnOk result (dimension program.now (state_of run.old) target.now ≡ Ok (state_of run.new)) }
     ensures err { IfErr result (λ e. EndsAs e (dimension program.now (state_of run.old) target.now)) }
     ensures leads { OnOk result (Leads (dimension program.now) (state_of run.old) target.now (state_of run.new)) }

@@ -26,7 +26,11 @@ pub fn slice_of(text: &[u8], start: usize, end: usize) -> &[u8]
     ensures { result.now ≡ slice_range text.now start end }
 {
     let last = end.min(text.len());
-    if start < last { &text[start..last] } else { &[] }
+    if start < last {
+        &text[start..last]
+    } else {
+        &[]
+    }
 }
 
 /// Returns how many blanks bytes begin with.
@@ -128,12 +132,7 @@ fn put_items(
 }
 
 /// Adds the items of a word of a line.
-fn put_word(
-    found: &mut Vec<DataItem>,
-    text: &[u8],
-    line: u16,
-    word: Word,
-) -> Result<(), AllocError>
+fn put_word(found: &mut Vec<DataItem>, text: &[u8], line: u16, word: Word) -> Result<(), AllocError>
     ensures { OnOk result (found.new.items ≡ found.old.items ++ word_items text.now line word) }
 {
     match word {

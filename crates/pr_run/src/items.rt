@@ -8,11 +8,11 @@ ghost use Rattle.pr_interpreter.specs.Symbols.{is_quote};
 ghost use Rattle.pr_run.specs.Items.{alone, is_blank, item_value, number_item, quoted_item, read_item, read_statement, read_target, restore_statement, signed, text_item, text_within, unsigned};
 ghost use Rattle.pr_run.specs.Seen.{EndsAs, Leads, state_of};
 
+use crate::assignments::{store, target_place};
 use crate::data::{DataItem, slice_of};
 use crate::ending::{Ending, Refusal};
 use crate::programs::Program;
 use crate::state::Run;
-use crate::assignments::{store, target_place};
 use crate::uses::{Use, ending_of, kept};
 use crate::worked::line_at;
 use pr_interpreter::{
@@ -26,12 +26,7 @@ use std::alloc::Global;
 const TEXT_LIMIT: usize = 255;
 
 /// Returns the number of a constant that has to have so many bytes.
-fn alone(
-    at: Use,
-    item: DataItem,
-    whole: usize,
-    constant: (Word, usize),
-) -> Result<Number, Ending>
+fn alone(at: Use, item: DataItem, whole: usize, constant: (Word, usize)) -> Result<Number, Ending>
     ensures { result ≡ alone at item whole constant }
 {
     match constant_number(constant.0) {

@@ -8,12 +8,12 @@ ghost use Rattle.pr_interpreter.specs.Values.{calculated};
 ghost use Rattle.pr_run.specs.Opened.{loop_of};
 ghost use Rattle.pr_run.specs.Seen.{EndsAs, NextLeads, gives, passes, state_of};
 
+use crate::assignments::{is_system, store, system_ending};
 use crate::ending::{Ending, Refusal};
 use crate::opened::{Direction, Loop, Open, has_room, loop_of, take_caller};
 use crate::place::beginning;
 use crate::programs::Program;
 use crate::state::Run;
-use crate::assignments::{is_system, store, system_ending};
 use crate::uses::{Use, direction_by, ending_of, ends_loop, kept};
 use crate::worked::{ended, line_at, line_use, number, truth, use_of, whole, worked};
 use pr_interpreter::{
@@ -131,12 +131,7 @@ pub fn on_statement(
 }
 
 /// Goes on after the condition of IF.
-fn branch(
-    program: &Program,
-    line: Option<u16>,
-    answer: bool,
-    run: &mut Run,
-) -> Result<(), Ending>
+fn branch(program: &Program, line: Option<u16>, answer: bool, run: &mut Run) -> Result<(), Ending>
     requires { run.old.place.line < 2 ^ 64 - 1 }
     ensures ok { OnOk result (branch program.now line answer (state_of run.old) ≡ Ok (state_of run.new)) }
     ensures err { IfErr result (λ e. EndsAs e (branch program.now line answer (state_of run.old))) }
@@ -366,12 +361,7 @@ fn advance(alloc: Global, at: Use, current: &Loop, run: &mut Run) -> Result<bool
 }
 
 /// Performs NEXT for the loop of a name, or for the last one. Returns whether the loop is over.
-fn next_of(
-    alloc: Global,
-    at: Use,
-    wanted: Option<Name>,
-    run: &mut Run,
-) -> Result<bool, Ending>
+fn next_of(alloc: Global, at: Use, wanted: Option<Name>, run: &mut Run) -> Result<bool, Ending>
     ensures ok { IfOk result (λ b. next_of at (loop_of wanted (state_of run.old).opened) (state_of run.old) ≡ passes b run.new) }
     ensures err { IfErr result (λ e. EndsAs e (next_of at (loop_of wanted (state_of run.old).opened) (state_of run.old))) }
 {

@@ -66,12 +66,7 @@ fn from_column(alloc: Global, at: Use, run: &Run, count: u16) -> Result<Vec<u8>,
 }
 
 /// Returns the bytes of TAB.
-fn tab_bytes(
-    alloc: Global,
-    at: Use,
-    run: &Run,
-    count: Result<u16, Stop>,
-) -> Result<Vec<u8>, Ending>
+fn tab_bytes(alloc: Global, at: Use, run: &Run, count: Result<u16, Stop>) -> Result<Vec<u8>, Ending>
     ensures ok { IfOk result (λ bytes. tab_bytes at (state_of run.now) (used at count) ≡ Ok bytes.items) }
     ensures err { IfErr result (λ e. EndsAs e (tab_bytes at (state_of run.now) (used at count))) }
 {

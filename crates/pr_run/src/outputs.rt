@@ -22,12 +22,7 @@ const FILES: usize = 10;
 pub type Output = (Statement, Option<BasicError>);
 
 /// Works out a whole number from 0 to 255.
-fn byte(
-    alloc: Global,
-    program: &Program,
-    run: &mut Run,
-    nodes: &[Placed],
-) -> Result<u8, Ending>
+fn byte(alloc: Global, program: &Program, run: &mut Run, nodes: &[Placed]) -> Result<u8, Ending>
     ensures ok { IfOk result (λ n. whole 255 program.now (state_of run.old) nodes.now ≡ gives n run.new) }
     ensures err { IfErr result (λ e. EndsAs e (whole 255 program.now (state_of run.old) nodes.now)) }
     ensures leads { IfOk result (λ n. LeadsTo (whole 255 program.now) (state_of run.old) nodes.now n (state_of run.new)) }

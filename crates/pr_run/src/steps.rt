@@ -3,9 +3,10 @@
 ghost use Rattle.std.specs.Prelude.{◌≡◌, ◌<◌, ◌-◌, ◌^◌, IfErr, IfOk, OnOk, Ok};
 ghost use Rattle.std.specs.List.{position_or_len};
 ghost use Rattle.pr_interpreter.specs.Memory.{same_name};
-ghost use Rattle.pr_run.specs.Seen.{EndsAs, IsOutput, TurnEndsAs, ended, nothing, output_done, state_of, turned};
+ghost use Rattle.pr_run.specs.Seen.{EndsAs, TurnEndsAs, ended, nothing, output_done, state_of, turned};
 ghost use Rattle.pr_run.specs.Steps.{define_error, define_statement, is_harmless, poke_statement, step, turn, with_function};
 
+use crate::assignments::{clear_statement, dim_statement, let_statement};
 use crate::ending::{Ending, Refusal};
 use crate::items::{read_statement, restore_statement};
 use crate::jumps::{
@@ -18,7 +19,6 @@ use crate::outputs::{
 use crate::performed::Performed;
 use crate::programs::Program;
 use crate::state::Run;
-use crate::assignments::{clear_statement, dim_statement, let_statement};
 use crate::uses::first_place;
 use crate::worked::{line_at, whole};
 use pr_interpreter::{BasicError, Function, Kind, Name, Placed, Statement, same_name};
@@ -169,34 +169,6 @@ fn put_out(line: u16, output: Output) -> Done
     }
 }
 
-/// Performs a statement for output.
-#[tactic(auto, unfolding(crate::specs::Steps::turn))]
-fn output_turn(
-    alloc: Global,
-    program: &Program,
-    run: &mut Run,
-    statement: &Statement,
-) -> Result<Done, Ending>
-    requires { IsOutput statement.now }
-    ensures ok { IfOk result (λ d. turn program.now (state_of run.old) statement.now ≡ turned d run.new) }
-    ensures err { IfErr result (λ e. TurnEndsAs e (turn program.now (state_of run.old) statement.now)) }
-{
-    let line = line_at(program, run);
-    let put = match statement {
-        Statement::Print { items } => print_statement(alloc, program, run, items.as_slice())?,
-        Statement::PrintFile { file, items } => {
-            print_file_statement(alloc, program, run, file.as_slice(), items.as_slice())?
-        }
-        Statement::Command { file, items } => {
-            command_statement(alloc, program, run, file.as_slice(), items.as_slice())?
-        }
-        Statement::Open { values } => open_statement(alloc, program, run, values.as_slice())?,
-        Statement::Close { values } => close_statement(alloc, program, run, values.as_slice())?,
-        _ => return Ok(nothing()),
-    };
-    Ok(put_out(line, put))
-}
-
 /// Performs a statement in a state whose place is the one after it.
 #[tactic(auto, unfolding(crate::specs::Steps::turn))]
 fn turn(
@@ -209,13 +181,17 @@ fn turn(
     ensures ok { IfOk result (λ d. turn program.now (state_of run.old) statement.now ≡ turned d run.new) }
     ensures err { IfErr result (λ e. TurnEndsAs e (turn program.now (state_of run.old) statement.now)) }
 {
+    let line = line_at(program, run);
     match statement {
         Statement::Nothing => {}
         Statement::Let { target, value } => {
             let_statement(alloc, program, run, target, value.as_slice())?;
         }
-        Statement::If { condition, line } => {
-            if_statement(alloc, program, run, condition.as_slice(), *line)?;
+        Statement::If {
+            condition,
+            line: target,
+        } => {
+            if_statement(alloc, program, run, condition.as_slice(), *target)?;
         }
         Statement::For {
             variable,
@@ -234,7 +210,7 @@ fn turn(
         Statement::Next { variables } => {
             next_statement(alloc, program, run, variables.as_slice())?;
         }
-        Statement::Go { way, line } => jump(program, *way, *line, run)?,
+        Statement::Go { way, line: target } => jump(program, *way, *target, run)?,
         Statement::Return => return_statement(program, run)?,
         Statement::On { choice, way, lines } => on_statement(
             alloc,
@@ -256,13 +232,28 @@ fn turn(
             poke_statement(alloc, program, run, address.as_slice(), value.as_slice())?;
         }
         Statement::Clear => clear_statement(alloc, program, run)?,
-        Statement::Stop => return Ok(ended(Ending::Break(line_at(program, run)))),
-        Statement::End => return Ok(ended(Ending::End(line_at(program, run)))),
-        Statement::Print { .. }
-        | Statement::PrintFile { .. }
-        | Statement::Command { .. }
-        | Statement::Open { .. }
-        | Statement::Close { .. } => return output_turn(alloc, program, run, statement),
+        Statement::Stop => return Ok(ended(Ending::Break(line))),
+        Statement::End => return Ok(ended(Ending::End(line))),
+        Statement::Print { items } => {
+            let put = print_statement(alloc, program, run, items.as_slice())?;
+            return Ok(put_out(line, put));
+        }
+        Statement::PrintFile { file, items } => {
+            let put = print_file_statement(alloc, program, run, file.as_slice(), items.as_slice())?;
+            return Ok(put_out(line, put));
+        }
+        Statement::Command { file, items } => {
+            let put = command_statement(alloc, program, run, file.as_slice(), items.as_slice())?;
+            return Ok(put_out(line, put));
+        }
+        Statement::Open { values } => {
+            let put = open_statement(alloc, program, run, values.as_slice())?;
+            return Ok(put_out(line, put));
+        }
+        Statement::Close { values } => {
+            let put = close_statement(alloc, program, run, values.as_slice())?;
+            return Ok(put_out(line, put));
+        }
     }
     Ok(nothing())
 }
