@@ -14,8 +14,10 @@ replaced_at {A = A} wanted a (x ∷ xs) h =
     elim (cases_Bool (wanted x)) [
       | inl hit ↦ rw hit refl
       | inr miss ↦
-          let less : position_or_len wanted xs < length xs = rw miss at h in
-          rw miss (ap (λ (ys : List A). x ∷ ys) (replaced_at wanted a xs less))
+          let within = rw miss at h in
+          let less : position_or_len wanted xs < length xs = omega arith in
+          let next : 1 + position_or_len wanted xs ≡ suc (position_or_len wanted xs) = omega arith in
+          rw (miss, next) (ap (λ (ys : List A). x ∷ ys) (replaced_at wanted a xs less))
     ]
 
 -- there is none
@@ -24,6 +26,9 @@ pub replaced_end : {A : Type 0} (wanted : A → Bool) (a : A) (xs : List A) → 
 replaced_end wanted a [] h = refl
 replaced_end {A = A} wanted a (x ∷ xs) h =
     elim (cases_Bool (wanted x)) [
-      | inl hit ↦ let none : suc (length xs) ≤ 0 = rw hit at h in absurd (omega arith)
-      | inr miss ↦ rw miss (ap (λ (ys : List A). x ∷ ys) (replaced_end wanted a xs (rw miss at h)))
+      | inl hit ↦ let none = rw hit at h in absurd (omega arith)
+      | inr miss ↦
+          let beyond = rw miss at h in
+          let all : length xs ≤ position_or_len wanted xs = omega arith in
+          rw miss (ap (λ (ys : List A). x ∷ ys) (replaced_end wanted a xs all))
     ]

@@ -183,79 +183,98 @@ fn turn(
 {
     let line = line_at(program, run);
     match statement {
-        Statement::Nothing => {}
+        Statement::Nothing => Ok(nothing()),
         Statement::Let { target, value } => {
             let_statement(alloc, program, run, target, value.as_slice())?;
+            Ok(nothing())
         }
         Statement::If {
             condition,
             line: target,
         } => {
             if_statement(alloc, program, run, condition.as_slice(), *target)?;
+            Ok(nothing())
         }
         Statement::For {
             variable,
             from,
             to,
             step,
-        } => for_statement(
-            alloc,
-            program,
-            run,
-            *variable,
-            from.as_slice(),
-            to.as_slice(),
-            step,
-        )?,
+        } => {
+            let (from, to) = (from.as_slice(), to.as_slice());
+            for_statement(alloc, program, run, *variable, from, to, step)?;
+            Ok(nothing())
+        }
         Statement::Next { variables } => {
             next_statement(alloc, program, run, variables.as_slice())?;
+            Ok(nothing())
         }
-        Statement::Go { way, line: target } => jump(program, *way, *target, run)?,
-        Statement::Return => return_statement(program, run)?,
-        Statement::On { choice, way, lines } => on_statement(
-            alloc,
-            program,
-            run,
-            choice.as_slice(),
-            *way,
-            lines.as_slice(),
-        )?,
-        Statement::Read { targets } => read_statement(alloc, program, run, targets.as_slice())?,
-        Statement::Restore => restore_statement(run),
-        Statement::Dim { arrays } => dim_statement(alloc, program, run, arrays.as_slice())?,
+        Statement::Go { way, line: target } => {
+            jump(program, *way, *target, run)?;
+            Ok(nothing())
+        }
+        Statement::Return => {
+            return_statement(program, run)?;
+            Ok(nothing())
+        }
+        Statement::On { choice, way, lines } => {
+            let (choice, lines) = (choice.as_slice(), lines.as_slice());
+            on_statement(alloc, program, run, choice, *way, lines)?;
+            Ok(nothing())
+        }
+        Statement::Read { targets } => {
+            read_statement(alloc, program, run, targets.as_slice())?;
+            Ok(nothing())
+        }
+        Statement::Restore => {
+            restore_statement(run);
+            Ok(nothing())
+        }
+        Statement::Dim { arrays } => {
+            dim_statement(alloc, program, run, arrays.as_slice())?;
+            Ok(nothing())
+        }
         Statement::Define {
             name,
             variable,
             value,
-        } => define_statement(alloc, program, run, *name, *variable, value.as_slice())?,
+        } => {
+            define_statement(alloc, program, run, *name, *variable, value.as_slice())?;
+            Ok(nothing())
+        }
         Statement::Poke { address, value } => {
             poke_statement(alloc, program, run, address.as_slice(), value.as_slice())?;
+            Ok(nothing())
         }
-        Statement::Clear => clear_statement(alloc, program, run)?,
-        Statement::Stop => return Ok(ended(Ending::Break(line))),
-        Statement::End => return Ok(ended(Ending::End(line))),
+        Statement::Clear => {
+            clear_statement(alloc, program, run)?;
+            Ok(nothing())
+        }
+        Statement::Stop => Ok(ended(Ending::Break(line))),
+        Statement::End => Ok(ended(Ending::End(line))),
         Statement::Print { items } => {
             let put = print_statement(alloc, program, run, items.as_slice())?;
-            return Ok(put_out(line, put));
+            Ok(put_out(line, put))
         }
         Statement::PrintFile { file, items } => {
-            let put = print_file_statement(alloc, program, run, file.as_slice(), items.as_slice())?;
-            return Ok(put_out(line, put));
+            let (file, items) = (file.as_slice(), items.as_slice());
+            let put = print_file_statement(alloc, program, run, file, items)?;
+            Ok(put_out(line, put))
         }
         Statement::Command { file, items } => {
-            let put = command_statement(alloc, program, run, file.as_slice(), items.as_slice())?;
-            return Ok(put_out(line, put));
+            let (file, items) = (file.as_slice(), items.as_slice());
+            let put = command_statement(alloc, program, run, file, items)?;
+            Ok(put_out(line, put))
         }
         Statement::Open { values } => {
             let put = open_statement(alloc, program, run, values.as_slice())?;
-            return Ok(put_out(line, put));
+            Ok(put_out(line, put))
         }
         Statement::Close { values } => {
             let put = close_statement(alloc, program, run, values.as_slice())?;
-            return Ok(put_out(line, put));
+            Ok(put_out(line, put))
         }
     }
-    Ok(nothing())
 }
 
 /// Does a step: a statement, or from the end of a line to the next one.
