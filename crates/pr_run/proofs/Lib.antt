@@ -1,5 +1,6 @@
+pub mod CountLemmas
 pub mod DataLemmas
-pub mod LoopLemmas
+pub mod EndLemmas
 pub mod OpenedLemmas
 pub mod ReplacedLemmas
 pub mod RunLawLemmas

@@ -83,6 +83,6 @@ pub room_left : (more : Open) (xs : List Open) (i size : ℕ) → length xs ≤ 
     → size + stack_size (drop i xs) ≡ open_size more + stack_size xs → size ≤ 162
     → nat_le (open_size more + stack_size (reverse xs)) 162 ≡ true
 room_left more xs i size h all few =
-    let none : stack_size (drop i xs) ≡ 0 = rw (drop_all xs i h) refl in
+    let none : stack_size (drop i xs) ≡ 0 = rw (drop_all i xs h) refl in
     let back = size_reverse xs in
     le-leb _ _ (omega arith)

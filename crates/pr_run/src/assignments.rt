@@ -1,6 +1,6 @@
 //! What is assigned to: variables, and elements of arrays. DIM and CLR.
 
-ghost use Rattle.std.specs.Prelude.{◌≡◌, ◌<◌, [], IfErr, IfOk, MatchOption, OnOk, Ok};
+ghost use Rattle.std.specs.Prelude.{◌≡◌, ◌<◌, ◌≤◌, IfErr, IfOk, IfSome, MatchOption, OnOk, Ok};
 ghost use Rattle.std.specs.List.{position_or_len};
 ghost use Rattle.std.specs.Option.{option_copied};
 ghost use Rattle.pr_interpreter.specs.Memory.{array_of, first_value, same_name, with_array};
@@ -228,7 +228,7 @@ fn place_in(
     indices: &[u16],
     array: Option<&Array>,
 ) -> Result<Option<u32>, Ending>
-    ensures { place_in at (state_of run.now) indices.now (option_copied array) ≡ valued (state_of run.now) result }
+    ensures { place_in at (state_of run.now) indices.now (option_copied array.entry) ≡ valued (state_of run.now) result }
 {
     let place = match array {
         Some(array) => place_of(array.bounds.as_slice(), indices),
@@ -347,7 +347,8 @@ pub fn let_statement(
 
 /// Returns how many elements an array has; None of more than 30000.
 fn element_count(bounds: &[u16]) -> Option<usize>
-    ensures { MatchOption result (30000 < element_count bounds.now) (λ n. n ≡ element_count bounds.now) }
+    ensures value { MatchOption result (30000 < element_count bounds.now) (λ n. n ≡ element_count bounds.now) }
+    ensures within { IfSome result (λ n. n ≤ 30000) }
 {
     let mut count: usize = 1;
     for bound in bounds {

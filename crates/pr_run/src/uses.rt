@@ -53,18 +53,25 @@ pub fn halted(line: u16, halt: Halt) -> Ending
     }
 }
 
+/// Returns the first of a place and the places of nodes.
+fn place_from(first: usize, nodes: &[Placed]) -> usize
+    ensures { result ≡ place_from first nodes.now }
+{
+    let mut place = first;
+    for node in nodes {
+        place = place.min(node.place);
+    }
+    place
+}
+
 /// Returns the first place in the text that a node of an expression has.
 pub fn first_place(nodes: &[Placed]) -> usize
     ensures { result ≡ first_place nodes.now }
 {
-    let [first, rest @ ..] = nodes else {
-        return 0;
-    };
-    let mut place = first.place;
-    for node in rest {
-        place = place.min(node.place);
+    match nodes {
+        [first, rest @ ..] => place_from(first.place, rest),
+        [] => 0,
     }
-    place
 }
 
 /// Returns the number that a value has to be.

@@ -1,6 +1,0 @@
-use Rattle.std.proofs.Common.{◌≡◌, drop}
-use Rattle.pr_run.specs.Uses.{place_from}
-use Rattle.pr_run.proofs.uses.first_place.Given as goal
-
-abbrev pub invariant-loop-node : goal.invariant-loop-node
-invariant-loop-node l = place_from l.place (drop l.node-index l.rest) ≡ place_from l.first.place l.rest
