@@ -9,6 +9,7 @@ ghost use Rattle.pr_run.specs.Assignments.{clear_statement, dim_statement, dimen
 ghost use Rattle.pr_run.specs.Worked.{valued};
 
 use crate::ending::{Ending, Refusal};
+use crate::growth::put;
 use crate::programs::Program;
 use crate::state::Run;
 use crate::uses::{Use, ending_of, kept, whole_of};
@@ -45,10 +46,8 @@ fn set_variable(variables: &mut Vec<Variable>, name: Name, value: Value) -> Resu
         variables[place] = Variable { name, value };
         return Ok(());
     }
-    match variables.push(Variable { name, value }) {
-        Ok(()) => Ok(()),
-        Err(_) => Err(Ending::OutOfMemory),
-    }
+    put(variables, Variable { name, value })?;
+    Ok(())
 }
 
 /// Returns how many arrays come before the one of a name; all, if there is none.

@@ -11,12 +11,13 @@
 //! - `worked` works out expressions, and `uses` says what statements make of their values.
 //! - `assignments` has LET, DIM and CLR, `jumps` GOTO, GOSUB, RETURN, ON, IF, FOR and NEXT, `items` READ and RESTORE, `lists`
 //!   what PRINT writes, and `outputs` OPEN, CLOSE, CMD, PRINT and PRINT#.
-//! - `steps` has one step, with DEF FN and POKE, and `run` all.
+//! - `growth` adds to lists; `steps` has one step, with DEF FN and POKE, and `run` all.
 #![tactic(auto)]
 
 mod assignments;
 mod data;
 mod ending;
+mod growth;
 mod items;
 mod jumps;
 mod lists;

@@ -8,6 +8,7 @@ ghost use Rattle.pr_run.specs.Steps.{define_error, define_statement, is_harmless
 
 use crate::assignments::{clear_statement, dim_statement, let_statement};
 use crate::ending::{Ending, Refusal};
+use crate::growth::put;
 use crate::items::{read_statement, restore_statement};
 use crate::jumps::{
     for_statement, if_statement, jump, next_statement, on_statement, return_statement,
@@ -55,10 +56,8 @@ fn set_function(functions: &mut Vec<Function>, function: Function) -> Result<(),
         functions[place] = function;
         return Ok(());
     }
-    match functions.push(function) {
-        Ok(()) => Ok(()),
-        Err(_) => Err(Ending::OutOfMemory),
-    }
+    put(functions, function)?;
+    Ok(())
 }
 
 /// Returns the error of DEF FN, if there is one, by the kinds of its name and of its variable.
