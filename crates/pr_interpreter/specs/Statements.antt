@@ -13,6 +13,7 @@ use Rattle.pr_interpreter.specs.declared.names.Name.{Name}
 use Rattle.pr_interpreter.specs.declared.statements.Item.{Item}
 use Rattle.pr_interpreter.specs.declared.statements.Part.{Part}
 use Rattle.pr_interpreter.specs.declared.statements.Part.TheVariants.{Comma, Semicolon, Spaces, Tab, Value}
+use Rattle.pr_interpreter.specs.declared.statements.PlacedStatement.{PlacedStatement}
 use Rattle.pr_interpreter.specs.declared.statements.Statement.{Statement}
 use Rattle.pr_interpreter.specs.declared.statements.Statement.TheVariants.{Clear, Close, Command, Define, Dim, End, For, Go, If, Let, Next, Nothing, On, Open, Poke, Print, PrintFile, Read as Reads, Restore, Return, Stop}
 use Rattle.pr_interpreter.specs.declared.statements.Target.{Target}
@@ -285,6 +286,10 @@ next_of_line end ls =
     if front_code ls == 58 then Ok (Nothing, 1)
     else and_then (statement end ls) ls (λ s rest. ended s end rest)
 
+-- the same with its place
+unfoldable pub placed_statement : ℕ → List Lexeme → Read PlacedStatement
+placed_statement end ls = made (next_of_line end ls) (λ s. record { statement = s; place = front_place end ls })
+
 -- the statements of a line that ends at a place
-unfoldable pub statements : ℕ → List Lexeme → Read (List Statement)
-statements end ls = repeated is_some (next_of_line end) [] 0 0 ls
+unfoldable pub statements : ℕ → List Lexeme → Read (List PlacedStatement)
+statements end ls = repeated is_some (placed_statement end) [] 0 0 ls
