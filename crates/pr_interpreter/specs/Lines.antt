@@ -1,6 +1,7 @@
 -- Trusted: the numbered lines of a program's text.
 -- A text is typed row by row. A row ends at a line feed (10), at a carriage return (13) or at the text's end.
-use Rattle.std.specs.Prelude.{ℕ, ◌+◌, ◌-◌, ◌*◌, ◌≡◌, ◌==◌, ◌⊎◌, ◌||◌, ◌&&◌, Bool, not, List, [], ◌∷◌, length, take, drop, nat_lt, if◌then◌else◌, filter, slice_range, Option, Some, None, Result, Ok, Err}
+use Rattle.std.specs.Prelude.{ℕ, ◌+◌, ◌-◌, ◌*◌, ◌≡◌, ◌==◌, ◌⊎◌, ◌||◌, ◌&&◌, Bool, not, List, [], ◌∷◌, length, take}
+use Rattle.std.specs.Prelude.{drop, nat_lt, if◌then◌else◌, filter, slice_range, Option, Some, None, Result, Ok, Err}
 use Rattle.std.specs.List.{insert, position_or_len, suffix_len}
 use Rattle.pr_interpreter.specs.declared.lines.Line.{Line}
 use Rattle.pr_interpreter.specs.declared.fault.ProgramFault.{ProgramFault}

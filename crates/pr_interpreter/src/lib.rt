@@ -23,8 +23,9 @@
 //!   and `program` reads the lines of a text with their statements; `specs/Reading.antt`, `specs/Statements.antt` and
 //!   `specs/Programs.antt` define how.
 //! - `values` has what operators give of two numbers or two strings; `specs/Values.antt` defines it.
-//! - `evaluation` has the value of an expression, with `functions` and `memory`, which has variables, arrays and
-//!   functions of the program; `specs/Evaluation.antt`, `specs/Functions.antt` and `specs/Memory.antt` define it.
+//! - `evaluation` has the value of an expression, with `given` (what its parts give), `calls` (what operators and
+//!   functions give of them), `functions`, and `memory`, which has variables, arrays and functions of the program;
+//!   `specs/Evaluation.antt`, `specs/Functions.antt` and `specs/Memory.antt` define it.
 //! - `laws` has what is proved of the definitions: what the machine may answer to a calculation
 //!   (`specs/Machine.antt`) is in the number that the calculation gives, for all values in its operands; what is
 //!   printed of a number is so for each of its values; the lines of a text are sorted.
@@ -45,6 +46,7 @@
 //! performs the same list, which follows by induction from the laws of numbers here.
 #![tactic(auto)]
 
+mod calls;
 mod comparisons;
 mod constants;
 mod decimals;
@@ -52,6 +54,7 @@ mod evaluation;
 mod expressions;
 mod fault;
 mod functions;
+mod given;
 pub mod laws;
 mod lexemes;
 mod lines;

@@ -10,8 +10,8 @@ use crate::lexemes::{Lexeme, Word};
 use crate::names::Name;
 use crate::printed::{file_items, items};
 use crate::reading::{
-    EQUAL, at_end, front_code, front_line, front_place, line, no_statement, put, value, value_after, values,
-    variable,
+    EQUAL, at_end, front_code, front_line, front_place, line, no_statement, put, value,
+    value_after, values, variable,
 };
 use crate::statements::{Nodes, PlacedStatement, Statement, Way};
 use crate::targets::{line_after, line_list, target, targets};
