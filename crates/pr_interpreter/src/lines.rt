@@ -231,8 +231,11 @@ pub fn column_of(text: &[u8], place: usize) -> usize
 {
     let end = place.min(text.len());
     let mut start = end;
-    while 0 < start && !ends_row(text[start - 1]) {
+    while 0 < start {
+        if ends_row(text[start - 1]) {
+            return end - start + 1;
+        }
         start -= 1;
     }
-    end - start + 1
+    end + 1
 }
