@@ -14,14 +14,14 @@
 //!   `whole_numbers` have their sums, their comparisons and INT. `specs/Numbers.antt` defines them.
 //! - `decimals` has the nine digits that are printed of a number, where they are certain, and `printing` their text;
 //!   `constants` has the value of a decimal constant.
-//! - `lines` has the numbered lines of a program's text, sorted.
+//! - `lines` has the numbered lines of a program's text, sorted, and the column of a place in it.
 //! - `symbols` has the symbols of a line, keywords among them, and `lexemes` its lexemes: `names`, `numerals` with
 //!   constants, and `comparisons`. `specs/Symbols.antt` and `specs/Lexemes.antt` define them.
 //! - `expressions` has the nodes of expressions, and `reader` reads them from lexemes; `specs/Expressions.antt` defines
 //!   how.
 //! - `statements` has the statements of a line, `statement_reader` reads them (with `reading`, `targets` and `printed`),
-//!   and `program` reads the lines of a text with their statements; `specs/Reading.antt`, `specs/Statements.antt` and
-//!   `specs/Programs.antt` define how.
+//!   and `program` reads the lines of a text with their statements, each with its place; `specs/Reading.antt`,
+//!   `specs/Statements.antt` and `specs/Programs.antt` define how.
 //! - `values` has what operators give of two numbers or two strings; `specs/Values.antt` defines it.
 //! - `evaluation` has the value of an expression, with `given` (what its parts give), `calls` (what operators and
 //!   functions give of them), `functions`, and `memory`, which has variables, arrays and functions of the program;
