@@ -85,7 +85,7 @@ def declared():
 
 def names():
     """The names that a shared library has: the calls of the header."""
-    return sorted(re.findall(r"^(?:int|size_t|const char \*) ?(print1525_\w+)\(", crates.text_of(f"{crates.ROOT}/include/print1525.h"), re.M))
+    return sorted(re.findall(r"^(?:int|size_t|uint64_t|const char \*) ?(print1525_\w+)\(", crates.text_of(f"{crates.ROOT}/include/print1525.h"), re.M))
 
 
 def layout(platform):
