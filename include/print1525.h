@@ -791,17 +791,18 @@ int print1525_edges(const void *recording, size_t recording_length, const print1
  * alone. It gives 0 if it wants the next part too. It must return: no longjmp, no exception. */
 typedef int (*print1525_write)(void *context, const void *bytes, size_t length);
 
-/* Writes a picture of the paper with some marks, as the paper of printer 4.
+/* Writes a picture of the paper with some marks, as that of printer 4.
  *
- * Reads: marks, none of them above the one before it: those of print1525_printer_byte, as they came. For one sheet only
- * its marks are needed, with those of a row that begins on the sheet before it; a blank sheet needs one of a later row.
- * Of the settings `as` (SVG, PNG, PDF), `paper`, `holes`, `top`, `scale`, `sheet` and `characters`.
- * Gives: to the function, with the context, part after part of what print1525_print gives of inputs whose marks these
- * are, if they end each line and each line has a mark. Of a line without a mark nothing is known: a PRINT1525_DOTS mark
- * of value 0 is one without a dot. The picture is made before its first part is given, so one that is refused, or has
- * no memory, gives none.
- * Refuses: NULL (80); settings (82); characters, by their first bad line (52); then the first mark that is above the
- * one before it (18) with its index; and a picture (50, 51), as print1525_pages. It fails (92) where the function gives anything but 0, and then gives it no other part. */
+ * Reads: marks of which none is above the one before it, as print1525_printer_byte gives them. For one sheet only its
+ * marks are needed, and those of a row that reaches down to it; for a sheet without a mark one of a later row. Of the
+ * settings `as` (SVG, PNG, PDF), `paper`, `holes`, `top`, `scale`, `sheet` and `characters`.
+ * Gives: to the function, with the context, part after part of what print1525_print gives of the inputs that make these
+ * marks, if each of their lines has ended and has a mark. Lines without a mark are not known: a PRINT1525_DOTS mark of
+ * value 0 has no dot, and makes its line known. The whole picture is made before its first part is given, so of one
+ * that is refused there is none. A PDF document and SVG of all sheets take time for each sheet down to the last mark.
+ * Refuses: NULL (80); settings (82); characters, by their first bad line (52); the first mark that is above the one
+ * before it (18), with its index; and a picture (50, 51), as print1525_pages. It fails (92) where the function gives
+ * anything but 0, and gives it nothing more. */
 int print1525_printer_picture(const print1525_mark *marks, size_t length, const print1525_settings *settings,
                               print1525_write write, void *context, print1525_details *details);
 

@@ -13,7 +13,7 @@ use Rattle.pr_page.specs.declared.input.Input.{Input}
 use Rattle.pr_page.specs.declared.paper.Paper.{Paper}
 use Rattle.pr_page.specs.declared.paper.Placed.{Placed}
 use Rattle.pr_page.specs.declared.paper.Row.{Row}
-use Rattle.pr_exports.specs.Marks.{AreMarked, HasMarks, first_up, has_marks, on_paper, without_blank}
+use Rattle.pr_exports.specs.Marks.{AreMarked, HasMarks, are_some, first_up, has_marks, on_paper, without_blank}
 use Rattle.pr_exports.specs.MarkSteps.{placed_by, row_of, rows_after}
 use Rattle.pr_exports.specs.declared.marks.WireMark.{WireMark}
 
@@ -152,3 +152,76 @@ their_page inputs page y marks is none same =
       held = none;
       rows = rows_kept 0 0 page.rows (lines_below 0 (acts_of (reverse is.tokens)) page.rows is.last is.are_lines) (omega arith);
     }
+
+-- a row with marks has some
+no_marks : (row : Row) → row.marks ≡ [] → has_marks row ≡ true → ⊥
+no_marks row is some = let no : false ≡ true = sym (ap are_some is) ∙ some in absurd (cc)
+
+-- the first mark of rows from a distance on
+first_in : (from : ℕ) (row : Row) (rows : List Row) (placed : List Placed) (m : MarkOnPaper) (ms : List MarkOnPaper) → row.marks ≡ placed → from ≤ row.y → has_marks row ≡ true
+    → marks_in (row ∷ rows) ≡ m ∷ ms → from ≤ m.y
+first_in from row rows [] m ms is low some h = absurd (no_marks row is some)
+first_in from row rows (p ∷ ps) m ms is low some h =
+    let whole : in_row row.y p ∷ (map (in_row row.y) ps ++ marks_in rows) ≡ m ∷ ms = sym (ap (λ l. map (in_row row.y) l ++ marks_in rows) is) ∙ h in
+    let first : in_row row.y p ≡ m = cc (whole) in
+    let at : row.y ≡ m.y = ap (λ (m : MarkOnPaper). m.y) first in
+    omega (arith, low, at)
+
+first_below : (from : ℕ) (rows : List Row) (m : MarkOnPaper) (ms : List MarkOnPaper) → AreMarked from rows → marks_in rows ≡ m ∷ ms → from ≤ m.y
+first_below from [] m ms marked h = absurd (cc)
+first_below from (row ∷ rows) m ms marked h = first_in from row rows row.marks m ms refl marked.0 marked.1 h
+
+-- marks in a row and those of rows below it come apart in one way
+apart : (y : ℕ) (ps qs : List Placed) (rows others : List Row) → AreMarked (y + 1) rows → AreMarked (y + 1) others
+    → map (in_row y) ps ++ marks_in rows ≡ map (in_row y) qs ++ marks_in others → (ps ≡ qs) × (marks_in rows ≡ marks_in others)
+apart y [] [] rows others a b h = (refl, h)
+apart y [] (q ∷ qs) rows others a b h =
+    let far : y + 1 ≤ y = first_below (y + 1) rows (in_row y q) (map (in_row y) qs ++ marks_in others) a h in absurd (omega (arith, far))
+apart y (p ∷ ps) [] rows others a b h =
+    let far : y + 1 ≤ y = first_below (y + 1) others (in_row y p) (map (in_row y) ps ++ marks_in rows) b (sym h) in absurd (omega (arith, far))
+apart y (p ∷ ps) (q ∷ qs) rows others a b h =
+    let placed : MarkOnPaper → Placed = λ m. record { x = m.x; mark = m.mark } in
+    let first : in_row y p ≡ in_row y q = cc (h) in
+    let rest : map (in_row y) ps ++ marks_in rows ≡ map (in_row y) qs ++ marks_in others = cc (h) in
+    let more = apart y ps qs rows others a b rest in
+    let same : p ≡ q = ap placed first in
+    (cc (same, more.0), more.1)
+
+same_y : (row other : Row) (rows others : List Row) (ps qs : List Placed) → row.marks ≡ ps → other.marks ≡ qs → has_marks row ≡ true → has_marks other ≡ true
+    → marks_in (row ∷ rows) ≡ marks_in (other ∷ others) → row.y ≡ other.y
+same_y row other rows others [] qs is are some more h = absurd (no_marks row is some)
+same_y row other rows others (p ∷ ps) [] is are some more h = absurd (no_marks other are more)
+same_y row other rows others (p ∷ ps) (q ∷ qs) is are some more h =
+    let whole : in_row row.y p ∷ (map (in_row row.y) ps ++ marks_in rows) ≡ in_row other.y q ∷ (map (in_row other.y) qs ++ marks_in others) =
+    sym (ap (λ l. map (in_row row.y) l ++ marks_in rows) is) ∙ h ∙ ap (λ l. map (in_row other.y) l ++ marks_in others) are in
+    let first : in_row row.y p ≡ in_row other.y q = cc (whole) in
+    ap (λ (m : MarkOnPaper). m.y) first
+
+some_marks : (row : Row) (rows : List Row) (placed : List Placed) → row.marks ≡ placed → has_marks row ≡ true → marks_in (row ∷ rows) ≡ [] → ⊥
+some_marks row rows [] is some h = no_marks row is some
+some_marks row rows (p ∷ ps) is some h =
+    let none : in_row row.y p ∷ (map (in_row row.y) ps ++ marks_in rows) ≡ [] = sym (ap (λ l. map (in_row row.y) l ++ marks_in rows) is) ∙ h in absurd (cc)
+
+same_rows : (from to : ℕ) (rows others : List Row) → AreMarked from rows → AreMarked to others → marks_in rows ≡ marks_in others → rows ≡ others
+same_rows from to [] [] a b h = refl
+same_rows from to [] (other ∷ others) a b h = absurd (some_marks other others other.marks refl b.1 (sym h))
+same_rows from to (row ∷ rows) [] a b h = absurd (some_marks row rows row.marks refl a.1 h)
+same_rows from to (row ∷ rows) (other ∷ others) a b h =
+    let at = same_y row other rows others row.marks other.marks refl refl a.1 b.1 h in
+    let parts = apart row.y row.marks other.marks rows others a.2 (subst (λ n. AreMarked (n + 1) others) (sym at) b.2)
+    (h ∙ ap (λ n. map (in_row n) other.marks ++ marks_in others) (sym at)) in
+    let more = same_rows (row.y + 1) (other.y + 1) rows others a.2 b.2 parts.1 in
+    let in_y : ℕ → Row = λ n. record { y = n; marks = row.marks } in
+    let with_marks : List Placed → Row = λ l. record { y = other.y; marks = l } in
+    let first : row ≡ other = ap in_y at ∙ ap with_marks parts.0 in
+    cc (first, more)
+
+-- marks have one paper
+pub one_paper : (marks : List WireMark) (one other : Paper) → HasMarks marks one → HasMarks marks other → one ≡ other
+one_paper marks one other a b =
+    let front : (paper : Paper) → paper.held ≡ [] → marks_on paper 0 ≡ marks_in paper.rows =
+    λ paper none. ap (λ l. marks_in paper.rows ++ map (in_row 0) l) none ∙ append-nil (marks_in paper.rows) in
+    let rows = same_rows 0 0 one.rows other.rows a.rows b.rows (sym (front one a.held) ∙ sym a.marks_are ∙ b.marks_are ∙ front other b.held) in
+    let with_rows : List Row → Paper = λ l. record { rows = l; held = one.held } in
+    let with_held : List Placed → Paper = λ l. record { rows = other.rows; held = l } in
+    ap with_rows rows ∙ ap with_held (a.held ∙ sym b.held)

@@ -1,5 +1,8 @@
 -- Trusted: a picture of marks, and what the call for one answers.
-use Rattle.std.specs.Prelude.{◌≡◌, ◌⊎◌, ℕ, List, Option, Some, None, Result, Ok, Err}
+use Rattle.std.specs.Prelude.{◌≡◌, ◌⊎◌, ℕ, List, [], map, Option, Some, None, Result, Ok, Err}
+use Rattle.pr_page.specs.Marks.{marks_on}
+use Rattle.pr_page.specs.Page.{IsPage}
+use Rattle.pr_page.specs.declared.input.Input.{Input}
 use Rattle.pr_page.specs.declared.paper.Paper.{Paper}
 use Rattle.pr_characters.specs.declared.fault.CharactersFault.{CharactersFault}
 use Rattle.pr_dots.specs.declared.character_sets.Shapes.{Shapes}
@@ -12,7 +15,7 @@ use Rattle.pr_jobs.specs.declared.fault.PictureFault.{PictureFault}
 use Rattle.pr_exports.specs.Answers.{answer_of, refusal}
 use Rattle.pr_exports.specs.Asked.{Refuses, RefusesCharacters}
 use Rattle.pr_exports.specs.Giving.{Gives}
-use Rattle.pr_exports.specs.Marks.{HasMarks, first_up}
+use Rattle.pr_exports.specs.Marks.{HasMarks, first_up, on_paper, without_blank}
 use Rattle.pr_exports.specs.declared.answer.Answer.{Answer}
 use Rattle.pr_exports.specs.declared.answer.TextGiven.{TextGiven}
 use Rattle.pr_exports.specs.declared.marks.WireMark.{WireMark}
@@ -50,3 +53,10 @@ abbrev pub TellsMarks :
 TellsMarks None shapes marks old new answer = Refuses 24 old new answer
 TellsMarks (Some format) (Err fault) marks old new answer = RefusesCharacters fault old new answer
 TellsMarks (Some format) (Ok shapes) marks old new answer = HandsMarks shapes format marks old new answer
+
+-- a law: the text of marks of the page of inputs, where none are held, is that of the page without its blank rows
+abbrev pub MarksShowTheirPage : Type 0
+MarksShowTheirPage =
+    (shapes : Shapes) (format : Format) (inputs : List Input) (page : Paper) (y : ℕ) (marks : List WireMark) (text : List ℕ)
+    → IsPage inputs page → page.held ≡ [] → map on_paper marks ≡ marks_on page y → IsMarksText shapes format marks text
+    → text_in shapes format four_alone (printed_on (without_blank page)) ≡ Ok text

@@ -52,3 +52,7 @@ abbrev pub MarksHaveTheirPage : Type 0
 MarksHaveTheirPage =
     (inputs : List Input) (page : Paper) (y : ℕ) (marks : List WireMark) → IsPage inputs page → page.held ≡ []
     → map on_paper marks ≡ marks_on page y → HasMarks marks (without_blank page)
+
+-- a law: marks have no more than one paper
+abbrev pub MarksHaveOnePaper : Type 0
+MarksHaveOnePaper = (marks : List WireMark) (one other : Paper) → HasMarks marks one → HasMarks marks other → one ≡ other

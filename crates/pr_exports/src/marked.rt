@@ -1,7 +1,7 @@
 //! The picture of marks.
 
 ghost use Rattle.std.specs.Prelude.{◌≡◌, length, None};
-ghost use Rattle.pr_exports.specs.Marked.{HandsMarks, TellsMarks};
+ghost use Rattle.pr_exports.specs.Marked.{HandsMarks, MarksShowTheirPage, TellsMarks};
 ghost use Rattle.pr_exports.specs.Marks.{first_up};
 ghost use Rattle.pr_exports.specs.Printed.{GivesMarksText};
 ghost use Rattle.pr_exports.specs.Settings.{WithShapes, shown_of};
@@ -80,3 +80,8 @@ pub extern "C" fn print1525_printer_picture(
         Err(fault) => ended(End::Characters(ShapesFault::Characters(fault))),
     };
 }
+
+/// A law, with nothing to run: the text of marks of the page of inputs is that of the page without its blank rows.
+pub fn marks_show_their_page()
+    ensures { MarksShowTheirPage }
+{}
