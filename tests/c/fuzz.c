@@ -559,6 +559,10 @@ static void try_dots(const print1525_mark *marks, size_t length) {
     print1525_details details;
     const int is_damaged = below(2) == 0;
     size_t index, count, room;
+    const print1525_speed speed = {(uint32_t)drawn(), (uint32_t)drawn()};
+    const uint64_t time = print1525_printing_time((uint32_t)below(481), 1, &speed);
+    if (print1525_characters_size() != sizeof characters) is_wrong("characters_size", "another size");
+    if (time < (speed.feed ? speed.feed : 200000) || time > (uint64_t)480000000 + UINT32_MAX) is_wrong("printing_time", "the time");
     if (print1525_characters_read(NULL, 0, &characters, &details) != PRINT1525_DONE) is_wrong("characters_read", "no text");
     if (is_damaged) damage(&characters, sizeof characters);
     for (index = 0; index < length; index++) {
