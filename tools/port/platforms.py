@@ -74,7 +74,7 @@ def write(path, text):
 
 
 # The files of the library's C code, and the header of the proved calls that they make.
-CODE = ("words", "bus", "device", "printer", "texts")
+CODE = ("words", "bus", "device", "printer", "characters", "texts")
 PLAIN = f"{crates.ROOT}/library/plain.h"
 
 
