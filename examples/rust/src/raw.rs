@@ -1,10 +1,12 @@
 //! The C library: its structures and its calls. All that is `unsafe` in this package is here; every function is safe.
 #![allow(unsafe_code)]
 
+use std::any::Any;
 use std::ffi::{CStr, CString};
 use std::marker::PhantomData;
 use std::mem::size_of;
 use std::os::raw::{c_char, c_int, c_void};
+use std::panic::{catch_unwind, resume_unwind, AssertUnwindSafe};
 use std::ptr::{null, null_mut};
 
 /// What a call reports: its status and the fault, with the line, edge, input or setting, and the column, that it names.
@@ -487,24 +489,26 @@ pub fn drawn(over: bool, marks: &[Mark], region: &Region, memory: &mut [u8]) -> 
     details
 }
 
-/// A function that takes parts of a picture, and whether it wants more.
+/// A function that takes parts of a picture, and its panic.
 struct Writing<'a> {
     write: &'a mut dyn FnMut(&[u8]) -> bool,
+    panic: Option<Box<dyn Any + Send>>,
 }
 
 extern "C" fn write_part(context: *mut c_void, bytes: *const c_void, length: usize) -> c_int {
     // SAFETY: the context is that of the call below, and the part is there while this runs.
-    let (writing, part) = unsafe {
-        (&mut *context.cast::<Writing>(), std::slice::from_raw_parts(bytes.cast::<u8>(), length))
-    };
-    (!(writing.write)(part)).into()
+    let (writing, part) =
+        unsafe { (&mut *context.cast::<Writing>(), std::slice::from_raw_parts(bytes.cast::<u8>(), length)) };
+    let wants = catch_unwind(AssertUnwindSafe(|| (writing.write)(part)));
+    let is_wanted = *wants.as_ref().unwrap_or(&false);
+    writing.panic = wants.err();
+    (!is_wanted).into()
 }
 
 /// Gives a picture of the paper with marks to a function, part after part, as long as it wants more.
 pub fn picture(marks: &[Mark], chosen: &Chosen, write: &mut dyn FnMut(&[u8]) -> bool) -> Details {
-    let (mut details, mut writing) = (Details::default(), Writing { write });
-    // SAFETY: the slice, the settings and the function live as long as the call. (A function that panics ends the
-    // program.)
+    let (mut details, mut writing) = (Details::default(), Writing { write, panic: None });
+    // SAFETY: the slice, the settings and the function live as long as the call, into which no panic goes.
     unsafe {
         print1525_printer_picture(
             marks.as_ptr(),
@@ -515,7 +519,10 @@ pub fn picture(marks: &[Mark], chosen: &Chosen, write: &mut dyn FnMut(&[u8]) -> 
             &mut details,
         )
     };
-    details
+    match writing.panic {
+        Some(panic) => resume_unwind(panic),
+        None => details,
+    }
 }
 
 pub fn characters_read(file: &[u8], characters: &mut Characters) -> Details {
