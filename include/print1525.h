@@ -60,8 +60,8 @@
  * - Threads: no call keeps any state, so several threads may make calls at once.
  * - Stack: at most 4096 bytes of it for print1525_device_.., _printing_time, _printer_.., _receiver_.., _decoder_.. and
  *   the calls under `Words` above, and 16,384 for _characters_..; at most PRINT1525_STACK for each other call and for
- *   print1525_printer_picture, as tests measure in our builds. Where functions of the C library are bound at their first
- *   call (without `-z now`), the dynamic linker needs some 2500 bytes more then.
+ *   print1525_printer_picture, as tests measure in our builds. Where functions of the C library are bound at their
+ *   first call (without `-z now`), the dynamic linker needs some 2500 bytes more then.
  * - Memory: the calls with at most 16,384 bytes of stack take none. The others take it by malloc, realloc and free of
  *   one allocator, aligned as C demands. Where these give none, a call fails with PRINT1525_FAULT_NO_MEMORY and has
  *   freed what it took.
@@ -433,8 +433,8 @@ int print1525_printer_changed(const print1525_mark *marks, size_t length, print1
  * Reads: marks, in any order; a region, also beyond the page.
  * Gives: all pixels of the region; bytes between two lines, and the last bits of a line's last byte, stay as they were.
  * All marks of ended lines give the pixels of the PNG file with `top` PRINT1525_TOP_EDGE. Cells have this project's
- * shapes: for those of a file draw the dots of each mark (print1525_characters_dots). Capacity counts the bytes from the
- * region's first pixel on. It takes time for the marks and the pixels.
+ * shapes: for those of a file draw the dots of each mark (print1525_characters_dots). Capacity counts the bytes from
+ * the region's first pixel on. It takes time for the marks and the pixels.
  * Refuses, with the pixels as they were: NULL (80), OVERLAP (81), a region that needs 2^63 bytes or more (9), and a
  * stride that is smaller than a line, or pixels that mean nothing (27). Too small a capacity fails (91). */
 int print1525_printer_page(const print1525_mark *marks, size_t length, const print1525_region *region, void *pixels,

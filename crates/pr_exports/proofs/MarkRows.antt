@@ -83,8 +83,8 @@ rows_marked from index y placed (w ∷ ws) h none =
 pub marks_of_rows : (marks : List WireMark) (paper : Paper) → first_up 0 0 marks ≡ None → paper.rows ≡ rows_after 0 [] marks → paper.held ≡ [] → HasMarks marks paper
 marks_of_rows marks paper none rows held = record {
   marks_are = sym (
-    ap (λ l. marks_in paper.rows ++ map (in_row 0) l) held ∙ append-nil (marks_in paper.rows) ∙ ap marks_in rows ∙ rows_marks 0 [] marks
-  );
+      ap (λ l. marks_in paper.rows ++ map (in_row 0) l) held ∙ append-nil (marks_in paper.rows) ∙ ap marks_in rows ∙ rows_marks 0 [] marks
+      );
   held = held;
   rows = subst (λ l. AreMarked 0 l) (sym rows) (rows_marked 0 0 0 [] marks (omega arith) none);
 }

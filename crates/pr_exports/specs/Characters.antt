@@ -21,7 +21,9 @@ shapes_numbers s = record { upper = s.upper; lower = s.lower }
 -- a column of dots as numbers, where its place is one of 16 bits
 abbrev pub column_at : (y x column : ℕ) → List WireMark
 column_at y x column =
-    if nat_lt x 65536 then record { y = y; x = x; kind = 1; value = column; lower = 0; reverse = 0; wide = 0 } ∷ [] else []
+    if nat_lt x 65536
+    then record { y = y; x = x; kind = 1; value = column; lower = 0; reverse = 0; wide = 0 } ∷ []
+    else []
 
 -- columns side by side from x on
 abbrev pub columns_at : (y x : ℕ) → List ℕ → List WireMark

@@ -27,7 +27,8 @@ pub record IsMarksText (shapes : Shapes) (format : Format) (marks : List WireMar
   pub is_text : text_in shapes format four_alone (printed_on paper) ≡ Ok text
 
 -- this paper can not be shown in this format
-pub record IsMarksUnshown (shapes : Shapes) (format : Format) (marks : List WireMark) (fault : PictureFault) : Type 0 where
+pub record IsMarksUnshown (shapes : Shapes) (format : Format) (marks : List WireMark) (fault : PictureFault)
+    : Type 0 where
   pub paper : Paper
   pub has_marks : HasMarks marks paper
   pub is_unshown : text_in shapes format four_alone (printed_on paper) ≡ Err fault
@@ -57,6 +58,7 @@ TellsMarks (Some format) (Ok shapes) marks old new answer = HandsMarks shapes fo
 -- a law: the text of marks of the page of inputs, where none are held, is that of the page without its blank rows
 abbrev pub MarksShowTheirPage : Type 0
 MarksShowTheirPage =
-    (shapes : Shapes) (format : Format) (inputs : List Input) (page : Paper) (y : ℕ) (marks : List WireMark) (text : List ℕ)
-    → IsPage inputs page → page.held ≡ [] → map on_paper marks ≡ marks_on page y → IsMarksText shapes format marks text
+    (shapes : Shapes) (format : Format) (inputs : List Input) (page : Paper) (y : ℕ) (marks : List WireMark)
+    (text : List ℕ) → IsPage inputs page → page.held ≡ [] → map on_paper marks ≡ marks_on page y
+    → IsMarksText shapes format marks text
     → text_in shapes format four_alone (printed_on (without_blank page)) ≡ Ok text

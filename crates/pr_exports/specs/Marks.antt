@@ -1,5 +1,6 @@
 -- Trusted: marks on the paper as numbers, and the paper that has them.
-use Rattle.std.specs.Prelude.{◌≡◌, ⊤, ℕ, ◌+◌, ◌≤◌, ◌==◌, Bool, true, false, List, [], ◌∷◌, map, filter, nat_lt, if◌then◌else◌, Option, Some, None}
+use Rattle.std.specs.Prelude.{◌≡◌, ⊤, ℕ, ◌+◌, ◌≤◌, ◌==◌, Bool, true, false, List, [], ◌∷◌, map, filter, nat_lt}
+use Rattle.std.specs.Prelude.{if◌then◌else◌, Option, Some, None}
 use Rattle.pr_page.specs.Marks.{marks_on}
 use Rattle.pr_page.specs.Page.{IsPage}
 use Rattle.pr_page.specs.declared.carriage.MarkOnPaper.{MarkOnPaper}
@@ -19,7 +20,8 @@ mark_by w = if w.kind == 1 then Dots w.value else Cell w.value (w.lower == 1) (w
 abbrev pub on_paper : WireMark → MarkOnPaper
 on_paper w = record { y = w.y; x = w.x; mark = mark_by w }
 
--- the index of the first mark that is above the one before it, where the one before them all is at y and they are counted from an index
+-- the index of the first mark that is above the one before it, where the one before them all is at y and they are
+-- counted from an index
 abbrev pub first_up : (index y : ℕ) → List WireMark → Option ℕ
 first_up index y [] = None
 first_up index y (w ∷ ws) = if nat_lt w.y y then Some index else first_up (index + 1) w.y ws
@@ -37,7 +39,8 @@ abbrev pub AreMarked : (from : ℕ) → List Row → Type 0
 AreMarked from [] = ⊤
 AreMarked from (row ∷ rows) = (from ≤ row.y) × (has_marks row ≡ true) × AreMarked (row.y + 1) rows
 
--- the paper that has these marks and no others, in their order: each of its rows has some, and lies below the one before it
+-- the paper that has these marks and no others, in their order: each of its rows has some, and lies below the one
+-- before it
 pub record HasMarks (marks : List WireMark) (paper : Paper) : Type 0 where
   pub marks_are : map on_paper marks ≡ marks_on paper 0
   pub held : paper.held ≡ []
@@ -55,4 +58,5 @@ MarksHaveTheirPage =
 
 -- a law: marks have no more than one paper
 abbrev pub MarksHaveOnePaper : Type 0
-MarksHaveOnePaper = (marks : List WireMark) (one other : Paper) → HasMarks marks one → HasMarks marks other → one ≡ other
+MarksHaveOnePaper =
+    (marks : List WireMark) (one other : Paper) → HasMarks marks one → HasMarks marks other → one ≡ other

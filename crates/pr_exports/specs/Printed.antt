@@ -1,5 +1,5 @@
--- Linking words, for proofs: the text of a paper, and of a page of inputs or of marks, as it is made. No reader needs to
--- believe them.
+-- Linking words, for proofs: the text of a paper, and of a page of inputs or of marks, as it is made. No reader needs
+-- to believe them.
 use Rattle.std.specs.Prelude.{◌≡◌, ℕ, List, Result, Ok, Err, Vec}
 use Rattle.std.specs.Global.{Global}
 use Rattle.pr_page.specs.declared.input.Input.{Input}

@@ -77,9 +77,9 @@ fn drawn_by(shapes: &Shapes, mark: &WireMark) -> ArrayVec<WireMark, COLUMNS>
     drawn
 }
 
-/// Reads a file of characters: the caller's numbers become those of its characters, or of the project's own where the file is
-/// empty. It is refused exactly where the file has a bad line, with its number from 1, and the numbers are then as they were.
-/// It takes no memory.
+/// Reads a file of characters: the caller's numbers become those of its characters, or of the project's own where the
+/// file is empty. It is refused exactly where the file has a bad line, with its number from 1, and the numbers are then
+/// as they were. It takes no memory.
 #[unsafe(no_mangle)]
 pub extern "C" fn print1525_characters_read(
     characters: &[u8],
@@ -97,9 +97,10 @@ pub extern "C" fn print1525_characters_read(
     }
 }
 
-/// Puts the columns of dots that draw a mark in these characters at the front of the caller's buffer, as marks: one for a column,
-/// six for a character, twelve for a wide one. They are those that `pr_dots` draws; columns whose place has no number of 16 bits
-/// are left out. If the buffer is too small it is as it was, and the answer has their number. It takes no memory.
+/// Puts the columns of dots that draw a mark in these characters at the front of the caller's buffer, as marks: one for
+/// a column, six for a character, twelve for a wide one. They are those that `pr_dots` draws; columns whose place has
+/// no number of 16 bits are left out. If the buffer is too small it is as it was, and the answer has their number. It
+/// takes no memory.
 #[unsafe(no_mangle)]
 pub extern "C" fn print1525_characters_dots(
     shapes: &WireShapes,

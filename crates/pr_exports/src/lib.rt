@@ -14,8 +14,8 @@
 //!   page in a browser draws and marks by these.
 //! - `listings` has a listing's text of a script, with the line and the column of its fault. `printing` has the page of a
 //!   printer's inputs, of which some are no bytes.
-//! - `marked` has the picture of the paper with some marks (`marks`), for those that keep a printer's marks. `characters` has
-//!   the characters of a file as numbers, and the dots that draw a mark in them.
+//! - `marked` has the picture of the paper with some marks (`marks`), for those that keep a printer's marks.
+//!   `characters` has the characters of a file as numbers, and the dots that draw a mark in them.
 //! - `devices` has a device on the bus that hears and answers, for emulators and adapters in C. Between two calls it is
 //!   in the numbers of `device_numbers`, with their version. A step restores and stores it, which copies a few numbers,
 //!   and refuses numbers that are no device's. It takes no memory. `printing_time` has how long a printer is busy.

@@ -31,7 +31,13 @@ fn text_of(
 }
 
 /// Puts the text of the paper that has these marks, as that of printer 4, at the front of a buffer.
-fn draw(alloc: Global, marks: &[WireMark], format: Format, shapes: &Shapes, out: &mut [u8]) -> Answer
+fn draw(
+    alloc: Global,
+    marks: &[WireMark],
+    format: Format,
+    shapes: &Shapes,
+    out: &mut [u8],
+) -> Answer
     ensures hands { HandsMarks shapes.now format marks.now out.old out.new result }
     ensures length { length out.new ≡ length out.old }
 {
@@ -44,15 +50,16 @@ fn draw(alloc: Global, marks: &[WireMark], format: Format, shapes: &Shapes, out:
     }
 }
 
-/// Puts the picture of the paper that has these marks, or of a sheet of it, at the front of the caller's buffer. The marks are in
-/// the order in which a printer makes them; those of a row have its place. Rows without marks are not part of the paper.
+/// Puts the picture of the paper that has these marks, or of a sheet of it, at the front of the caller's buffer. The
+/// marks are in the order in which a printer makes them; those of a row have its place. Rows without marks are not part
+/// of the paper.
 ///
-/// `format`, `sheet`, `top`, `paper`, `scale` and `characters` are as in [`crate::print1525_print`], and refused as there. The
-/// text is that of the paper of printer 4 with these rows, and nothing held.
+/// `format`, `sheet`, `top`, `paper`, `scale` and `characters` are as in [`crate::print1525_print`], and refused as
+/// there. The text is that of the paper of printer 4 with these rows, and nothing held.
 ///
-/// It is refused exactly where a mark is above the one before it, with the index of the first, from 0, before any memory is
-/// taken; where memory was refused; and where the text has more bytes than the buffer has room for, with their number. The
-/// buffer is then as it was.
+/// It is refused exactly where a mark is above the one before it, with the index of the first, from 0, before any
+/// memory is taken; where memory was refused; and where the text has more bytes than the buffer has room for, with
+/// their number. The buffer is then as it was.
 #[unsafe(no_mangle)]
 pub extern "C" fn print1525_printer_picture(
     alloc: Global,

@@ -35,11 +35,16 @@ fn speed_for(speed: &WireSpeed) -> Speed
     }
 }
 
-/// Says how long a printer of this speed takes for columns of dots and line feeds, in microseconds: what [`printing_time`]
-/// says. The head passes all columns from the left edge to the last dot of a line, blank ones too: six for a character, at most
-/// 480 in a line. It takes no memory.
+/// Says how long a printer of this speed takes for columns of dots and line feeds, in microseconds: what
+/// [`printing_time`] says. The head passes all columns from the left edge to the last dot of a line, blank ones too:
+/// six for a character, at most 480 in a line. It takes no memory.
 #[unsafe(no_mangle)]
-pub extern "C" fn print1525_printing_time(columns: u32, feeds: u16, speed: &WireSpeed, time: &mut u64)
+pub extern "C" fn print1525_printing_time(
+    columns: u32,
+    feeds: u16,
+    speed: &WireSpeed,
+    time: &mut u64,
+)
     ensures time { time.new ≡ printing_time columns feeds (speed_by speed.now) }
     ensures bound { time.new < 2 ^ 53 }
 {

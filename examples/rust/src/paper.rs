@@ -110,8 +110,8 @@ pub fn draw(marks: &[Mark], region: &Region, memory: &mut [u8]) -> Result<(), Er
     done((), raw::drawn(true, marks, &region.raw(), memory))
 }
 
-/// Gives a picture of the paper with marks, of which none is above the one before it, to a function, part after part. It
-/// is SVG, PNG or PDF by `as_`. Where the function wants no more, the error is [`crate::fault::NOT_WRITTEN`].
+/// Gives a picture of the paper with marks, of which none is above the one before it, to a function, part after part.
+/// It is SVG, PNG or PDF by `as_`. Where the function wants no more, the error is [`crate::fault::NOT_WRITTEN`].
 pub fn write_picture(marks: &[Mark], settings: &Settings, mut write: impl FnMut(&[u8]) -> bool) -> Result<(), Error> {
     done((), raw::picture(marks, &settings.chosen(), &mut write))
 }
