@@ -2,9 +2,12 @@
  *
  *     Devices of the serial bus that answer, for emulators and adapters
  *     print1525_device_..         what a device does to DATA and what it hears, moment by moment
+ *     print1525_printing_time     how long a printer prints, for a device that is busy meanwhile
  *
  *     Printers that are watched
  *     print1525_printer_..        the marks of each byte as it comes, and the pixels of any part of the paper
+ *     print1525_printer_picture   the paper of marks as SVG, PNG or PDF, in parts
+ *     print1525_characters_..     the dots of marks in the characters of a file
  *
  *     Receivers of edges of the serial bus
  *     print1525_receiver_..       what comes to a device on any bus, edge by edge
@@ -55,12 +58,13 @@
  *
  * WHAT A CALLER CARRIES.
  * - Threads: no call keeps any state, so several threads may make calls at once.
- * - Stack: at most 4096 bytes of it for print1525_device_.., _printer_.., _receiver_.., _decoder_.. and the calls under
- *   `Words` above; at most PRINT1525_STACK for each other call, as tests measure in our builds. Where functions of the
- *   C library are bound at their first call (without `-z now`), the dynamic linker needs some 2500 bytes more then.
- * - Memory: the calls with at most 4096 bytes of stack take none. The others take it by malloc, realloc and free of one
- *   allocator, aligned as C demands. Where these give none, a call fails with PRINT1525_FAULT_NO_MEMORY and has freed
- *   what it took.
+ * - Stack: at most 4096 bytes of it for print1525_device_.., _printing_time, _printer_.., _receiver_.., _decoder_.. and
+ *   the calls under `Words` above, and 16,384 for _characters_..; at most PRINT1525_STACK for each other call and for
+ *   print1525_printer_picture, as tests measure in our builds. Where functions of the C library are bound at their
+ *   first call (without `-z now`), the dynamic linker needs some 2500 bytes more then.
+ * - Memory: the calls with at most 16,384 bytes of stack take none. The others take it by malloc, realloc and free of
+ *   one allocator, aligned as C demands. Where these give none, a call fails with PRINT1525_FAULT_NO_MEMORY and has
+ *   freed what it took.
  * - Signal handlers: the calls that take no memory, and no others.
  * - fork: a child may make calls where it may call malloc.
  * - No call touches files, streams, locales, the time or the state of floating point; errno only where malloc does.
@@ -128,6 +132,8 @@ enum print1525_fault {
     /* refused: of an edge or a moment of any bus, earlier than the one before it; `place` is 0, since nobody counts
      * them */
     PRINT1525_FAULT_GOES_BACK = 17,
+    /* refused: of marks: one is above the one before it; `place` is its index, from 0 */
+    PRINT1525_FAULT_MARK_ABOVE = 18,
     /* refused: a number that means no device, character set, timing or pixels; `place` is 0 */
     PRINT1525_FAULT_NO_SUCH_DEVICE = 21,
     PRINT1525_FAULT_NO_SUCH_SET = 25,
@@ -183,6 +189,7 @@ enum print1525_fault {
     /* failed; `place` is 0 */
     PRINT1525_FAULT_NO_MEMORY = 90,
     PRINT1525_FAULT_TOO_SMALL = 91, /* `length` is what it needs */
+    PRINT1525_FAULT_NOT_WRITTEN = 92, /* the caller's function wanted no more */
     /* stopped: 100 and the number of the BASIC error; `place` is the statement that it stopped, from 1 */
     PRINT1525_STOP_TOO_MANY_FILES = 101,
     PRINT1525_STOP_FILE_OPEN = 102,
@@ -290,6 +297,20 @@ int print1525_device_step(print1525_device *device, const print1525_edge *moment
  *
  * Refuses, with the device as it was: NULL (80). */
 int print1525_device_busy(print1525_device *device, uint64_t until, print1525_details *details);
+
+/* How fast a printer prints. 0 is the figure of the VIC-1525 User's Manual: 30 characters and five line feeds a second.
+ */
+typedef struct {
+    uint32_t columns; /* how many columns of dots in a second: 180 */
+    uint32_t feed;    /* how long a line feed takes, in microseconds: 200,000 */
+} print1525_speed;
+
+/* Gives how long a printer takes for columns of dots and line feeds, in microseconds: less than 2^53. Where a line ends
+ * at a moment, its device prints until then and this much more (print1525_device_busy).
+ *
+ * Reads: columns from the left edge to the last dot of a line, blank ones too: six for a character, at most 480 in a
+ * line; and a speed, or of NULL that of the manual. */
+uint64_t print1525_printing_time(uint32_t columns, uint16_t feeds, const print1525_speed *speed);
 
 /* -------------------------------------------------------------------------------- printers that are watched -- */
 
@@ -412,8 +433,8 @@ int print1525_printer_changed(const print1525_mark *marks, size_t length, print1
  * Reads: marks, in any order; a region, also beyond the page.
  * Gives: all pixels of the region; bytes between two lines, and the last bits of a line's last byte, stay as they were.
  * All marks of ended lines give the pixels of the PNG file with `top` PRINT1525_TOP_EDGE. Cells have this project's
- * shapes: draw those of your own printer yourself. Capacity counts the bytes from the region's first pixel on. It
- * takes time for the marks and the pixels.
+ * shapes: for those of a file draw the dots of each mark (print1525_characters_dots). Capacity counts the bytes from
+ * the region's first pixel on. It takes time for the marks and the pixels.
  * Refuses, with the pixels as they were: NULL (80), OVERLAP (81), a region that needs 2^63 bytes or more (9), and a
  * stride that is smaller than a line, or pixels that mean nothing (27). Too small a capacity fails (91). */
 int print1525_printer_page(const print1525_mark *marks, size_t length, const print1525_region *region, void *pixels,
@@ -425,6 +446,36 @@ int print1525_printer_page(const print1525_mark *marks, size_t length, const pri
  * Reads and refuses: as print1525_printer_page. It takes time for the marks alone. */
 int print1525_printer_draw(const print1525_mark *marks, size_t length, const print1525_region *region, void *pixels,
                            size_t capacity, print1525_details *details);
+
+/* The characters of a file, for drawing in a window. All numbers mean some characters, and are the library's own; copy,
+ * save and load them freely. */
+typedef struct {
+    uint8_t kept[1536];
+} print1525_characters;
+
+/* How many bytes they have: sizeof(print1525_characters). */
+size_t print1525_characters_size(void);
+
+/* Reads the characters of a file as of the program's option --characters.
+ *
+ * Reads: the text of the file; an empty one means this project's own characters.
+ * Refuses, with the characters as they were: NULL (80), OVERLAP (81), and a file by its first bad line (52). */
+int print1525_characters_read(const void *text, size_t length, print1525_characters *characters,
+                              print1525_details *details);
+
+/* The most columns of dots that draw a mark. */
+#define PRINT1525_DOTS_OF_A_MARK 12
+
+/* Gives the columns of dots that draw a mark in these characters, as marks of kind PRINT1525_DOTS: one for a column,
+ * six for a character, twelve for a wide one; white on black where it is reverse. So a window draws them in the place
+ * of the mark, with print1525_printer_page, _draw and _changed.
+ *
+ * Reads: characters that were read, and a mark.
+ * Gives: the columns from the left, which begin where the mark begins. Capacity and length count marks;
+ * PRINT1525_DOTS_OF_A_MARK have room for those of any mark.
+ * Refuses: NULL (80) and OVERLAP (81). Too small a capacity fails (91). The buffer is then as it was. */
+int print1525_characters_dots(const print1525_characters *characters, const print1525_mark *mark, print1525_mark *dots,
+                              size_t capacity, size_t *length, print1525_details *details);
 
 /* ------------------------------------------------------------------------------------------- receivers of edges -- */
 
@@ -526,7 +577,7 @@ enum print1525_as {
     PRINT1525_AS_STORY = 4,   /* check: what happens, byte by byte with its times */
     PRINT1525_AS_JSON = 5,    /* check, decode: a line of JSON for each byte */
     PRINT1525_AS_VCD = 6,     /* bus: a Value Change Dump */
-    PRINT1525_AS_SVG = 7,     /* pages, decode, raw, print: a picture, */
+    PRINT1525_AS_SVG = 7,     /* pages, decode, raw, print, printer_picture: a picture, */
     PRINT1525_AS_PNG = 8,     /* the paper of one printer as a PNG file, */
     PRINT1525_AS_PDF = 9,     /* or a PDF document of all sheets */
     PRINT1525_AS_BYTES = 10   /* pages, decode: the bytes that a printer hears, for print1525_raw */
@@ -732,6 +783,28 @@ int print1525_listing(const void *listing, size_t listing_length, const print152
  * line of a dump or a table (31 to 49, 70 to 77). The edges before the fault are given. */
 int print1525_edges(const void *recording, size_t recording_length, const print1525_settings *settings,
                     print1525_edge *edges, size_t capacity, size_t *length, print1525_details *details);
+
+/* The most bytes of a part of a picture. */
+#define PRINT1525_PART 65536
+
+/* A function of the caller's that takes the next part of a picture: 1 to PRINT1525_PART bytes, there during the call
+ * alone. It gives 0 if it wants the next part too. It must return: no longjmp, no exception. */
+typedef int (*print1525_write)(void *context, const void *bytes, size_t length);
+
+/* Writes a picture of the paper with some marks, as that of printer 4.
+ *
+ * Reads: marks of which none is above the one before it, as print1525_printer_byte gives them. For one sheet only its
+ * marks are needed, and those of a row that reaches down to it; for a sheet without a mark one of a later row. Of the
+ * settings `as` (SVG, PNG, PDF), `paper`, `holes`, `top`, `scale`, `sheet` and `characters`.
+ * Gives: to the function, with the context, part after part of what print1525_print gives of the inputs that make these
+ * marks, if each of their lines has ended and has a mark. Lines without a mark are not known: a PRINT1525_DOTS mark of
+ * value 0 has no dot, and makes its line known. The whole picture is made before its first part is given, so of one
+ * that is refused there is none. A PDF document and SVG of all sheets take time for each sheet down to the last mark.
+ * Refuses: NULL (80); settings (82); characters, by their first bad line (52); the first mark that is above the one
+ * before it (18), with its index; and a picture (50, 51), as print1525_pages. It fails (92) where the function gives
+ * anything but 0, and gives it nothing more. */
+int print1525_printer_picture(const print1525_mark *marks, size_t length, const print1525_settings *settings,
+                              print1525_write write, void *context, print1525_details *details);
 
 #ifdef __cplusplus
 }

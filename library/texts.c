@@ -3,9 +3,10 @@
 #include <stdlib.h>
 
 /* The calls that read settings, and sets of them. */
-enum call { PAGES = 1, BUS = 2, CHECK = 4, DECODE = 8, RAW = 16, PRINT = 32, LISTING = 64, EDGES = 128 };
+enum call { PAGES = 1, BUS = 2, CHECK = 4, DECODE = 8, RAW = 16, PRINT = 32, LISTING = 64, EDGES = 128, PICTURE = 256 };
 #define RUNS (PAGES | BUS)
 #define DRAWS (PAGES | DECODE | RAW | PRINT)
+#define PAPERS (DRAWS | PICTURE)
 #define RECORDINGS (CHECK | DECODE | EDGES)
 
 /* Sets of formats, and of what an input is. */
@@ -34,6 +35,7 @@ static unsigned formats_of(unsigned call) {
     case DECODE: return AS(LIST) | AS(JSON) | AS(TEXT) | PICTURES | AS(BYTES);
     case RAW:
     case PRINT: return AS(LIST) | AS(TEXT) | PICTURES;
+    case PICTURE: return PICTURES;
     default: return 0;
     }
 }
@@ -47,6 +49,7 @@ static unsigned forms_of(unsigned call) {
 static unsigned usual_format(unsigned call) {
     if (call == BUS) return AS(TEXT);
     if (call == CHECK) return AS(FRAMES);
+    if (call == PICTURE) return AS(SVG);
     return formats_of(call) & AS(LIST);
 }
 
@@ -63,28 +66,28 @@ typedef struct {
 static rule rule_of(size_t setting) {
     static const rule rules[PRINT1525_SETTING_RESERVED + 1] = {
         {0, 0, 0, 0},
-        {RUNS | CHECK | DECODE | RAW | PRINT, 0, 0, PRINT1525_AS_BYTES},
+        {RUNS | CHECK | PAPERS, 0, 0, PRINT1525_AS_BYTES},
         {RUNS | RECORDINGS | LISTING, 0, 0, PRINT1525_FROM_CSV},
         {RUNS, 0, 0, PRINT1525_PRESENT_NONE},
         {RUNS, 0, 0, PRINT1525_MODE_KEPT},
         {RAW | DECODE, AS(LIST) | AS(TEXT) | PICTURES | AS(BYTES), 0, PRINT1525_SET_LOWER},
         {DRAWS, PICTURES | AS(BYTES), 0, 5},
-        {DRAWS, AS(PDF), 0, PRINT1525_PAPER_LETTER},
-        {DRAWS, AS(PNG) | AS(PDF), 0, 1},
-        {DRAWS, PICTURES, 0, PRINT1525_TOP_EDGE},
-        {DRAWS, AS(PNG), 0, 8},
+        {PAPERS, AS(PDF), 0, PRINT1525_PAPER_LETTER},
+        {PAPERS, AS(PNG) | AS(PDF), 0, 1},
+        {PAPERS, PICTURES, 0, PRINT1525_TOP_EDGE},
+        {PAPERS, AS(PNG), 0, 8},
         {DECODE, AS(LIST), 0, PRINT1525_BOUNDS_GUIDE},
         {DECODE, AS(LIST), 0, 1},
         {RECORDINGS, 0, FROM(AUTO) | FROM(VCD) | FROM(CSV), 1},
         {DECODE, AS(TEXT) | PICTURES | AS(BYTES), 0, PRINT1525_LISTENING_BOTH},
         {DECODE, AS(TEXT) | PICTURES | AS(BYTES), 0, 1},
         {RUNS | CHECK | DECODE | RAW, 0, 0, 1},
-        {DRAWS, AS(SVG) | AS(PNG), 0, UINT64_MAX},
+        {PAPERS, AS(SVG) | AS(PNG), 0, UINT64_MAX},
         {RECORDINGS, 0, FROM(AUTO) | FROM(VCD) | FROM(CSV), UINT64_MAX},
         {RECORDINGS, 0, FROM(AUTO) | FROM(CSV), UINT64_MAX},
         {RUNS, 0, 0, 1},
         {RECORDINGS, 0, FROM(AUTO) | FROM(VCD) | FROM(CSV), 1},
-        {DRAWS, PICTURES, 0, 1},
+        {PAPERS, PICTURES, 0, 1},
         {0, 0, 0, 0},
     };
     return rules[setting];
@@ -124,7 +127,7 @@ static size_t bad_setting(task *t, unsigned call) {
 /* Unpacks what a call is passed. Gives 0, or refuses and gives the status. */
 static int unpack(task *t, unsigned call, const void *input, size_t length, size_t size,
                   const print1525_settings *settings, void *buffer, size_t capacity, print1525_details *details) {
-    const size_t item = call == PRINT ? sizeof(uint16_t) : 1;
+    const size_t item = call == PRINT ? sizeof(uint16_t) : call == PICTURE ? sizeof(print1525_mark) : 1;
     int fault = why_not(input, room(length, item), buffer, room(capacity, size));
     size_t setting;
     memset(t, 0, sizeof *t);
@@ -392,25 +395,85 @@ static int report_length(size_t *length, print1525_details *details, print1525_p
     return report(details, answer);
 }
 
+/* The numbers of a format and of its settings, as proved calls have them. */
+typedef struct {
+    uint8_t format, top, paper, scale;
+} shown;
+
+static shown shown_of(const task *t) {
+    const print1525_settings *const s = &t->settings;
+    shown it;
+    it.format = t->as == AS(TEXT);
+    if (t->as == AS(SVG)) it.format = 2;
+    if (t->as == AS(PNG)) it.format = 3;
+    if (t->as == AS(PDF)) it.format = 4;
+    it.top = s->top == 0 ? 3 : s->top == PRINT1525_TOP_EDGE ? 0 : s->top;
+    it.paper = s->holes ? 1 : s->paper == PRINT1525_PAPER_CONTINUOUS ? 0 : (uint8_t)(s->paper + 1);
+    it.scale = s->scale == 0 ? 2 : s->scale;
+    return it;
+}
+
 int print1525_print(const uint16_t *inputs, size_t inputs_length, const print1525_settings *settings, void *text,
                     size_t capacity, size_t *length, print1525_details *details) {
     task t;
     const print1525_settings *const s = &t.settings;
     print1525_plain_numbers answer;
-    uint8_t format, top, paper;
+    shown it;
     int status = unpack(&t, PRINT, inputs, inputs_length, 1, settings, text, capacity, details);
     if (status == 0 && inputs_length > (size_t)1 << 32) status = refuse(details, PRINT1525_FAULT_TOO_LARGE);
     if (status != 0) {
         tell_length(length, 0);
         return status;
     }
-    format = s->as < PRINT1525_AS_SVG ? s->as == PRINT1525_AS_TEXT : (uint8_t)(s->as - PRINT1525_AS_SVG + 2);
-    top = s->top == 0 ? 3 : s->top == PRINT1525_TOP_EDGE ? 0 : s->top;
-    paper = s->holes ? 1 : s->paper == PRINT1525_PAPER_CONTINUOUS ? 0 : (uint8_t)(s->paper + 1);
-    print1525_plain_print((const uint16_t *)t.input, inputs_length, format, s->device, s->sheet, top, paper,
-                          s->scale == 0 ? 2 : s->scale, (const uint8_t *)t.characters, s->characters_length,
-                          (uint8_t *)t.buffer, capacity, &answer);
+    it = shown_of(&t);
+    print1525_plain_print((const uint16_t *)t.input, inputs_length, it.format, s->device, s->sheet, it.top, it.paper,
+                          it.scale, (const uint8_t *)t.characters, s->characters_length, (uint8_t *)t.buffer,
+                          capacity, &answer);
     return report_length(length, details, answer, 1);
+}
+
+/* A picture in memory that was taken for it, or NULL. Most have room where 64 bytes are there for each mark: for the
+ * others it is made again. */
+static uint8_t *picture_of(const task *t, print1525_plain_numbers *answer) {
+    const print1525_settings *const s = &t->settings;
+    const shown it = shown_of(t);
+    size_t capacity = room(t->length, 64);
+    int tries;
+    if (capacity < SIZE_MAX - PRINT1525_PART) capacity += PRINT1525_PART;
+    for (tries = 0; tries < 2; tries++) {
+        uint8_t *const picture = (uint8_t *)malloc(capacity);
+        answer->code = 3;
+        if (picture == NULL) return NULL;
+        print1525_plain_printer_picture((const print1525_mark *)t->input, t->length, it.format, s->sheet, it.top,
+                                        it.paper, it.scale, (const uint8_t *)t->characters, s->characters_length,
+                                        picture, capacity, answer);
+        if (answer->code == 0) return picture;
+        free(picture);
+        if (answer->code != 4) return NULL;
+        capacity = answer->length;
+    }
+    return NULL;
+}
+
+int print1525_printer_picture(const print1525_mark *marks, size_t length, const print1525_settings *settings,
+                              print1525_write write, void *context, print1525_details *details) {
+    task t;
+    print1525_plain_numbers answer = {3, 0, 0, 0};
+    uint8_t *picture;
+    size_t at;
+    int other = 0;
+    int status;
+    if (write == NULL) return refuse(details, PRINT1525_FAULT_NULL_POINTER);
+    status = unpack(&t, PICTURE, marks, length, 1, settings, NULL, 0, details);
+    if (status != 0) return status;
+    picture = picture_of(&t, &answer);
+    if (picture == NULL) return report(details, answer);
+    for (at = 0; at < answer.length && other == 0; at += PRINT1525_PART) {
+        const size_t left = answer.length - at;
+        other = write(context, picture + at, left < PRINT1525_PART ? left : PRINT1525_PART);
+    }
+    free(picture);
+    return other == 0 ? done(details) : tell(details, PRINT1525_FAILED, PRINT1525_FAULT_NOT_WRITTEN, 0, 0);
 }
 
 int print1525_listing(const void *listing, size_t listing_length, const print1525_settings *settings, void *text,
