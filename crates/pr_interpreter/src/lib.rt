@@ -79,10 +79,15 @@ pub use decimals::{Decimal, Digits, ONES, decimal_of};
 pub use evaluation::evaluate;
 pub use expressions::{Callee, Node, Operator, Placed};
 pub use fault::{NumberFault, ProgramFault};
-pub use functions::{number_text, whole_to};
+pub use functions::{
+    constant_in, constant_number, front_byte, number_text, solid, whole_to, without_sign,
+};
 pub use lexemes::{Lexeme, Word, lexemes_of};
 pub use lines::{Line, lines_of};
-pub use memory::{Array, Arrays, Function, Scope, Variable};
+pub use memory::{
+    Array, Arrays, Function, Scope, Variable, array_of, element_bytes, is_clock, is_status,
+    place_of, same_name, undimensioned, undimensioned_bytes,
+};
 pub use names::{Kind, Name};
 pub use number::{Number, Sign, product, quotient};
 pub use orders::{Order, order_of};
