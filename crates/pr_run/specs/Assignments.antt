@@ -142,7 +142,9 @@ dimension_with p s t (i ∷ is) = let u = use_at p s t.place in
     then_on (indices p u s (i ∷ is)) (λ bounds r. dimensioned u r t.name bounds (array_of t.name r.arrays.list))
 
 unfoldable pub dimension : Program → State → Target → Worked State
-dimension p s t = dimension_with p s t t.indices
+dimension p s t =
+    if is_system t.name t.indices then Err (system_ending (use_at p s t.place) t.name.kind)
+    else dimension_with p s t t.indices
 
 -- DIM
 unfoldable pub dim_statement : Program → State → List Target → Worked State

@@ -1,5 +1,5 @@
 -- Trusted: the statements that say where a run goes on: GOTO, GOSUB, RETURN, ON, IF, FOR and NEXT.
-use Rattle.std.specs.Prelude.{ℕ, zero, suc, ◌∷◌, Bool, true, false, List, [], nat_le, if◌then◌else◌, Option, Some, None, Result, Ok, Err}
+use Rattle.std.specs.Prelude.{ℕ, zero, suc, ◌+◌, ◌∷◌, Bool, true, false, List, [], nat_le, if◌then◌else◌, Option, Some, None, Result, Ok, Err}
 use Rattle.std.specs.List.{slice_get}
 use Rattle.pr_interpreter.specs.declared.expressions.Placed.{Placed}
 use Rattle.pr_interpreter.specs.declared.names.Kind.{Kind}
@@ -21,12 +21,12 @@ use Rattle.pr_run.specs.declared.opened.Loop.{Loop}
 use Rattle.pr_run.specs.declared.opened.Open.{Open}
 use Rattle.pr_run.specs.declared.opened.Open.TheVariants.{Calling, Looping}
 use Rattle.pr_run.specs.declared.place.Place.{Place}
-use Rattle.pr_run.specs.Opened.{Caller, Inner, caller_of, loop_of, stack_limit, stack_size, without}
+use Rattle.pr_run.specs.Opened.{Caller, Inner, call_size, caller_of, loop_of, loop_size, stack_limit, stack_size, without}
 use Rattle.pr_run.specs.Places.{beginning}
 use Rattle.pr_run.specs.declared.programs.Program.{Program}
 use Rattle.pr_run.specs.declared.uses.Use.{Use}
 use Rattle.pr_run.specs.States.{State, next_line}
-use Rattle.pr_run.specs.Assignments.{assigned, is_system, stored, system_ending}
+use Rattle.pr_run.specs.Assignments.{assigned, is_system, stored, system_ending, target_place}
 use Rattle.pr_run.specs.Uses.{Valued, Worked, and_then, direction_by, ends_loop, line_at, line_use, use_at, use_of, used}
 use Rattle.pr_run.specs.Worked.{number, then_on, truth, whole, worked}
 
@@ -41,16 +41,18 @@ gone_to line s (Some place) = Ok (record s { place = place })
 unfoldable pub go_to : Program → ℕ → State → Worked State
 go_to p number s = gone_to (line_at p s) s (beginning number p.lines)
 
--- something more is open, if the machine's stack surely has room for it
-abbrev pub opening : Use → Open → State → Worked State
-opening u o s =
-    if nat_le (stack_size (o ∷ s.opened)) stack_limit then Ok (record s { opened = o ∷ s.opened })
-    else Err (Refused FullStack u.place)
+-- the machine's stack surely has room for so many bytes more
+abbrev pub with_room : Use → ℕ → State → Worked State
+with_room u size s = if nat_le (size + stack_size s.opened) stack_limit then Ok s else Err (Refused FullStack u.place)
+
+-- something more is open
+abbrev pub with_open : Open → State → State
+with_open o s = record s { opened = o ∷ s.opened }
 
 -- GOTO; GOSUB, after which RETURN goes on with the next statement
 unfoldable pub jump : Program → Way → ℕ → State → Worked State
 jump p Goto n s = go_to p n s
-jump p Gosub n s = and_then (opening (line_use p s) (Calling s.place) s) (λ t. go_to p n t)
+jump p Gosub n s = and_then (with_room (line_use p s) call_size s) (λ t. go_to p n (with_open (Calling t.place) t))
 
 abbrev pub returned : ℕ → State → Option Caller → Worked State
 returned line s None = Err (Error ReturnWithoutGosub line)
@@ -101,22 +103,23 @@ step_use p s (Some nodes) = use_of p s nodes
 abbrev pub left_loop : Name → State → State
 left_loop name s = record s { opened = without (loop_of (Some name) s.opened) s.opened }
 
--- a loop begins, and its body is next; one of the same variable is left
-unfoldable pub begun : Use → Name → Known → Known → Direction → State → Worked State
-begun u name limit step d s =
-    opening u (Looping (record { variable = name; limit = limit; step = step; direction = d; body = s.place }))
-    (left_loop name s)
+-- a loop begins, and its body is next
+abbrev pub begun : Name → Known → Known → Direction → State → State
+begun name limit step d s =
+    with_open (Looping (record { variable = name; limit = limit; step = step; direction = d; body = s.place })) s
 
 -- what comes after the limit of a loop
 unfoldable pub with_step : Program → Name → Option (List Placed) → Known → State → Worked State
 with_step p name step limit s =
     then_on (step_of p s step)
     (λ by t. and_then (used (step_use p t step) (direction_by (order_of by zero_number)))
-    (λ d. begun (line_use p t) name limit by d t))
+    (λ d. Ok (begun name limit by d t)))
 
--- what comes after the first value of a loop's variable
+-- what comes after the first value of a loop's variable: a loop of the same variable is left, and there has to be room
 unfoldable pub with_limit : Program → Name → List Placed → Option (List Placed) → State → Worked State
-with_limit p name to step s = then_on (number p s to) (λ limit t. with_step p name step limit t)
+with_limit p name to step s =
+    and_then (with_room (line_use p s) loop_size (left_loop name s))
+    (λ r. then_on (number p r to) (λ limit t. with_step p name step limit t))
 
 -- the variable of a loop is a number that is no element and has no %
 abbrev pub for_kind : Program → State → Kind → Name → List Placed → Worked State
@@ -164,18 +167,15 @@ abbrev pub next_of : Use → Option Inner → State → Worked Passed
 next_of u None s = Err (Error NextWithoutFor u.line)
 next_of u (Some i) s = then_on (advanced u i.current s) (λ over t. Ok (passed i over t))
 
--- NEXT takes no elements, and no variables with %
-abbrev pub is_loop_name : Kind → List (List Placed) → Bool
-is_loop_name Numeric [] = true
-is_loop_name Letters [] = true
-is_loop_name Short [] = false
-is_loop_name kind (i ∷ is) = false
+-- the loop of a variable; no element has one
+abbrev pub loop_for : Name → Option ℕ → List Open → Option Inner
+loop_for name None os = loop_of (Some name) os
+loop_for name (Some at) os = None
 
 -- NEXT with a variable
 unfoldable pub next_variable : Program → State → Target → Worked Passed
 next_variable p s t =
-    if is_loop_name t.name.kind t.indices
-    then next_of (use_at p s t.place) (loop_of (Some t.name) s.opened) s else Err (Error Syntax (line_at p s))
+    then_on (target_place p s t) (λ at r. next_of (use_at p r t.place) (loop_for t.name at r.opened) r)
 
 -- NEXT with several variables: each after a loop that is over
 abbrev pub next_variables : Program → State → List Target → Worked State

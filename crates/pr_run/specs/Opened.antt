@@ -39,10 +39,16 @@ caller_of [] = None
 caller_of (Calling p ∷ os) = Some (record { back = p; before = os })
 caller_of (Looping l ∷ os) = caller_of os
 
--- how many bytes of the machine's stack it takes: a loop 18, a call 7
+-- how many bytes of the machine's stack a loop and a call take
+abbrev pub loop_size : ℕ
+loop_size = 18
+
+abbrev pub call_size : ℕ
+call_size = 7
+
 abbrev pub open_size : Open → ℕ
-open_size (Looping l) = 18
-open_size (Calling p) = 7
+open_size (Looping l) = loop_size
+open_size (Calling p) = call_size
 
 abbrev pub stack_size : List Open → ℕ
 stack_size [] = 0

@@ -91,9 +91,9 @@ open_statement p s is =
 abbrev pub close_with : ℕ → List ℕ → State → Worked Output
 close_with place [] s = Err (Refused FileName place)
 close_with place (file ∷ more) s =
-    Ok (done (CloseFile file) (record s { files = filter (λ f. not (f == file)) s.files }))
+    Ok (done (CloseFile file) (record s { files = filter (λ f. not (f == file)) s.files; has_sent = true }))
 
--- CLOSE: a file that is not open stays so
+-- CLOSE: a file that is not open stays so; what closes may be sent to a file
 unfoldable pub close_statement : Program → State → List (List Placed) → Worked Output
 close_statement p s is = then_on (file_numbers p s is) (λ found t. close_with (line_use p s).place found t)
 

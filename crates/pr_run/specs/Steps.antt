@@ -20,7 +20,7 @@ use Rattle.pr_run.specs.Outputs.{Output, close_statement, command_statement, ope
 use Rattle.pr_run.specs.Places.{Found, Doing, LineEnd, ProgramEnd, after_statement, found_at}
 use Rattle.pr_run.specs.declared.programs.Program.{Program}
 use Rattle.pr_run.specs.States.{State, next_line}
-use Rattle.pr_run.specs.Assignments.{clear_statement, dim_statement, let_statement, replaced}
+use Rattle.pr_run.specs.Assignments.{clear_statement, dim_statement, is_system, let_statement, replaced}
 use Rattle.pr_run.specs.Uses.{Worked, first_place, line_at}
 use Rattle.pr_run.specs.Worked.{then_on, whole}
 
@@ -29,13 +29,21 @@ use Rattle.pr_run.specs.Worked.{then_on, whole}
 unfoldable pub with_function : Function → List Function → List Function
 with_function f fs = replaced (λ g. same_name f.name g.name) f fs
 
--- the error of DEF FN, if there is one, by the kinds of its name and of its variable
-abbrev pub define_error : Kind → Kind → Option BasicError
-define_error name Short = Some Syntax
-define_error name Letters = Some TypeMismatch
-define_error Letters Numeric = Some TypeMismatch
-define_error Numeric Numeric = None
-define_error Short Numeric = None
+-- the error of a name with DEF FN, if there is one
+abbrev pub kind_error : Kind → Option BasicError
+kind_error Short = Some Syntax
+kind_error Letters = Some TypeMismatch
+kind_error Numeric = None
+
+abbrev pub or_error : Option BasicError → Option BasicError → Option BasicError
+or_error (Some e) more = Some e
+or_error None more = more
+
+-- the error of DEF FN, if there is one: the name of the function comes first; its variable is not TI or ST
+abbrev pub define_error : Name → Name → Option BasicError
+define_error name variable =
+    or_error (kind_error name.kind)
+    (or_error (kind_error variable.kind) (if is_system variable [] then Some Syntax else None))
 
 abbrev pub define_or : ℕ → Option BasicError → Function → State → Worked State
 define_or line (Some e) f s = Err (Error e line)
@@ -44,12 +52,13 @@ define_or line None f s = Ok (record s { functions = with_function f s.functions
 -- DEF FN: nothing is worked out yet
 unfoldable pub define_statement : Program → State → Name → Name → List Placed → Worked State
 define_statement p s name variable nodes =
-    define_or (line_at p s) (define_error name.kind variable.kind)
+    define_or (line_at p s) (define_error name variable)
     (record { name = name; variable = variable; value = nodes }) s
 
--- addresses where POKE cannot change what is printed: the screen, and the chips for picture, sound and colour
+-- Addresses where POKE cannot change what is printed: the screen, and the chips for picture, sound and colour. The
+-- chips after them have the timers and the lines of the bus.
 abbrev pub is_harmless : ℕ → Bool
-is_harmless a = (nat_le 1024 a && nat_le a 2023) || (nat_le 53248 a && nat_le a 57343)
+is_harmless a = (nat_le 1024 a && nat_le a 2023) || (nat_le 53248 a && nat_le a 56319)
 
 abbrev pub poke_at : ℕ → ℕ → State → Worked State
 poke_at place a s = if is_harmless a then Ok s else Err (Refused (Poked a) place)

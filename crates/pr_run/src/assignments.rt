@@ -397,13 +397,16 @@ fn dimension(alloc: Global, program: &Program, run: &mut Run, target: &Target) -
     ensures err { IfErr result (λ e. EndsAs e (dimension program.now (state_of run.old) target.now)) }
     ensures leads { OnOk result (Leads (dimension program.now) (state_of run.old) target.now (state_of run.new)) }
 {
-    if target.indices.is_empty() {
-        return Ok(());
-    }
     let at = Use {
         line: line_at(program, run),
         place: target.place,
     };
+    if is_system(target.name, target.indices.as_slice()) {
+        return Err(system_ending(at, target.name.kind));
+    }
+    if target.indices.is_empty() {
+        return Ok(());
+    }
     let bounds = indices(alloc, program, at, run, target.indices.as_slice())?;
     dimensioned(alloc, at, run, target.name, bounds)
 }

@@ -1,16 +1,16 @@
 //! The statements that say where a run goes on: GOTO, GOSUB, RETURN, ON, IF, FOR and NEXT.
 
-ghost use Rattle.std.specs.Prelude.{◌≡◌, ◌<◌, ◌-◌, ◌^◌, IfErr, IfOk, OnOk, Ok};
+ghost use Rattle.std.specs.Prelude.{◌≡◌, ◌<◌, ◌≤◌, ◌-◌, ◌^◌, IfErr, IfOk, OnOk, Ok};
 ghost use Rattle.pr_interpreter.specs.Memory.{variable_value};
-ghost use Rattle.pr_run.specs.Jumps.{advanced, begun, branch, chosen, for_kind, for_statement, for_variable, go_to, if_statement, is_loop_name, jump, jump_if, left_loop, next_last, next_of, next_statement, next_variable, next_variables, number_or_zero, on_statement, opening, return_statement, step_of, step_use, with_limit, with_step};
+ghost use Rattle.pr_run.specs.Jumps.{advanced, begun, branch, chosen, for_kind, for_statement, for_variable, go_to, if_statement, jump, jump_if, left_loop, next_last, next_of, next_statement, next_variable, next_variables, number_or_zero, on_statement, return_statement, step_of, step_use, with_limit, with_open, with_room, with_step};
 ghost use Rattle.pr_interpreter.specs.Numbers.{sum};
 ghost use Rattle.pr_interpreter.specs.Values.{calculated};
-ghost use Rattle.pr_run.specs.Opened.{loop_of};
+ghost use Rattle.pr_run.specs.Opened.{loop_of, stack_limit};
 ghost use Rattle.pr_run.specs.Seen.{EndsAs, NextLeads, gives, passes, state_of};
 
-use crate::assignments::{is_system, store, system_ending};
+use crate::assignments::{is_system, store, system_ending, target_place};
 use crate::ending::{Ending, Refusal};
-use crate::opened::{Direction, Loop, Open, has_room, loop_of, take_caller};
+use crate::opened::{CALL, Direction, LOOP, Loop, Open, has_room, loop_of, take_caller};
 use crate::place::beginning;
 use crate::programs::Program;
 use crate::state::Run;
@@ -40,17 +40,26 @@ pub fn go_to(program: &Program, number: u16, run: &mut Run) -> Result<(), Ending
     }
 }
 
-/// Opens something more, if the machine's stack surely has room for it.
-fn add_open(at: Use, more: Open, run: &mut Run) -> Result<(), Ending>
-    ensures ok { OnOk result (opening at more (state_of run.old) ≡ Ok (state_of run.new)) }
-    ensures err { IfErr result (λ e. EndsAs e (opening at more (state_of run.old))) }
+/// Refuses what takes so many bytes more of the machine's stack than it surely has.
+fn need_room(at: Use, size: usize, run: &Run) -> Result<(), Ending>
+    requires { size ≤ stack_limit }
+    ensures ok { OnOk result (with_room at size (state_of run.now) ≡ Ok (state_of run.now)) }
+    ensures err { IfErr result (λ e. EndsAs e (with_room at size (state_of run.now))) }
 {
-    if !has_room(run.opened.as_slice(), &more) {
-        return Err(Ending::Refused {
-            refusal: Refusal::FullStack,
-            place: at.place,
-        });
+    if has_room(run.opened.as_slice(), size) {
+        return Ok(());
     }
+    Err(Ending::Refused {
+        refusal: Refusal::FullStack,
+        place: at.place,
+    })
+}
+
+/// Opens something more.
+fn add_open(more: Open, run: &mut Run) -> Result<(), Ending>
+    ensures ok { OnOk result (state_of run.new ≡ with_open more (state_of run.old)) }
+    ensures err { IfErr result (λ e. e ≡ Ending.OutOfMemory) }
+{
     match run.opened.push(more) {
         Ok(()) => Ok(()),
         Err(_) => Err(Ending::OutOfMemory),
@@ -66,8 +75,9 @@ pub fn jump(program: &Program, way: Way, number: u16, run: &mut Run) -> Result<(
     match way {
         Way::Goto => go_to(program, number, run),
         Way::Gosub => {
-            let at = line_use(program, run);
-            add_open(at, Open::Calling(run.place), run)?;
+            need_room(line_use(program, run), CALL, run)?;
+            let back = run.place;
+            add_open(Open::Calling(back), run)?;
             go_to(program, number, run)
         }
     }
@@ -189,32 +199,26 @@ fn step_use(program: &Program, run: &Run, step: &Option<Nodes>) -> Use
     }
 }
 
-/// Begins a loop. One of the same variable is left, with those inside it.
-#[tactic(auto, unfolding(crate::specs::Jumps::begun))]
+/// Begins a loop, whose body is next.
 fn begin(
-    at: Use,
     variable: Name,
     limit: Number,
     step: Number,
     direction: Direction,
     run: &mut Run,
 ) -> Result<(), Ending>
-    ensures ok { OnOk result (begun at variable limit step direction (state_of run.old) ≡ Ok (state_of run.new)) }
-    ensures err { IfErr result (λ e. EndsAs e (begun at variable limit step direction (state_of run.old))) }
+    ensures ok { OnOk result (state_of run.new ≡ begun variable limit step direction (state_of run.old)) }
+    ensures err { IfErr result (λ e. e ≡ Ending.OutOfMemory) }
 {
-    leave_loop(run, variable);
     let body = run.place;
-    add_open(
-        at,
-        Open::Looping(Loop {
-            variable,
-            limit,
-            step,
-            direction,
-            body,
-        }),
-        run,
-    )
+    let begun = Loop {
+        variable,
+        limit,
+        step,
+        direction,
+        body,
+    };
+    add_open(Open::Looping(begun), run)
 }
 
 /// Goes on with FOR after its limit.
@@ -232,7 +236,7 @@ fn with_step(
 {
     let by = step_of(alloc, program, run, step)?;
     match direction_by(order_of(by, Number::zero())) {
-        Ok(direction) => begin(line_use(program, run), variable, limit, by, direction, run),
+        Ok(direction) => begin(variable, limit, by, direction, run),
         Err(stop) => Err(ending_of(step_use(program, run, step), stop)),
     }
 }
@@ -285,8 +289,37 @@ fn for_variable(
     set_loop_variable(alloc, program, run, variable, from)
 }
 
+/// Leaves the loop of a variable and those inside it, if there is one since the last GOSUB.
+fn leave_loop(run: &mut Run, variable: Name)
+    ensures { state_of run.new ≡ left_loop variable (state_of run.old) }
+{
+    if let Some((count, _)) = loop_of(Some(variable), run.opened.as_slice()) {
+        run.opened.truncate(count);
+    }
+}
+
+/// Goes on with FOR after the first value of its variable: a loop of the same variable is left, and there has to be room.
+#[tactic(auto, unfolding(crate::specs::Jumps::with_limit))]
+fn with_limit(
+    alloc: Global,
+    program: &Program,
+    run: &mut Run,
+    variable: Name,
+    to: &[Placed],
+    step: &Option<Nodes>,
+) -> Result<(), Ending>
+    ensures ok { OnOk result (with_limit program.now variable to.now step.now (state_of run.old) ≡ Ok (state_of run.new)) }
+    ensures err { IfErr result (λ e. EndsAs e (with_limit program.now variable to.now step.now (state_of run.old))) }
+{
+    let at = line_use(program, run);
+    leave_loop(run, variable);
+    need_room(at, LOOP, run)?;
+    let limit = number(alloc, program, run, to)?;
+    with_step(alloc, program, variable, step, limit, run)
+}
+
 /// Performs FOR.
-#[tactic(auto, unfolding(crate::specs::Jumps::for_statement, crate::specs::Jumps::with_limit))]
+#[tactic(auto, unfolding(crate::specs::Jumps::for_statement))]
 pub fn for_statement(
     alloc: Global,
     program: &Program,
@@ -300,17 +333,7 @@ pub fn for_statement(
     ensures err { IfErr result (λ e. EndsAs e (for_statement program.now (state_of run.old) variable from.now to.now step.now)) }
 {
     for_variable(alloc, program, run, variable, from)?;
-    let limit = number(alloc, program, run, to)?;
-    with_step(alloc, program, variable, step, limit, run)
-}
-
-/// Leaves the loop of a variable and those inside it, if there is one since the last GOSUB.
-fn leave_loop(run: &mut Run, variable: Name)
-    ensures { state_of run.new ≡ left_loop variable (state_of run.old) }
-{
-    if let Some((count, _)) = loop_of(Some(variable), run.opened.as_slice()) {
-        run.opened.truncate(count);
-    }
+    with_limit(alloc, program, run, variable, to, step)
 }
 
 /// Returns the number that a variable has; 0 of a string.
@@ -381,13 +404,6 @@ fn next_of(alloc: Global, at: Use, wanted: Option<Name>, run: &mut Run) -> Resul
     Ok(over)
 }
 
-/// Returns whether NEXT takes a variable of a kind with these indices.
-fn is_loop_name(kind: Kind, indices: &[Nodes]) -> bool
-    ensures { result ≡ is_loop_name kind indices.now }
-{
-    indices.is_empty() && kind != Kind::Whole
-}
-
 /// Performs NEXT for a variable. Returns whether its loop is over.
 #[tactic(auto, unfolding(crate::specs::Jumps::next_variable))]
 fn next_variable(
@@ -400,10 +416,11 @@ fn next_variable(
     ensures err { IfErr result (λ e. EndsAs e (next_variable program.now (state_of run.old) target.now)) }
     ensures leads { IfOk result (λ b. NextLeads program.now (state_of run.old) target.now b (state_of run.new)) }
 {
+    let place = target_place(alloc, program, run, target)?;
     let line = line_at(program, run);
-    if !is_loop_name(target.name.kind, target.indices.as_slice()) {
+    if place.is_some() {
         return Err(Ending::Error {
-            error: BasicError::Syntax,
+            error: BasicError::NextWithoutFor,
             line,
         });
     }

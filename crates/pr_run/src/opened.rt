@@ -1,6 +1,6 @@
 //! What is open: loops of FOR, and calls of GOSUB.
 
-ghost use Rattle.std.specs.Prelude.{◌≡◌, ◌<◌, ◌∷◌, None, MatchOption, length, nat_le, reverse};
+ghost use Rattle.std.specs.Prelude.{◌≡◌, ◌<◌, ◌≤◌, ◌+◌, ◌∷◌, None, MatchOption, length, nat_le, reverse};
 ghost use Rattle.pr_run.specs.Opened.{caller_of, is_wanted, loop_of, open_size, stack_limit, stack_size};
 ghost use Rattle.pr_run.specs.Seen.{FindsCaller, FindsLoop};
 
@@ -9,6 +9,12 @@ use pr_interpreter::{Name, Number, same_name};
 
 /// How many bytes of the machine's stack are surely free for what is open.
 const STACK: usize = 162;
+
+/// How many bytes of it a loop takes.
+pub const LOOP: usize = 18;
+
+/// How many bytes of it a call of GOSUB takes.
+pub const CALL: usize = 7;
 
 /// Which way a loop goes, by the sign of its step.
 #[derive(Clone, Copy)]
@@ -90,16 +96,17 @@ fn open_size(open: &Open) -> usize
     ensures { result ≡ open_size open.now }
 {
     match open {
-        Open::Looping(_) => 18,
-        Open::Calling(_) => 7,
+        Open::Looping(_) => LOOP,
+        Open::Calling(_) => CALL,
     }
 }
 
-/// Returns whether the machine's stack surely has room for something more.
-pub fn has_room(opened: &[Open], more: &Open) -> bool
-    ensures { result ≡ nat_le (stack_size (more.now ∷ reverse opened.now)) stack_limit }
+/// Returns whether the machine's stack surely has room for so many bytes more.
+pub fn has_room(opened: &[Open], more: usize) -> bool
+    requires { more ≤ stack_limit }
+    ensures { result ≡ nat_le (more + stack_size (reverse opened.now)) stack_limit }
 {
-    let mut size = open_size(more);
+    let mut size = more;
     for open in opened {
         size += open_size(open);
         if STACK < size {

@@ -219,6 +219,7 @@ fn close_with(place: usize, numbers: &[u8], run: &mut Run) -> Result<Output, End
     };
     let file = *file;
     run.files.retain(|other| *other != file);
+    run.has_sent = true;
     Ok((Statement::CloseFile { file }, None))
 }
 

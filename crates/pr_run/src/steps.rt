@@ -4,9 +4,9 @@ ghost use Rattle.std.specs.Prelude.{◌≡◌, ◌<◌, ◌-◌, ◌^◌, IfErr,
 ghost use Rattle.std.specs.List.{position_or_len};
 ghost use Rattle.pr_interpreter.specs.Memory.{same_name};
 ghost use Rattle.pr_run.specs.Seen.{EndsAs, TurnEndsAs, ended, nothing, output_done, state_of, turned};
-ghost use Rattle.pr_run.specs.Steps.{define_error, define_statement, is_harmless, poke_statement, step, turn, with_function};
+ghost use Rattle.pr_run.specs.Steps.{define_error, define_statement, kind_error, is_harmless, poke_statement, step, turn, with_function};
 
-use crate::assignments::{clear_statement, dim_statement, let_statement};
+use crate::assignments::{clear_statement, dim_statement, is_system, let_statement};
 use crate::ending::{Ending, Refusal};
 use crate::growth::put;
 use crate::items::{read_statement, restore_statement};
@@ -60,18 +60,31 @@ fn set_function(functions: &mut Vec<Function>, function: Function) -> Result<(),
     Ok(())
 }
 
-/// Returns the error of DEF FN, if there is one, by the kinds of its name and of its variable.
-fn define_error(name: Kind, variable: Kind) -> Option<BasicError>
-    ensures { result ≡ define_error name variable }
+/// Returns the error of a name with DEF FN, if there is one.
+fn kind_error(kind: Kind) -> Option<BasicError>
+    ensures { result ≡ kind_error kind }
 {
-    match variable {
+    match kind {
         Kind::Whole => Some(BasicError::Syntax),
         Kind::Text => Some(BasicError::TypeMismatch),
-        Kind::Number => match name {
-            Kind::Text => Some(BasicError::TypeMismatch),
-            Kind::Number | Kind::Whole => None,
-        },
+        Kind::Number => None,
     }
+}
+
+/// Returns the error of DEF FN, if there is one: the name of the function comes first; its variable is not TI or ST.
+fn define_error(name: Name, variable: Name) -> Option<BasicError>
+    ensures { result ≡ define_error name variable }
+{
+    if let Some(error) = kind_error(name.kind) {
+        return Some(error);
+    }
+    if let Some(error) = kind_error(variable.kind) {
+        return Some(error);
+    }
+    if is_system(variable, &[]) {
+        return Some(BasicError::Syntax);
+    }
+    None
 }
 
 /// Performs DEF FN.
@@ -87,7 +100,7 @@ fn define_statement(
     ensures ok { OnOk result (define_statement program.now (state_of run.old) name variable nodes.now ≡ Ok (state_of run.new)) }
     ensures err { IfErr result (λ e. EndsAs e (define_statement program.now (state_of run.old) name variable nodes.now)) }
 {
-    if let Some(error) = define_error(name.kind, variable.kind) {
+    if let Some(error) = define_error(name, variable) {
         return Err(Ending::Error {
             error,
             line: line_at(program, run),
@@ -108,7 +121,7 @@ fn define_statement(
 fn is_harmless(address: u16) -> bool
     ensures { result ≡ is_harmless address }
 {
-    1024 <= address && address <= 2023 || 53248 <= address && address <= 57343
+    1024 <= address && address <= 2023 || 53248 <= address && address <= 56319
 }
 
 /// Performs POKE: it is left out where it cannot change what is printed.
