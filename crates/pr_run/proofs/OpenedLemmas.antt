@@ -68,9 +68,9 @@ size_reverse (x ∷ xs) =
     omega arith
 
 -- with one thing more there is no room
-pub room_full : (more o : Open) (xs : List Open) (i size n : ℕ) → i < length xs → o ≡ get_or xs i o → n ≡ open_size o
-    → size + stack_size (drop i xs) ≡ open_size more + stack_size xs → 162 < size + n
-    → nat_le (open_size more + stack_size (reverse xs)) 162 ≡ false
+pub room_full : (more : ℕ) (o : Open) (xs : List Open) (i size n : ℕ) → i < length xs → o ≡ get_or xs i o → n ≡ open_size o
+    → size + stack_size (drop i xs) ≡ more + stack_size xs → 162 < size + n
+    → nat_le (more + stack_size (reverse xs)) 162 ≡ false
 room_full more o xs i size n h item taken all large =
     let cut : drop i xs ≡ get_or xs i o ∷ drop (i + 1) xs = rw add-one (drop-cons xs i o h) in
     let sizes : stack_size (drop i xs) ≡ open_size (get_or xs i o) + stack_size (drop (i + 1) xs) = rw cut refl in
@@ -79,9 +79,9 @@ room_full more o xs i size n h item taken all large =
     lt-leb _ _ (omega arith)
 
 -- nothing is left, and there is room
-pub room_left : (more : Open) (xs : List Open) (i size : ℕ) → length xs ≤ i
-    → size + stack_size (drop i xs) ≡ open_size more + stack_size xs → size ≤ 162
-    → nat_le (open_size more + stack_size (reverse xs)) 162 ≡ true
+pub room_left : (more : ℕ) (xs : List Open) (i size : ℕ) → length xs ≤ i
+    → size + stack_size (drop i xs) ≡ more + stack_size xs → size ≤ 162
+    → nat_le (more + stack_size (reverse xs)) 162 ≡ true
 room_left more xs i size h all few =
     let none : stack_size (drop i xs) ≡ 0 = rw (drop_all i xs h) refl in
     let back = size_reverse xs in

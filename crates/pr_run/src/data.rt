@@ -1,7 +1,6 @@
 //! The items of DATA.
 
 ghost use Rattle.std.specs.Prelude.{◌≡◌, ◌++◌, ◌+◌, ◌<◌, ◌≤◌, ◌==◌, ◌^◌, IfOk, OnOk, length, slice_range, true};
-ghost use Rattle.pr_interpreter.specs.LineLaws.{AreWithin, IsWithin};
 ghost use Rattle.pr_interpreter.specs.Lines.{blanks};
 ghost use Rattle.pr_interpreter.specs.Reading.{word_code};
 ghost use Rattle.pr_run.specs.Data.{data_of, front_item, front_size, item_size, items, lexeme_items, line_items, plain_size, string_size, word_items};
@@ -23,7 +22,8 @@ pub struct DataItem {
 /// Returns the bytes of a text from a place to another one, as far as it has them.
 #[tactic(auto, using(crate::proofs::DataLemmas::clamped, crate::proofs::DataLemmas::clamped_none))]
 pub fn slice_of(text: &[u8], start: usize, end: usize) -> &[u8]
-    ensures { result.now ≡ slice_range text.now start end }
+    ensures value { result.now ≡ slice_range text.now start end }
+    ensures within { start + length result.now < 2 ^ 64 }
 {
     let last = end.min(text.len());
     if start < last {
@@ -188,17 +188,15 @@ fn put_line(
     text: &[u8],
     line: &Line,
 ) -> Result<(), AllocError>
-    requires { IsWithin (length text.now) line.now }
     ensures { OnOk result (found.new.items ≡ found.old.items ++ line_items text.now line.now) }
 {
-    let row = &text[line.start..line.end];
+    let row = slice_of(text, line.start, line.end);
     let lexemes = lexemes_of(alloc, Writing::Typed, line.start, row)?;
     put_lexemes(found, text, line.number, lexemes.as_slice())
 }
 
 /// Returns the items of the DATA statements of lines of a text.
 pub fn data_of(alloc: Global, text: &[u8], rows: &[Line]) -> Result<Vec<DataItem>, AllocError>
-    requires { AreWithin (length text.now) rows.now }
     ensures { IfOk result (λ found. found.items ≡ data_of text.now rows.now) }
 {
     let mut found = Vec::new(alloc);

@@ -4,11 +4,11 @@ use Rattle.pr_run.proofs.opened.has_room.Goals as goal
 
 pub returns-then-size-gt-STACK : goal.returns-then-size-gt-STACK
 returns-then-size-gt-STACK c =
-    sym (room_full c.args.more.now c.open-item.result c.args.opened.now c.loop-open.open-index c.loop-open.size
+    sym (room_full c.args.more c.open-item.result c.args.opened.now c.loop-open.open-index c.loop-open.size
     c.open_size-size-in-loop-open.result c.loop-open-test.true c.open-item.is c.open_size-size-in-loop-open.ensures
     c.loop-open.invariant.whole c.if-size-gt-STACK.true)
 
 pub returns : goal.returns
 returns c =
-    sym (room_left c.args.more.now c.args.opened.now c.loop-open.open-index c.loop-open.size c.loop-open-test.false
+    sym (room_left c.args.more c.args.opened.now c.loop-open.open-index c.loop-open.size c.loop-open-test.false
     c.loop-open.invariant.whole c.loop-open.invariant.few)
