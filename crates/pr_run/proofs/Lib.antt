@@ -1,7 +1,9 @@
 pub mod CountLemmas
 pub mod DataLemmas
 pub mod EndLemmas
+pub mod LoopLemmas
 pub mod OpenedLemmas
 pub mod ReplacedLemmas
 pub mod RunLawLemmas
+pub mod StepLemmas
 pub mod UseLemmas

@@ -1,5 +1,6 @@
 pub mod Assignments
 pub mod Data
+pub mod Endings
 pub mod Items
 pub mod Jumps
 pub mod Lists

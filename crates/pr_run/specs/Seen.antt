@@ -3,8 +3,6 @@ use Rattle.std.specs.Prelude.{ℕ, ◌≡◌, ◌⊎◌, ◌<◌, ◌+◌, Bool,
 use Rattle.std.specs.Option.{option_to_list}
 use Rattle.pr_basic.specs.declared.statement.Statement.{Statement}
 use Rattle.pr_interpreter.specs.declared.names.Name.{Name}
-use Rattle.pr_interpreter.specs.declared.statements.Item.{Item}
-use Rattle.pr_interpreter.specs.declared.statements.Target.{Target}
 use Rattle.pr_interpreter.specs.declared.values.BasicError.{BasicError}
 use Rattle.pr_run.specs.declared.ending.Ending.{Ending}
 use Rattle.pr_run.specs.declared.ending.Ending.TheVariants.{Error, OutOfMemory, Refused}
@@ -18,15 +16,13 @@ use Rattle.pr_run.specs.declared.performed.Performed.{Performed}
 use Rattle.pr_run.specs.declared.programs.Program.{Program}
 use Rattle.pr_run.specs.declared.state.Run.{Run}
 use Rattle.pr_run.specs.declared.steps.Done.{Done}
-use Rattle.pr_run.specs.Jumps.{Passed, Again, Over, next_variables}
-use Rattle.pr_run.specs.Lists.{with_parts}
+use Rattle.pr_run.specs.Jumps.{Passed, Again, Over}
 use Rattle.pr_run.specs.Opened.{caller_of, loop_of}
 use Rattle.pr_run.specs.Outputs.{Output}
 use Rattle.pr_run.specs.Runs.{run_from}
 use Rattle.pr_run.specs.States.{State}
 use Rattle.pr_run.specs.Steps.{Ends, Goes, Turn}
 use Rattle.pr_run.specs.Uses.{Valued, Worked}
-use Rattle.pr_run.specs.Worked.{each, every}
 
 -- the state of a run: the machine keeps what was opened last at the end
 abbrev pub state_of : Run → State
@@ -124,22 +120,3 @@ rest_of p n performed (Some ending) r = record { performed = performed; ending =
 abbrev pub LeadsOn : Program → List Performed → Run → List Performed → Run → Option Ending → Type 0
 LeadsOn p before old after new ending =
     (n : ℕ) → joined before (run_from p (n + 1) (state_of old)) ≡ rest_of p n after ending new
-
--- ---- loops
-
--- a state leads on as another one did before something more
-abbrev pub Leads : {A : Type 0} → (State → A → Worked State) → State → A → State → Type 0
-Leads {A} f s x t = (xs : List A) → each f t xs ≡ each f s (x ∷ xs)
-
--- the same, with a value that is found
-abbrev pub LeadsTo : {A B : Type 0} → (State → A → Worked (Valued B)) → State → A → B → State → Type 0
-LeadsTo {A} {B} f s x b t = (found : List B) (xs : List A) → every f (found ++ b ∷ []) t xs ≡ every f found s (x ∷ xs)
-
--- the same, with the bytes of a list
-abbrev pub PartLeads : Program → List ℕ → State → Item → List ℕ → State → Type 0
-PartLeads p bytes s i more t = (is : List Item) → with_parts p more t is ≡ with_parts p bytes s (i ∷ is)
-
--- the same for NEXT, if the loop of its variable is over; else the others do not count
-abbrev pub NextLeads : Program → State → Target → Bool → State → Type 0
-NextLeads p s x true t = (xs : List Target) → next_variables p t xs ≡ next_variables p s (x ∷ xs)
-NextLeads p s x false t = (xs : List Target) → next_variables p s (x ∷ xs) ≡ Ok t

@@ -4,7 +4,7 @@ ghost use Rattle.std.specs.Prelude.{◌≡◌, ◌<◌, ◌≤◌, IfErr, IfOk, 
 ghost use Rattle.std.specs.List.{position_or_len};
 ghost use Rattle.std.specs.Option.{option_copied};
 ghost use Rattle.pr_interpreter.specs.Memory.{array_of, first_value, same_name, with_array};
-ghost use Rattle.pr_run.specs.Seen.{EndsAs, Leads, LeadsTo, gives, state_of};
+ghost use Rattle.pr_run.specs.Seen.{EndsAs, gives, state_of};
 ghost use Rattle.pr_run.specs.Assignments.{clear_statement, dim_statement, dimension, dimensioned, element_count, element_in, index, indices, is_system, let_statement, made_array, made_undimensioned, place_in, stored, system_ending, target_place, with_element, with_its_array, with_value_at, with_variable};
 ghost use Rattle.pr_run.specs.Worked.{valued};
 
@@ -144,7 +144,6 @@ fn index(
 ) -> Result<u16, Ending>
     ensures ok { IfOk result (λ n. index program.now at (state_of run.old) nodes.now ≡ gives n run.new) }
     ensures err { IfErr result (λ e. EndsAs e (index program.now at (state_of run.old) nodes.now)) }
-    ensures leads { IfOk result (λ n. LeadsTo (index program.now at) (state_of run.old) nodes.now n (state_of run.new)) }
 {
     let value = worked(alloc, program, run, nodes)?;
     match whole_of(32767, value) {
@@ -395,7 +394,6 @@ fn dimensioned(
 fn dimension(alloc: Global, program: &Program, run: &mut Run, target: &Target) -> Result<(), Ending>
     ensures ok { OnOk result (dimension program.now (state_of run.old) target.now ≡ Ok (state_of run.new)) }
     ensures err { IfErr result (λ e. EndsAs e (dimension program.now (state_of run.old) target.now)) }
-    ensures leads { OnOk result (Leads (dimension program.now) (state_of run.old) target.now (state_of run.new)) }
 {
     let at = Use {
         line: line_at(program, run),

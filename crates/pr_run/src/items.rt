@@ -1,12 +1,12 @@
 //! READ and RESTORE: what an item of DATA gives to a variable.
 
-ghost use Rattle.std.specs.Prelude.{◌≡◌, ◌≤◌, IfErr, IfOk, OnOk, Ok, drop, filter, length, slice_range};
+ghost use Rattle.std.specs.Prelude.{◌≡◌, ◌+◌, ◌≤◌, IfErr, IfOk, OnOk, Ok, drop, filter, length, slice_range};
 ghost use Rattle.std.specs.List.{list_all, position_or_len, slice_get};
 ghost use Rattle.std.specs.Option.{option_copied};
 ghost use Rattle.pr_interpreter.specs.Functions.{is_solid};
 ghost use Rattle.pr_interpreter.specs.Symbols.{is_quote};
 ghost use Rattle.pr_run.specs.Items.{alone, is_blank, item_value, number_item, quoted_item, read_item, read_statement, read_target, restore_statement, signed, text_item, text_within, unsigned};
-ghost use Rattle.pr_run.specs.Seen.{EndsAs, Leads, state_of};
+ghost use Rattle.pr_run.specs.Seen.{EndsAs, state_of};
 
 use crate::assignments::{store, target_place};
 use crate::data::{DataItem, slice_of};
@@ -221,7 +221,6 @@ fn read_target(
 ) -> Result<(), Ending>
     ensures ok { OnOk result (read_target program.now (state_of run.old) target.now ≡ Ok (state_of run.new)) }
     ensures err { IfErr result (λ e. EndsAs e (read_target program.now (state_of run.old) target.now)) }
-    ensures leads { OnOk result (Leads (read_target program.now) (state_of run.old) target.now (state_of run.new)) }
 {
     let place = target_place(alloc, program, run, target)?;
     read_item(alloc, program, run, target, place)

@@ -6,7 +6,7 @@ ghost use Rattle.pr_run.specs.Jumps.{advanced, begun, branch, chosen, for_kind, 
 ghost use Rattle.pr_interpreter.specs.Numbers.{sum};
 ghost use Rattle.pr_interpreter.specs.Values.{calculated};
 ghost use Rattle.pr_run.specs.Opened.{loop_of, stack_limit};
-ghost use Rattle.pr_run.specs.Seen.{EndsAs, NextLeads, gives, passes, state_of};
+ghost use Rattle.pr_run.specs.Seen.{EndsAs, gives, passes, state_of};
 
 use crate::assignments::{is_system, store, system_ending, target_place};
 use crate::ending::{Ending, Refusal};
@@ -414,7 +414,6 @@ fn next_variable(
 ) -> Result<bool, Ending>
     ensures ok { IfOk result (λ b. next_variable program.now (state_of run.old) target.now ≡ passes b run.new) }
     ensures err { IfErr result (λ e. EndsAs e (next_variable program.now (state_of run.old) target.now)) }
-    ensures leads { IfOk result (λ b. NextLeads program.now (state_of run.old) target.now b (state_of run.new)) }
 {
     let place = target_place(alloc, program, run, target)?;
     let line = line_at(program, run);

@@ -3,7 +3,7 @@
 ghost use Rattle.std.specs.Prelude.{◌≡◌, ◌++◌, ◌∷◌, ◌≤◌, [], IfErr, IfOk, OnOk, length, true};
 ghost use Rattle.pr_basic.specs.Limits.{byte_limit};
 ghost use Rattle.pr_run.specs.Lists.{at_column, at_left_after, ends_after, fitting, is_value, number_bytes, part_bytes, printed, shown, step_byte, steps_right, tab_bytes, space_bytes, value_bytes, with_part, with_parts};
-ghost use Rattle.pr_run.specs.Seen.{EndsAs, PartLeads, gives, state_of};
+ghost use Rattle.pr_run.specs.Seen.{EndsAs, gives, state_of};
 ghost use Rattle.pr_run.specs.Uses.{used};
 ghost use Rattle.pr_interpreter.specs.Functions.{number_text};
 
@@ -183,7 +183,6 @@ fn put_part(
     ensures ok { OnOk result (with_part program.now bytes.old.items (state_of run.old) item.now ≡ gives bytes.new.items run.new) }
     ensures err { IfErr result (λ e. EndsAs e (with_part program.now bytes.old.items (state_of run.old) item.now)) }
     ensures within { OnOk result (length bytes.new.items ≤ byte_limit) }
-    ensures leads { OnOk result (PartLeads program.now bytes.old.items (state_of run.old) item.now bytes.new.items (state_of run.new)) }
 {
     let at = Use {
         line: line_at(program, run),

@@ -3,7 +3,7 @@
 ghost use Rattle.std.specs.Prelude.{◌≡◌, [], IfErr, IfOk, Ok, drop};
 ghost use Rattle.pr_run.specs.Outputs.{close_statement, close_with, command_statement, command_to, directed, file_numbers, is_open, no_line, numbers, open_error, open_file, open_statement, open_with, print_file_statement, print_statement, print_to, value_place};
 ghost use Rattle.pr_run.specs.Worked.{whole};
-ghost use Rattle.pr_run.specs.Seen.{EndsAs, IsDevice, IsSecond, LeadsTo, gives, puts, state_of};
+ghost use Rattle.pr_run.specs.Seen.{EndsAs, IsDevice, IsSecond, gives, puts, state_of};
 
 use crate::ending::{Ending, Refusal};
 use crate::lists::printed;
@@ -25,7 +25,6 @@ pub type Output = (Statement, Option<BasicError>);
 fn byte(alloc: Global, program: &Program, run: &mut Run, nodes: &[Placed]) -> Result<u8, Ending>
     ensures ok { IfOk result (λ n. whole 255 program.now (state_of run.old) nodes.now ≡ gives n run.new) }
     ensures err { IfErr result (λ e. EndsAs e (whole 255 program.now (state_of run.old) nodes.now)) }
-    ensures leads { IfOk result (λ n. LeadsTo (whole 255 program.now) (state_of run.old) nodes.now n (state_of run.new)) }
 {
     let number = whole(alloc, 255, program, run, nodes)?;
     Ok(number as u8)

@@ -3,6 +3,7 @@
 ghost use Rattle.std.specs.Prelude.{◌≡◌, ◌++◌, IfOk, OnOk};
 ghost use Rattle.std.specs.Option.{option_to_list};
 ghost use Rattle.pr_run.specs.Runs.{run};
+ghost use Rattle.pr_run.specs.Endings.{is_memory};
 ghost use Rattle.pr_run.specs.Seen.{LeadsOn};
 
 use crate::ending::Ending;
@@ -28,6 +29,21 @@ fn put(performed: &mut Vec<Performed>, done: Option<Performed>) -> Result<(), Al
     }
 }
 
+/// Returns whether memory ran out.
+fn is_memory(ending: Ending) -> bool
+    ensures { result ≡ is_memory ending }
+{
+    match ending {
+        Ending::OutOfMemory => true,
+        Ending::LastLine
+        | Ending::End(_)
+        | Ending::Break(_)
+        | Ending::Error { .. }
+        | Ending::Refused { .. }
+        | Ending::TooManySteps(_) => false,
+    }
+}
+
 /// Does a step, and adds what it performs. Returns how the run ends, if it does.
 fn advance(
     alloc: Global,
@@ -42,8 +58,12 @@ fn advance(
             put(performed, done.performed)?;
             Ok(done.ending)
         }
-        Err(Ending::OutOfMemory) => Err(AllocError),
-        Err(ending) => Ok(Some(ending)),
+        Err(ending) => {
+            if is_memory(ending) {
+                return Err(AllocError);
+            }
+            Ok(Some(ending))
+        }
     }
 }
 
