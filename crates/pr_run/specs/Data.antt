@@ -71,6 +71,6 @@ unfoldable pub line_items : List ℕ → Line → List DataItem
 line_items text l = lexeme_items text l.number true (line_lexemes Typed l.start (slice_range text l.start l.end))
 
 -- the items of lines
-unfoldable pub data_of : List ℕ → List Line → List DataItem
+abbrev pub data_of : List ℕ → List Line → List DataItem
 data_of text [] = []
 data_of text (l ∷ ls) = line_items text l ++ data_of text ls

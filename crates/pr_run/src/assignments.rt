@@ -82,7 +82,7 @@ fn set_element(
 ) -> Result<(), AllocError>
     ensures { OnOk result (elements.new.items ≡ with_element (first_value kind) place value elements.old.items) }
 {
-    while elements.len() <= place {
+    'grow: while elements.len() <= place {
         elements.push(first_value(alloc, kind))?;
     }
     elements[place] = value;
@@ -122,6 +122,7 @@ pub fn store(
     value: Value,
 ) -> Result<(), Ending>
     ensures ok { OnOk result (state_of run.new ≡ stored name place value (state_of run.old)) }
+    ensures opened { OnOk result (run.new.opened.items ≡ run.old.opened.items) }
     ensures err { IfErr result (λ e. e ≡ Ending.OutOfMemory) }
 {
     match place {

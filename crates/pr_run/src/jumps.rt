@@ -364,8 +364,10 @@ fn summed(a: Number, b: Number) -> Result<Number, Stop>
 }
 
 /// Adds the step of a loop to its variable. Returns whether the loop is over, by its limit.
+#[tactic(auto, unfolding(crate::specs::Jumps::advanced))]
 fn advance(alloc: Global, at: Use, current: &Loop, run: &mut Run) -> Result<bool, Ending>
     ensures ok { IfOk result (λ b. advanced at current.now (state_of run.old) ≡ gives b run.new) }
+    ensures opened { OnOk result (run.new.opened.items ≡ run.old.opened.items) }
     ensures err { IfErr result (λ e. EndsAs e (advanced at current.now (state_of run.old))) }
 {
     let number = match summed(
@@ -397,11 +399,11 @@ fn next_of(alloc: Global, at: Use, wanted: Option<Name>, run: &mut Run) -> Resul
     let over = advance(alloc, at, &current, run)?;
     if over {
         run.opened.truncate(count);
-    } else {
-        run.opened.truncate(count + 1);
-        run.place = current.body;
+        return Ok(true);
     }
-    Ok(over)
+    run.opened.truncate(count + 1);
+    run.place = current.body;
+    Ok(false)
 }
 
 /// Performs NEXT for a variable. Returns whether its loop is over.

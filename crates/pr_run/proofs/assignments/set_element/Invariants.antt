@@ -2,8 +2,8 @@ use Rattle.std.proofs.Common.{◌≡◌, ◌+◌, ◌-◌, ◌≤◌, ◌++◌, 
 use Rattle.pr_interpreter.specs.Memory.{first_value}
 use Rattle.pr_run.proofs.assignments.set_element.Given as goal
 
-abbrev pub invariant-loop-elements : goal.invariant-loop-elements
-invariant-loop-elements l = record {
+abbrev pub invariant-grow : goal.invariant-grow
+invariant-grow l = record {
   longer : length l.fn.elements.items ≤ length l.elements.items;
   within : length l.elements.items ≤ max (length l.fn.elements.items) (l.place + 1);
   items :
@@ -11,5 +11,5 @@ invariant-loop-elements l = record {
       ≡ l.fn.elements.items ++ replicate (length l.elements.items - length l.fn.elements.items) (first_value l.kind);
 }
 
-abbrev pub decreases-loop-elements : goal.decreases-loop-elements
-decreases-loop-elements l = l.place + 1 - length l.elements.items
+abbrev pub decreases-grow : goal.decreases-grow
+decreases-grow l = l.place + 1 - length l.elements.items

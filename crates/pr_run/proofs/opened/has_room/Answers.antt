@@ -5,7 +5,7 @@ use Rattle.pr_run.proofs.opened.has_room.Goals as goal
 pub returns-then-size-gt-STACK : goal.returns-then-size-gt-STACK
 returns-then-size-gt-STACK c =
     sym (room_full c.args.more c.open-item.result c.args.opened.now c.loop-open.open-index c.loop-open.size
-    c.open_size-size-in-loop-open.result c.loop-open-test.true c.open-item.is c.open_size-size-in-loop-open.ensures
+    c.open_size-size.result c.loop-open-test.true c.open-item.is c.open_size-size.ensures
     c.loop-open.invariant.whole c.if-size-gt-STACK.true)
 
 pub returns : goal.returns
