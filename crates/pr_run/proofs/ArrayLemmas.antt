@@ -2,11 +2,10 @@ use Rattle.std.proofs.Common.{◌≡◌, ℕ, zero, suc, ◌+◌, ◌<◌, ◌�
 use Rattle.std.proofs.lemmas.Bool.{cases_Bool}
 use Rattle.std.specs.List.{position_or_len}
 use Rattle.pr_interpreter.specs.declared.memory.Array.{Array}
-use Rattle.pr_interpreter.specs.declared.memory.Arrays.{Arrays}
 use Rattle.pr_interpreter.specs.declared.names.Name.{Name}
 use Rattle.pr_interpreter.specs.declared.values.Value.{Value}
 use Rattle.pr_interpreter.specs.Memory.{array_of, same_name}
-use Rattle.pr_run.specs.Assignments.{array_with, with_element_of, with_value_at}
+use Rattle.pr_run.specs.Assignments.{array_with, with_element_of}
 use Rattle.pr_run.proofs.ReplacedLemmas.{replaced_at}
 
 abbrev pub an_array : Array → Option Array
@@ -45,22 +44,18 @@ array_none name (x ∷ xs) h =
           rw miss (array_none name xs all)
     ]
 
-abbrev pub with_list : Arrays → List Array → Arrays
-with_list arrays list = record arrays { list = list }
-
 -- an element of an array has a value
-pub value_at : (name : Name) (n : ℕ) (v : Value) (arrays : Arrays) (d : Array) (list : List Array)
-    → array_index name arrays.list < length arrays.list
-    → list ≡ set arrays.list (array_index name arrays.list) (array_with n v (get_or arrays.list (array_index name arrays.list) d))
-    → with_list arrays list ≡ with_value_at name n v arrays
-unfolding with_value_at
-value_at name n v arrays d list h e =
-    let there = array_at name arrays.list d h in
-    let put = replaced_at (λ x. same_name name x.name) (array_with n v (get_or arrays.list (array_index name arrays.list) d)) arrays.list h in
-    rw there (ap (λ (xs : List Array). with_list arrays xs) (e ∙ sym put))
+pub set_found : (name : Name) (n : ℕ) (v : Value) (xs : List Array) (index : ℕ) (x new : Array)
+    → index ≡ array_index name xs → index < length xs → x ≡ get_or xs index x → new ≡ array_with n v x
+    → set xs index new ≡ with_element_of name n v (array_of name xs) xs
+set_found name n v xs index x new place h is e =
+    let within : array_index name xs < length xs = omega arith in
+    let same : get_or xs (array_index name xs) x ≡ x = ap (λ (k : ℕ). get_or xs k x) (sym place) ∙ sym is in
+    let there : array_of name xs ≡ an_array x = array_at name xs x within ∙ ap (λ (a : Array). an_array a) same in
+    let put = replaced_at (λ a. same_name name a.name) (array_with n v x) xs within in
+    rw (there, e, place) (sym put)
 
 -- there is no such array
-pub value_none : (name : Name) (n : ℕ) (v : Value) (arrays : Arrays)
-    → length arrays.list ≤ array_index name arrays.list → arrays ≡ with_value_at name n v arrays
-unfolding with_value_at
-value_none name n v arrays h = let none = array_none name arrays.list h in rw none refl
+pub set_nowhere : (name : Name) (n : ℕ) (v : Value) (xs : List Array) → length xs ≤ array_index name xs
+    → xs ≡ with_element_of name n v (array_of name xs) xs
+set_nowhere name n v xs h = let none = array_none name xs h in rw none refl

@@ -1,6 +1,6 @@
-use Rattle.std.proofs.Common.{◌≡◌, ℕ, zero, suc, ◌+◌, ◌-◌, ◌<◌, ◌≤◌, ◌==◌, Bool, true, false, List, [], ◌∷◌, ◌++◌, length, take, drop, get_or, min, arith, refl, ap, ◌∙◌, sym, add-one, drop-cons, append_assoc, append-nil, ⊥}
+use Rattle.std.proofs.Common.{◌≡◌, ℕ, zero, suc, ◌+◌, ◌-◌, ◌<◌, ◌≤◌, ◌==◌, Bool, true, false, List, [], ◌∷◌, ◌++◌, length, take, drop, get_or, min, arith, refl, ap, ◌∙◌, sym, add-one, drop-cons, append_assoc, append-nil}
 use Rattle.std.proofs.lemmas.Bool.{ne_eqb}
-use Rattle.std.proofs.lemmas.List.{drop-drop, drop_all, length-drop, take_min}
+use Rattle.std.proofs.lemmas.List.{drop-drop, drop_all, length-drop, take_all, take_min}
 use Rattle.pr_run.specs.declared.data.DataItem.{DataItem}
 use Rattle.std.specs.Prelude.{slice_range}
 use Rattle.pr_run.specs.Data.{front_item, front_size, items, more_items}
@@ -18,6 +18,10 @@ clamped_none xs start end h =
     let e : min end (length xs) - start ≡ 0 = omega arith in
     let none : slice_range xs start (min end (length xs)) ≡ [] = rw e refl in
     sym (clamped xs start end) ∙ none
+
+-- the bytes from a place to the end
+pub rest_taken : (n : ℕ) (xs : List ℕ) → take (length xs - n) (drop n xs) ≡ drop n xs
+rest_taken n xs = take_all (length xs - n) (drop n xs) (omega (arith, length-drop n xs))
 
 -- ---- items
 

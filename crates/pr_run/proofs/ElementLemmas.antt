@@ -1,8 +1,6 @@
 use Rattle.std.proofs.Common.{◌≡◌, ℕ, ◌+◌, ◌-◌, ◌<◌, ◌≤◌, List, [], ◌∷◌, ◌++◌, length, max, replicate, arith, refl, sym, ap, ◌∙◌, append_assoc}
-use Rattle.std.specs.Prelude.{slice_set}
 use Rattle.std.proofs.lemmas.List.{length_push, replicate_more}
 use Rattle.pr_interpreter.specs.declared.values.Value.{Value}
-use Rattle.pr_run.specs.Assignments.{with_element}
 
 -- one more element is the first value
 pub grown : (old now new : List Value) (first : Value) → length old ≤ length now
@@ -18,12 +16,10 @@ grown old now new first longer items put =
     ∙ append_assoc old (replicate (length now - length old) first) (first ∷ []) in
     put ∙ (joined ∙ ap (λ (es : List Value). old ++ es) more)
 
--- an element is set among enough of them
-pub set_among : (old now : List Value) (first v : Value) (place : ℕ) → length old ≤ length now
+-- there are enough of them
+pub enough : (old now : List Value) (first : Value) (place : ℕ) → length old ≤ length now
     → length now ≤ max (length old) (place + 1) → place < length now
-    → now ≡ old ++ replicate (length now - length old) first → slice_set now place v ≡ with_element first place v old
-set_among old now first v place longer within h items =
+    → now ≡ old ++ replicate (length now - length old) first → now ≡ old ++ replicate (place + 1 - length old) first
+enough old now first place longer within h items =
     let count : length now - length old ≡ place + 1 - length old = omega arith in
-    let same : now ≡ old ++ replicate (place + 1 - length old) first =
-    items ∙ ap (λ (n : ℕ). old ++ replicate n first) count in
-    ap (λ (es : List Value). slice_set es place v) same
+    items ∙ ap (λ (n : ℕ). old ++ replicate n first) count

@@ -5,6 +5,7 @@ use Rattle.pr_interpreter.specs.declared.values.Halt.{Halt}
 use Rattle.pr_interpreter.specs.declared.values.Stop.{Stop}
 use Rattle.pr_interpreter.specs.declared.values.Value.{Value}
 use Rattle.pr_interpreter.specs.Evaluation.{evaluation}
+use Rattle.pr_run.specs.declared.place.Place.{Place}
 use Rattle.pr_run.specs.declared.programs.Program.{Program}
 use Rattle.pr_run.specs.declared.uses.Use.{Use}
 use Rattle.pr_run.specs.States.{State}
@@ -14,10 +15,14 @@ use Rattle.pr_run.specs.Worked.{scope, then_on, truth, valued, worked, worked_ou
 abbrev pub a_truth : Bool → State → Worked (Valued Bool)
 a_truth b s = Ok (record { value = b; after = s })
 
+abbrev place_of : Worked (Valued Bool) → Place → Place
+place_of (Ok r) place = r.after.place
+place_of (Err ending) place = place
+
 valued_place : (s t : State) (u : Use) (answer : Result Bool Stop) (b : Bool) → valued s (used u answer) ≡ a_truth b t
     → t.place ≡ s.place
 valued_place s t u (Ok a) b e =
-    let same : s ≡ t = cc in ap (λ (r : State). r.place) (sym same)
+    ap (λ (w : Worked (Valued Bool)). place_of w s.place) (sym e)
 valued_place s t u (Err stop) b e = absurd (cc)
 
 worked_place : (p : Program) (s t : State) (nodes : List Placed) (line : ℕ) (arrays : Arrays) (found : Result Value Halt)

@@ -1,11 +1,11 @@
 //! What is assigned to: variables, and elements of arrays. DIM and CLR.
 
-ghost use Rattle.std.specs.Prelude.{◌≡◌, ◌<◌, ◌≤◌, IfErr, IfOk, IfSome, MatchOption, OnOk, Ok};
+ghost use Rattle.std.specs.Prelude.{◌≡◌, ◌+◌, ◌-◌, ◌<◌, ◌≤◌, ◌++◌, length, replicate, IfErr, IfOk, IfSome, MatchOption, OnOk, Ok};
 ghost use Rattle.std.specs.List.{position_or_len};
 ghost use Rattle.std.specs.Option.{option_copied};
 ghost use Rattle.pr_interpreter.specs.Memory.{array_of, first_value, same_name, with_array};
 ghost use Rattle.pr_run.specs.Seen.{EndsAs, gives, state_of};
-ghost use Rattle.pr_run.specs.Assignments.{clear_statement, dim_statement, dimension, dimensioned, element_count, element_in, index, indices, is_system, let_statement, made_array, made_undimensioned, place_in, stored, system_ending, target_place, with_element, with_its_array, with_value_at, with_variable};
+ghost use Rattle.pr_run.specs.Assignments.{array_with, clear_statement, dim_statement, dimension, dimensioned, element_count, element_in, index, indices, is_system, let_statement, made_array, made_undimensioned, place_in, stored, system_ending, target_place, with_element, with_element_of, with_its_array, with_value_at, with_variable};
 ghost use Rattle.pr_run.specs.Worked.{valued};
 
 use crate::ending::{Ending, Refusal};
@@ -72,6 +72,22 @@ fn first_value(alloc: Global, kind: Kind) -> Value
     }
 }
 
+/// Adds first values until there is an element at a place.
+fn grow(
+    alloc: Global,
+    elements: &mut Vec<Value>,
+    kind: Kind,
+    place: usize,
+) -> Result<(), AllocError>
+    ensures items { OnOk result (elements.new.items ≡ elements.old.items ++ replicate (place + 1 - length elements.old.items) (first_value kind)) }
+    ensures there { OnOk result (place < length elements.new.items) }
+{
+    'grow: while elements.len() <= place {
+        elements.push(first_value(alloc, kind))?;
+    }
+    Ok(())
+}
+
 /// Gives an element at a place a value.
 fn set_element(
     alloc: Global,
@@ -82,11 +98,41 @@ fn set_element(
 ) -> Result<(), AllocError>
     ensures { OnOk result (elements.new.items ≡ with_element (first_value kind) place value elements.old.items) }
 {
-    'grow: while elements.len() <= place {
-        elements.push(first_value(alloc, kind))?;
-    }
+    grow(alloc, elements, kind, place)?;
     elements[place] = value;
     Ok(())
+}
+
+/// Gives an element of an array, at a place among its elements, a value.
+fn set_in_array(
+    alloc: Global,
+    array: &mut Array,
+    place: usize,
+    value: Value,
+) -> Result<(), AllocError>
+    ensures { OnOk result (array.new ≡ array_with place value array.old) }
+{
+    let mut elements = mem::replace(&mut array.elements, Sequence::new(alloc)).into_vec();
+    set_element(alloc, &mut elements, array.name.kind, place, value)?;
+    array.elements = Sequence::from_vec(elements);
+    Ok(())
+}
+
+/// Gives an element of the array of a name, if there is one, a value.
+fn set_in_list(
+    alloc: Global,
+    list: &mut Vec<Array>,
+    name: Name,
+    place: usize,
+    value: Value,
+) -> Result<(), AllocError>
+    ensures { OnOk result (list.new.items ≡ with_element_of name place value (array_of name list.old.items) list.old.items) }
+{
+    let index = array_place(name, list.as_slice());
+    if list.len() <= index {
+        return Ok(());
+    }
+    set_in_array(alloc, &mut list[index], place, value)
 }
 
 /// Gives an element of an array, at a place among its elements, a value.
@@ -100,15 +146,8 @@ fn set_value_at(
 ) -> Result<(), AllocError>
     ensures { OnOk result (arrays.new ≡ with_value_at name place value arrays.old) }
 {
-    let index = array_place(name, arrays.list.as_slice());
-    if arrays.list.len() <= index {
-        return Ok(());
-    }
     let mut list = mem::replace(&mut arrays.list, Sequence::new(alloc)).into_vec();
-    let array = &mut list[index];
-    let mut elements = mem::replace(&mut array.elements, Sequence::new(alloc)).into_vec();
-    set_element(alloc, &mut elements, array.name.kind, place, value)?;
-    array.elements = Sequence::from_vec(elements);
+    set_in_list(alloc, &mut list, name, place, value)?;
     arrays.list = Sequence::from_vec(list);
     Ok(())
 }

@@ -1,7 +1,9 @@
 //! The output statements: OPEN, CLOSE, CMD, PRINT and PRINT#.
 
-ghost use Rattle.std.specs.Prelude.{◌≡◌, [], IfErr, IfOk, Ok, drop};
+ghost use Rattle.std.specs.Prelude.{◌≡◌, ◌==◌, not, [], IfErr, IfOk, Ok, drop, take};
+ghost use Rattle.std.specs.List.{filter};
 ghost use Rattle.pr_run.specs.Outputs.{close_statement, close_with, command_statement, command_to, directed, file_numbers, is_open, no_line, numbers, open_error, open_file, open_statement, open_with, print_file_statement, print_statement, print_to, value_place};
+ghost use Rattle.pr_run.specs.Uses.{line_use};
 ghost use Rattle.pr_run.specs.Worked.{whole};
 ghost use Rattle.pr_run.specs.Seen.{EndsAs, IsDevice, IsSecond, gives, puts, state_of};
 
@@ -52,6 +54,28 @@ fn numbers(
     Ok(found)
 }
 
+/// Returns the first three values.
+#[tactic(auto, using(std::proofs::lemmas::List::take_all))]
+fn first_three(values: &[Nodes]) -> &[Nodes]
+    ensures { result.now ≡ take 3 values.now }
+{
+    if values.len() <= 3 {
+        return values;
+    }
+    &values[..3]
+}
+
+/// Returns the values after the first three.
+#[tactic(auto, using(std::proofs::lemmas::List::drop_all))]
+fn after_three(values: &[Nodes]) -> &[Nodes]
+    ensures { result.now ≡ drop 3 values.now }
+{
+    if values.len() <= 3 {
+        return &[];
+    }
+    &values[3..]
+}
+
 /// Works out the numbers of OPEN and CLOSE; a fourth value is a file name, which is not taken.
 fn file_numbers(
     alloc: Global,
@@ -62,9 +86,8 @@ fn file_numbers(
     ensures ok { IfOk result (λ found. file_numbers program.now (state_of run.old) values.now ≡ gives found.items run.new) }
     ensures err { IfErr result (λ e. EndsAs e (file_numbers program.now (state_of run.old) values.now)) }
 {
-    let count = values.len().min(3);
-    let found = numbers(alloc, program, run, &values[..count])?;
-    match &values[count..] {
+    let found = numbers(alloc, program, run, first_three(values))?;
+    match after_three(values) {
         [name, ..] => Err(Ending::Refused {
             refusal: Refusal::FileName,
             place: first_place(name.as_slice()),
@@ -164,18 +187,18 @@ fn second_of(number: u8, place: usize) -> Result<Second, Ending>
 
 /// Opens a file by its numbers.
 fn open_with(
-    place: usize,
+    program: &Program,
     values: &[Nodes],
     numbers: &[u8],
     run: &mut Run,
 ) -> Result<Output, Ending>
-    ensures ok { IfOk result (λ o. open_with place values.now numbers.now (state_of run.old) ≡ puts o run.new) }
-    ensures err { IfErr result (λ e. EndsAs e (open_with place values.now numbers.now (state_of run.old))) }
+    ensures ok { IfOk result (λ o. open_with (line_use program.now (state_of run.old)).place values.now numbers.now (state_of run.old) ≡ puts o run.new) }
+    ensures err { IfErr result (λ e. EndsAs e (open_with (line_use program.now (state_of run.old)).place values.now numbers.now (state_of run.old))) }
 {
     match numbers {
         [] | [_] => Err(Ending::Refused {
             refusal: Refusal::Device(1),
-            place,
+            place: line_use(program, run).place,
         }),
         [file, device] => {
             let device = device_of(*device, value_place(1, values))?;
@@ -201,23 +224,29 @@ pub fn open_statement(
     ensures err { IfErr result (λ e. EndsAs e (open_statement program.now (state_of run.old) values.now)) }
 {
     let numbers = file_numbers(alloc, program, run, values)?;
-    let place = line_use(program, run).place;
-    open_with(place, values, numbers.as_slice(), run)
+    open_with(program, values, numbers.as_slice(), run)
+}
+
+/// Forgets a file, if it is open.
+fn forget(files: &mut Vec<u8>, file: u8)
+    ensures { files.new.items ≡ filter (λ f. not (f == file)) files.old.items }
+{
+    files.retain(|other| *other != file);
 }
 
 /// Closes a file.
-fn close_with(place: usize, numbers: &[u8], run: &mut Run) -> Result<Output, Ending>
-    ensures ok { IfOk result (λ o. close_with place numbers.now (state_of run.old) ≡ puts o run.new) }
-    ensures err { IfErr result (λ e. EndsAs e (close_with place numbers.now (state_of run.old))) }
+fn close_with(program: &Program, numbers: &[u8], run: &mut Run) -> Result<Output, Ending>
+    ensures ok { IfOk result (λ o. close_with (line_use program.now (state_of run.old)).place numbers.now (state_of run.old) ≡ puts o run.new) }
+    ensures err { IfErr result (λ e. EndsAs e (close_with (line_use program.now (state_of run.old)).place numbers.now (state_of run.old))) }
 {
     let [file, ..] = numbers else {
         return Err(Ending::Refused {
             refusal: Refusal::FileName,
-            place,
+            place: line_use(program, run).place,
         });
     };
     let file = *file;
-    run.files.retain(|other| *other != file);
+    forget(&mut run.files, file);
     run.has_sent = true;
     Ok((Statement::CloseFile { file }, None))
 }
@@ -234,8 +263,7 @@ pub fn close_statement(
     ensures err { IfErr result (λ e. EndsAs e (close_statement program.now (state_of run.old) values.now)) }
 {
     let numbers = file_numbers(alloc, program, run, values)?;
-    let place = line_use(program, run).place;
-    close_with(place, numbers.as_slice(), run)
+    close_with(program, numbers.as_slice(), run)
 }
 
 /// Performs PRINT.

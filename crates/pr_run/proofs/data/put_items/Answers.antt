@@ -1,6 +1,6 @@
 use Rattle.std.proofs.Common.{◌+◌, arith}
 use Rattle.std.proofs.lemmas.List.{length-drop}
-use Rattle.pr_run.proofs.DataLemmas.{items_all, items_begin, items_end, items_on}
+use Rattle.pr_run.proofs.DataLemmas.{items_all, items_begin, items_end, items_on, rest_taken}
 use Rattle.pr_run.proofs.data.put_items.Goals as goal
 
 pub loop-taken-init : goal.loop-taken-init
@@ -16,11 +16,13 @@ loop-taken-preserved c = record {
   found =
       items_on c.args.line c.args.place c.loop-taken.taken c.front_size-taken-in-loop-taken.result _ c.args.bytes.now _
       _ _ c.front_item-in-loop-taken.result c.loop-taken-test.true c.if-bytes-taken-eq44.true
-      c.front_item-in-loop-taken.ensures c.front_size-taken-in-loop-taken.ensures.value
-      c.front_size-taken-in-loop-taken.ensures.within c.in_ok-push-2.ensures.items c.loop-taken.invariant.found;
+      (rw rest_taken at c.front_item-in-loop-taken.ensures)
+      (rw rest_taken at c.front_size-taken-in-loop-taken.ensures.value)
+      (rw rest_taken at c.front_size-taken-in-loop-taken.ensures.within)
+      c.in_ok-push-2.ensures.items c.loop-taken.invariant.found;
   within =
       let size = length-drop (c.loop-taken.taken + 1) c.args.bytes.now in
-      let fits = c.front_size-taken-in-loop-taken.ensures.within in omega arith;
+      let fits = rw rest_taken at c.front_size-taken-in-loop-taken.ensures.within in omega arith;
 }
 
 pub returns-else-bytes-taken-eq44 : goal.returns-else-bytes-taken-eq44

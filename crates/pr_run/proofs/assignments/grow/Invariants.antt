@@ -1,6 +1,6 @@
 use Rattle.std.proofs.Common.{◌≡◌, ◌+◌, ◌-◌, ◌≤◌, ◌++◌, length, max, replicate}
 use Rattle.pr_interpreter.specs.Memory.{first_value}
-use Rattle.pr_run.proofs.assignments.set_element.Given as goal
+use Rattle.pr_run.proofs.assignments.grow.Given as goal
 
 abbrev pub invariant-grow : goal.invariant-grow
 invariant-grow l = record {
