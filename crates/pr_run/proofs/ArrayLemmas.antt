@@ -52,7 +52,7 @@ set_found name n v xs index x new place h is e =
     let within : array_index name xs < length xs = omega arith in
     let same : get_or xs (array_index name xs) x ≡ x = ap (λ (k : ℕ). get_or xs k x) (sym place) ∙ sym is in
     let there : array_of name xs ≡ an_array x = array_at name xs x within ∙ ap (λ (a : Array). an_array a) same in
-    let put = replaced_at (λ a. same_name name a.name) (array_with n v x) xs within in
+    let put = replaced_at (λ (a : Array). same_name name a.name) (array_with n v x) xs within in
     rw (there, e, place) (sym put)
 
 -- there is no such array

@@ -45,6 +45,7 @@ fn is_memory(ending: Ending) -> bool
 }
 
 /// Does a step, and adds what it performs. Returns how the run ends, if it does.
+#[tactic(auto, using(crate::proofs::StepLemmas::step_leads, crate::proofs::StepLemmas::step_stops))]
 fn advance(
     alloc: Global,
     program: &Program,
@@ -73,7 +74,7 @@ fn advance(
 /// # Errors
 ///
 /// Memory ran out.
-#[tactic(auto, unfolding(crate::specs::Runs::run))]
+#[tactic(auto, using(crate::proofs::StepLemmas::runs_on, crate::proofs::StepLemmas::runs_ended, crate::proofs::StepLemmas::runs_out), unfolding(crate::specs::Runs::run))]
 pub fn run_program(alloc: Global, program: &Program, limit: u64) -> Result<Outcome, AllocError>
     ensures { IfOk result (λ outcome. outcome ≡ run limit program.now) }
 {
