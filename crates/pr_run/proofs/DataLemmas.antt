@@ -65,7 +65,7 @@ items_begin line place n bytes old new i e size fits put =
     let more : more_items line 0 (place + n) (drop n bytes) ≡ more_items line (front_size bytes) place bytes =
     sym (items_skip line n place bytes fits) ∙ ap (λ (k : ℕ). more_items line k place bytes) size in
     let here : new ++ more_items line 0 (place + n) (drop n bytes)
-        ≡ old ++ (i ∷ more_items line 0 (place + n) (drop n bytes)) =
+    ≡ old ++ (i ∷ more_items line 0 (place + n) (drop n bytes)) =
     put_item i old new _ put in
     here ∙ rw (e, more) refl
 
@@ -81,24 +81,24 @@ items_on line place t n d bytes old new whole i h comma e size fits put all =
     let next : place + t + 1 ≡ place + (t + 1) = omega arith in
     let far : place + t + 1 + n ≡ place + (t + 1 + n) = omega arith in
     let begun : more_items line 0 (place + t) (drop t bytes)
-        ≡ front_item line (place + t + 1) rest ∷ more_items line (front_size rest) (place + t + 1) rest =
+    ≡ front_item line (place + t + 1) rest ∷ more_items line (front_size rest) (place + t + 1) rest =
     ap (λ (bs : List ℕ). more_items line 0 (place + t) bs) cut ∙ items_goes line (place + t) _ rest comma in
     let skipped : more_items line n (place + t + 1) rest
-        ≡ more_items line 0 (place + t + 1 + n) (drop (t + 1 + n) bytes) =
+    ≡ more_items line 0 (place + t + 1 + n) (drop (t + 1 + n) bytes) =
     items_skip line n (place + t + 1) rest fits
     ∙ ap (λ (bs : List ℕ). more_items line 0 (place + t + 1 + n) bs) (drop-drop n (t + 1) bytes) in
     let sized : more_items line (front_size rest) (place + t + 1) rest ≡ more_items line n (place + t + 1) rest =
     ap (λ (k : ℕ). more_items line k (place + t + 1) rest) (sym size) in
     let moved : more_items line 0 (place + t + 1 + n) (drop (t + 1 + n) bytes)
-        ≡ more_items line 0 (place + (t + 1 + n)) (drop (t + 1 + n) bytes) =
+    ≡ more_items line 0 (place + (t + 1 + n)) (drop (t + 1 + n) bytes) =
     ap (λ (k : ℕ). more_items line 0 k (drop (t + 1 + n) bytes)) far in
     let front : front_item line (place + t + 1) rest ≡ i =
     ap (λ (k : ℕ). front_item line k rest) next ∙ sym e in
     let here : new ++ more_items line 0 (place + (t + 1 + n)) (drop (t + 1 + n) bytes)
-        ≡ old ++ (i ∷ more_items line 0 (place + (t + 1 + n)) (drop (t + 1 + n) bytes)) =
+    ≡ old ++ (i ∷ more_items line 0 (place + (t + 1 + n)) (drop (t + 1 + n) bytes)) =
     put_item i old new _ put in
     let found : more_items line 0 (place + t) (drop t bytes)
-        ≡ i ∷ more_items line 0 (place + (t + 1 + n)) (drop (t + 1 + n) bytes) =
+    ≡ i ∷ more_items line 0 (place + (t + 1 + n)) (drop (t + 1 + n) bytes) =
     begun ∙ (ap (λ (f : DataItem). f ∷ more_items line (front_size rest) (place + t + 1) rest) front
     ∙ ap (λ (ds : List DataItem). i ∷ ds) (sized ∙ (skipped ∙ moved))) in
     here ∙ (ap (λ (ds : List DataItem). old ++ ds) (sym found) ∙ all)
