@@ -2,8 +2,6 @@ pub mod ArrayLemmas
 pub mod CountLemmas
 pub mod DataLemmas
 pub mod ElementLemmas
-pub mod EndLemmas
-pub mod LoopLemmas
 pub mod OpenedLemmas
 pub mod PlaceLemmas
 pub mod ReplacedLemmas
