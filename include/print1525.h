@@ -2,9 +2,12 @@
  *
  *     Devices of the serial bus that answer, for emulators and adapters
  *     print1525_device_..         what a device does to DATA and what it hears, moment by moment
+ *     print1525_printing_time     how long a printer prints, for a device that is busy meanwhile
  *
  *     Printers that are watched
  *     print1525_printer_..        the marks of each byte as it comes, and the pixels of any part of the paper
+ *     print1525_printer_picture   the paper of marks as SVG, PNG or PDF, in parts
+ *     print1525_characters_..     the dots of marks in the characters of a file
  *
  *     Receivers of edges of the serial bus
  *     print1525_receiver_..       what comes to a device on any bus, edge by edge
@@ -55,12 +58,13 @@
  *
  * WHAT A CALLER CARRIES.
  * - Threads: no call keeps any state, so several threads may make calls at once.
- * - Stack: at most 4096 bytes of it for print1525_device_.., _printer_.., _receiver_.., _decoder_.. and the calls under
- *   `Words` above; at most PRINT1525_STACK for each other call, as tests measure in our builds. Where functions of the
- *   C library are bound at their first call (without `-z now`), the dynamic linker needs some 2500 bytes more then.
- * - Memory: the calls with at most 4096 bytes of stack take none. The others take it by malloc, realloc and free of one
- *   allocator, aligned as C demands. Where these give none, a call fails with PRINT1525_FAULT_NO_MEMORY and has freed
- *   what it took.
+ * - Stack: at most 4096 bytes of it for print1525_device_.., _printing_time, _printer_.., _receiver_.., _decoder_.. and
+ *   the calls under `Words` above, and 20,480 for _characters_..; at most PRINT1525_STACK for each other call and for
+ *   print1525_printer_picture, as tests measure in our builds. Where functions of the C library are bound at their
+ *   first call (without `-z now`), the dynamic linker needs some 2500 bytes more then.
+ * - Memory: the calls with at most 20,480 bytes of stack take none. The others take it by malloc, realloc and free of
+ *   one allocator, aligned as C demands. Where these give none, a call fails with PRINT1525_FAULT_NO_MEMORY and has
+ *   freed what it took.
  * - Signal handlers: the calls that take no memory, and no others.
  * - fork: a child may make calls where it may call malloc.
  * - No call touches files, streams, locales, the time or the state of floating point; errno only where malloc does.
@@ -92,14 +96,15 @@ enum print1525_status {
     PRINT1525_STOPPED = 1, /* the same, and a BASIC error stopped the run: the fault says which; or with `strict`
                             * something of a recording is left out, without a fault */
     PRINT1525_REFUSED = 2, /* the call refuses what it was passed: the fault says why */
-    PRINT1525_FAILED = 3   /* there is no memory, or no room in the buffer: the fault says which */
+    PRINT1525_FAILED = 3   /* there is no memory, or no room in the buffer, or the caller's function wants no more: the
+                            * fault says which */
 };
 
 /* What a call reports besides its status. */
 typedef struct {
     int32_t status; /* what it returned */
     int32_t fault;  /* one of enum print1525_fault; PRINT1525_FAULT_NONE with status 0 */
-    size_t place;   /* the statement, line, edge, input or setting that the fault names; else 0 */
+    size_t place;   /* the statement, line, edge, input, mark or setting that the fault names; else 0 */
     size_t column;  /* with UNKNOWN_NAME and BAD_CHARACTER the column of that line, from 1, else 0 */
 } print1525_details;
 
@@ -128,6 +133,8 @@ enum print1525_fault {
     /* refused: of an edge or a moment of any bus, earlier than the one before it; `place` is 0, since nobody counts
      * them */
     PRINT1525_FAULT_GOES_BACK = 17,
+    /* refused: of marks: one is above the one before it; `place` is its index, from 0 */
+    PRINT1525_FAULT_MARK_ABOVE = 18,
     /* refused: a number that means no device, character set, timing or pixels; `place` is 0 */
     PRINT1525_FAULT_NO_SUCH_DEVICE = 21,
     PRINT1525_FAULT_NO_SUCH_SET = 25,
@@ -183,6 +190,7 @@ enum print1525_fault {
     /* failed; `place` is 0 */
     PRINT1525_FAULT_NO_MEMORY = 90,
     PRINT1525_FAULT_TOO_SMALL = 91, /* `length` is what it needs */
+    PRINT1525_FAULT_NOT_WRITTEN = 92, /* the caller's function wanted no more */
     /* stopped: 100 and the number of the BASIC error; `place` is the statement that it stopped, from 1 */
     PRINT1525_STOP_TOO_MANY_FILES = 101,
     PRINT1525_STOP_FILE_OPEN = 102,
@@ -290,6 +298,20 @@ int print1525_device_step(print1525_device *device, const print1525_edge *moment
  *
  * Refuses, with the device as it was: NULL (80). */
 int print1525_device_busy(print1525_device *device, uint64_t until, print1525_details *details);
+
+/* How fast a printer prints; 0 is the figure of the VIC-1525 User's Manual, of 30 characters or five line feeds a
+ * second. */
+typedef struct {
+    uint32_t columns; /* how many columns of dots in a second: 180 */
+    uint32_t feed;    /* how long a line feed takes, in microseconds: 200,000 */
+} print1525_speed;
+
+/* Gives how long a printer takes for columns of dots and line feeds, in microseconds: less than 2^53. When a line ends,
+ * its device prints until that moment plus this time: print1525_device_busy.
+ *
+ * Reads: how many columns a line has from the left edge, blank ones too: six for a character, at most 480, as the
+ * printer's `x` counts them; how many line feeds; and a speed, or of NULL that of the manual. */
+uint64_t print1525_printing_time(uint32_t columns, uint16_t feeds, const print1525_speed *speed);
 
 /* -------------------------------------------------------------------------------- printers that are watched -- */
 
@@ -412,8 +434,8 @@ int print1525_printer_changed(const print1525_mark *marks, size_t length, print1
  * Reads: marks, in any order; a region, also beyond the page.
  * Gives: all pixels of the region; bytes between two lines, and the last bits of a line's last byte, stay as they were.
  * All marks of ended lines give the pixels of the PNG file with `top` PRINT1525_TOP_EDGE. Cells have this project's
- * shapes: draw those of your own printer yourself. Capacity counts the bytes from the region's first pixel on. It
- * takes time for the marks and the pixels.
+ * shapes: for those of a file draw the dots of each mark (print1525_characters_dots). Capacity counts the bytes from
+ * the region's first pixel on. It takes time for the marks and the pixels.
  * Refuses, with the pixels as they were: NULL (80), OVERLAP (81), a region that needs 2^63 bytes or more (9), and a
  * stride that is smaller than a line, or pixels that mean nothing (27). Too small a capacity fails (91). */
 int print1525_printer_page(const print1525_mark *marks, size_t length, const print1525_region *region, void *pixels,
@@ -425,6 +447,37 @@ int print1525_printer_page(const print1525_mark *marks, size_t length, const pri
  * Reads and refuses: as print1525_printer_page. It takes time for the marks alone. */
 int print1525_printer_draw(const print1525_mark *marks, size_t length, const print1525_region *region, void *pixels,
                            size_t capacity, print1525_details *details);
+
+/* The characters of a file, for drawing in a window. The numbers are the library's own, and all of them mean some
+ * characters; copy, save and load them freely. */
+typedef struct {
+    uint8_t kept[1536];
+} print1525_characters;
+
+/* How many bytes they have: sizeof(print1525_characters). */
+size_t print1525_characters_size(void);
+
+/* Reads a file of characters, as the program's option --characters does.
+ *
+ * Reads: the text of the file; an empty one means this project's own characters.
+ * Gives: the characters.
+ * Refuses, with the characters as they were: NULL (80), OVERLAP (81), and a file by its first bad line (52). */
+int print1525_characters_read(const void *text, size_t length, print1525_characters *characters,
+                              print1525_details *details);
+
+/* The most columns of dots that draw a mark. */
+#define PRINT1525_DOTS_OF_A_MARK 12
+
+/* Gives the columns of dots that draw a mark in these characters, as marks of kind PRINT1525_DOTS: one for a column,
+ * six for a character, twelve for a wide one; white on black where it is reverse. So a window draws them in place of
+ * the mark, with print1525_printer_page, _draw and _changed.
+ *
+ * Reads: characters that were read, and a mark.
+ * Gives: the columns from left to right; the first has the mark's place, and one past column 65,535 is left out.
+ * Capacity and length count marks; PRINT1525_DOTS_OF_A_MARK have room for those of any mark.
+ * Refuses: NULL (80) and OVERLAP (81). Too small a capacity fails (91). The buffer is then as it was. */
+int print1525_characters_dots(const print1525_characters *characters, const print1525_mark *mark, print1525_mark *dots,
+                              size_t capacity, size_t *length, print1525_details *details);
 
 /* ------------------------------------------------------------------------------------------- receivers of edges -- */
 
@@ -526,7 +579,7 @@ enum print1525_as {
     PRINT1525_AS_STORY = 4,   /* check: what happens, byte by byte with its times */
     PRINT1525_AS_JSON = 5,    /* check, decode: a line of JSON for each byte */
     PRINT1525_AS_VCD = 6,     /* bus: a Value Change Dump */
-    PRINT1525_AS_SVG = 7,     /* pages, decode, raw, print: a picture, */
+    PRINT1525_AS_SVG = 7,     /* pages, decode, raw, print, printer_picture: a picture, */
     PRINT1525_AS_PNG = 8,     /* the paper of one printer as a PNG file, */
     PRINT1525_AS_PDF = 9,     /* or a PDF document of all sheets */
     PRINT1525_AS_BYTES = 10   /* pages, decode: the bytes that a printer hears, for print1525_raw */
@@ -572,12 +625,12 @@ enum print1525_listening {
  * the number in brackets, one of enum print1525_setting, and print1525_message says the name. */
 typedef struct {
     uint8_t as;         /* [1] --as: enum print1525_as (all but listing and edges) */
-    uint8_t from;       /* [2] --from: enum print1525_from (all but raw and print) */
+    uint8_t from;       /* [2] --from: enum print1525_from (all but raw, print and printer_picture) */
     uint8_t present;    /* [3] --present: enum print1525_present (pages, bus) */
     uint8_t status;     /* [4] --status: enum print1525_mode (pages, bus) */
     uint8_t set;        /* [5] --set: enum print1525_set, before the first byte (raw; decode with pages) */
     uint8_t device;     /* [6] --device: the printer 4 or 5 alone; 0: all, of PNG the first that printed, of BYTES 4
-                         * (SVG, PNG, PDF, BYTES) */
+                         * (SVG, PNG, PDF, BYTES; not printer_picture) */
     uint8_t paper;      /* [7] --paper: enum print1525_paper (PDF) */
     uint8_t holes;      /* [8] --holes: 1: continuous paper with its holes and perforations (PNG, PDF) */
     uint8_t top;        /* [9] --top: the lines of 1/6 inch from the paper's upper edge to the first row, 1 to 65, or
@@ -732,6 +785,31 @@ int print1525_listing(const void *listing, size_t listing_length, const print152
  * line of a dump or a table (31 to 49, 70 to 77). The edges before the fault are given. */
 int print1525_edges(const void *recording, size_t recording_length, const print1525_settings *settings,
                     print1525_edge *edges, size_t capacity, size_t *length, print1525_details *details);
+
+/* The most bytes of a part of a picture. */
+#define PRINT1525_PART 65536
+
+/* A function of the caller's that takes the next part of a picture: 1 to PRINT1525_PART bytes, which are there only
+ * until it returns. It returns 0 if it wants the next part too. It must return: no longjmp, no exception. */
+typedef int (*print1525_write)(void *context, const void *bytes, size_t length);
+
+/* Writes a picture of the paper with some marks, as that of printer 4.
+ *
+ * Reads: marks of which none is above the one before it, as print1525_printer_byte gives them; of the settings `as`
+ * (SVG, which 0 means, PNG, PDF), `paper`, `holes`, `top`, `scale`, `sheet` and `characters`. One sheet needs no other
+ * marks than its own and those of a row that reaches down to it; a sheet without a mark needs one of a later row.
+ * Sheets of a picture count from 1, and `top` lowers the marks by 21 for each of its lines: for the sheets of a window,
+ * which begin at the paper's edge (PRINT1525_SHEET), it is PRINT1525_TOP_EDGE.
+ * Gives: to the function, with the context, part after part of what print1525_print gives of the inputs that make these
+ * marks, if each of their lines has ended and has a mark. The paper ends with the last row that has marks, and rows
+ * without any are not part of it; a mark of kind PRINT1525_DOTS and value 0 has no dot, and makes its row known. The
+ * whole picture is made before its first part is given, so nothing is given of one that is refused. A PDF document
+ * takes time and memory for each sheet down to the last mark.
+ * Refuses: NULL (80); settings (82); characters, by their first bad line (52); the first mark that is above the one
+ * before it (18), with its index; and a picture (50, 51), as print1525_pages. Where the function returns anything but
+ * 0, the call fails (92), and gives nothing more. */
+int print1525_printer_picture(const print1525_mark *marks, size_t length, const print1525_settings *settings,
+                              print1525_write write, void *context, print1525_details *details);
 
 #ifdef __cplusplus
 }

@@ -11,6 +11,7 @@
 #include "print1525.h"
 
 #include <cstdint>
+#include <exception>
 #include <new>
 #include <optional>
 #include <stdexcept>
@@ -256,6 +257,64 @@ inline std::vector<std::uint8_t> pixels(const std::vector<print1525_mark> &marks
     print1525_printer_page(marks.data(), marks.size(), &region, made.data(), made.size(), &details);
     if (details.status != PRINT1525_DONE) throw error(details);
     return made;
+}
+
+// Gives a picture of the paper with these marks, an SVG document if nothing else is asked for, part after part to a
+// function of a std::string_view.
+template <typename Write>
+void write_picture(const std::vector<print1525_mark> &marks, const settings &with, Write write) {
+    struct writing {
+        Write &write;
+        std::exception_ptr thrown;
+    } to{write, nullptr};
+    const auto part = [](void *context, const void *bytes, std::size_t length) -> int {
+        writing &it = *static_cast<writing *>(context);
+        try {
+            it.write(std::string_view(static_cast<const char *>(bytes), length));
+            return 0;
+        } catch (...) {
+            it.thrown = std::current_exception();
+            return 1;
+        }
+    };
+    print1525_details details{};
+    print1525_printer_picture(marks.data(), marks.size(), &with, part, &to, &details);
+    if (to.thrown) std::rethrow_exception(to.thrown);
+    if (details.fault == PRINT1525_FAULT_NO_MEMORY) throw std::bad_alloc();
+    if (details.status != PRINT1525_DONE) throw error(details);
+}
+inline std::string picture(const std::vector<print1525_mark> &marks, const settings &with = {}) {
+    std::string made;
+    write_picture(marks, with, [&](std::string_view part) { made += part; });
+    return made;
+}
+
+// The characters of a file, or the project's own: the dots that draw marks in them.
+class characters {
+public:
+    explicit characters(std::string_view file = {}) {
+        print1525_details details{};
+        if (print1525_characters_read(file.data(), file.size(), &kept, &details) != PRINT1525_DONE)
+            throw error(details);
+    }
+    std::vector<print1525_mark> dots(const std::vector<print1525_mark> &marks) const {
+        std::vector<print1525_mark> made;
+        print1525_mark columns[PRINT1525_DOTS_OF_A_MARK];
+        for (const print1525_mark &mark : marks) {
+            std::size_t length = 0;
+            print1525_characters_dots(&kept, &mark, columns, PRINT1525_DOTS_OF_A_MARK, &length, nullptr);
+            made.insert(made.end(), columns, columns + length);
+        }
+        return made;
+    }
+
+private:
+    print1525_characters kept{};
+};
+
+// How long a printer prints, in microseconds.
+inline std::uint64_t printing_time(std::uint32_t columns, std::uint16_t feeds = 1, const print1525_speed &speed = {}) {
+    return print1525_printing_time(columns, feeds, &speed);
 }
 
 } // namespace print1525

@@ -31,3 +31,11 @@ int print1525_device_busy(print1525_device *device, uint64_t until, print1525_de
     print1525_plain_device_busy(device, until);
     return done(details);
 }
+
+uint64_t print1525_printing_time(uint32_t columns, uint16_t feeds, const print1525_speed *speed) {
+    print1525_speed read = {0, 0};
+    uint64_t time = 0;
+    if (speed != NULL) read = *speed;
+    print1525_plain_printing_time(columns, feeds, &read, &time);
+    return time;
+}

@@ -15,6 +15,8 @@ HAS_SIZE(print1525_device, 64);
 HAS_SIZE(print1525_step, 16);
 HAS_SIZE(print1525_mark, 16);
 HAS_SIZE(print1525_printer, 24);
+HAS_SIZE(print1525_characters, 1536);
+HAS_SIZE(print1525_speed, 8);
 HAS_SIZE(print1525_region, 48);
 HAS_SIZE(print1525_byte, 88);
 HAS_SIZE(print1525_reading, 104);

@@ -23,8 +23,8 @@ void print1525_plain_answer(const uint8_t *words, size_t words_length, uint8_t e
 /* What a call with numbers answers. */
 typedef struct {
     size_t code;   /* 0 done, 2 refused, 3 out of memory, 4 the buffer is too small */
-    size_t fault;  /* of code 2 one of enum print1525_fault, or 24, 29 or 60, a number that is no setting (of print,
-                    * edges and listing) */
+    size_t fault;  /* of code 2 one of enum print1525_fault, or 24, 29 or 60, a number that is no setting (of print and
+                    * printer_picture, edges and listing) */
     size_t place;
     size_t length; /* with the faults 63 and 64 the column */
 } print1525_plain_numbers;
@@ -52,6 +52,15 @@ void print1525_plain_device_begin(print1525_device *device, uint8_t address, con
 void print1525_plain_device_step(print1525_device *device, uint64_t now, uint8_t atn, uint8_t clock, uint8_t data,
                                  print1525_step *step, print1525_plain_numbers *answer);
 void print1525_plain_device_busy(print1525_device *device, uint64_t until);
+void print1525_plain_printing_time(uint32_t columns, uint16_t feeds, const print1525_speed *speed, uint64_t *time);
+void print1525_plain_printer_picture(const print1525_mark *marks, size_t marks_length, uint8_t format, uint64_t sheet,
+                                     uint8_t top, uint8_t paper, uint8_t scale, const uint8_t *characters,
+                                     size_t characters_length, uint8_t *buffer, size_t capacity,
+                                     print1525_plain_numbers *answer);
+void print1525_plain_characters_read(const uint8_t *text, size_t text_length, print1525_characters *characters,
+                                     print1525_plain_numbers *answer);
+void print1525_plain_characters_dots(const print1525_characters *characters, const print1525_mark *mark,
+                                     print1525_mark *dots, size_t capacity, print1525_plain_numbers *answer);
 
 /* A region of packed pixels of a byte each. */
 typedef struct {

@@ -21,6 +21,7 @@ const char *print1525_strerror(int fault) {
     case PRINT1525_FAULT_BAD_SHAPE: return "bad shape";
     case PRINT1525_FAULT_TRUNCATED: return "truncated";
     case PRINT1525_FAULT_GOES_BACK: return "time goes back";
+    case PRINT1525_FAULT_MARK_ABOVE: return "above the one before it";
     case PRINT1525_FAULT_NO_SUCH_DEVICE: return "no such device";
     case PRINT1525_FAULT_NO_SUCH_SET: return "no such character set";
     case PRINT1525_FAULT_NO_SUCH_TIMING: return "no such timing";
@@ -62,6 +63,7 @@ const char *print1525_strerror(int fault) {
     case PRINT1525_FAULT_BAD_SETTING: return "bad setting";
     case PRINT1525_FAULT_NO_MEMORY: return "out of memory";
     case PRINT1525_FAULT_TOO_SMALL: return "buffer too small";
+    case PRINT1525_FAULT_NOT_WRITTEN: return "not written";
     case PRINT1525_STOP_TOO_MANY_FILES: return "TOO MANY FILES";
     case PRINT1525_STOP_FILE_OPEN: return "FILE OPEN";
     case PRINT1525_STOP_FILE_NOT_OPEN: return "FILE NOT OPEN";
@@ -76,6 +78,7 @@ static const char *counted(int fault) {
     if (fault >= PRINT1525_FAULT_UNKNOWN_WORD && fault <= PRINT1525_FAULT_TOO_MANY) return "line ";
     if (fault == PRINT1525_FAULT_BAD_LINE) return "line ";
     if (fault >= PRINT1525_FAULT_BAD_START && fault <= PRINT1525_FAULT_TRUNCATED) return "edge ";
+    if (fault == PRINT1525_FAULT_MARK_ABOVE) return "mark ";
     if (fault == PRINT1525_FAULT_NO_SUCH_INPUT) return "input ";
     if (fault >= PRINT1525_FAULT_NO_ATN && fault <= PRINT1525_FAULT_BAD_LEVEL) return "line ";
     if (fault == PRINT1525_FAULT_BAD_CHARACTER_LINE) return "line ";

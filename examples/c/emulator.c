@@ -13,15 +13,11 @@
 #define WIDTH 960
 #define HEIGHT PRINT1525_SHEET
 
-/* A printer prints 30 characters a second. */
-#define MICROSECONDS_A_CHARACTER 33333
-
 /* A device on the bus: what the library keeps of it, and what it does to DATA since it was shown the lines. */
 typedef struct {
     print1525_device device;
     print1525_step step;
-    print1525_printer printer; /* of a printer: what it keeps between two bytes, how many wait, and its paper */
-    unsigned waiting;
+    print1525_printer printer; /* of a printer: what it keeps between two bytes, and its paper */
     uint8_t paper[HEIGHT][WIDTH];
 } device;
 
@@ -39,18 +35,18 @@ static int atn = 1, clock_line = 1, data = 1;
 static uint64_t now;
 static FILE *trace;
 
-/* A byte goes to a printer. It keeps a line until its end, and prints it then: the computer waits that long. */
+/* A byte goes to a printer. It keeps a line until its end, and prints it then, 30 characters a second: the computer
+ * waits that long. */
 static void print(device *it, uint8_t byte) {
     static const print1525_region sheet = {0, 0, WIDTH, HEIGHT, 0, PRINT1525_GRAY};
     print1525_mark marks[PRINT1525_MARKS_OF_A_BYTE];
     const uint64_t line = it->printer.y;
+    const uint16_t columns = it->printer.x;
     size_t length;
     print1525_printer_byte(&it->printer, byte, marks, PRINT1525_MARKS_OF_A_BYTE, &length, NULL);
     print1525_printer_draw(marks, length, &sheet, it->paper[0], sizeof it->paper, NULL);
-    it->waiting++;
-    if (it->printer.y == line) return;
-    print1525_device_busy(&it->device, now + (uint64_t)it->waiting * MICROSECONDS_A_CHARACTER, NULL);
-    it->waiting = 0;
+    if (it->printer.y != line)
+        print1525_device_busy(&it->device, now + print1525_printing_time(columns, 1, NULL), NULL);
 }
 
 static void printer_hears(device *it, print1525_received heard) {

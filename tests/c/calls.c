@@ -15,7 +15,8 @@
  * status. Before that the call is made with buffers of all sizes from 0 to what is needed, and with each allocation
  * refused in turn. Some are left out above MOST_SIZES and MOST_REFUSALS; with CALLS=all in the environment only above
  * MOST_OF_ALL sizes, as of a PNG file; CALLS=once leaves all of them out. (So are edges above MOST_PLACES of those at
- * which numbers are changed.) A value of an option that the header has no number for is 200.
+ * which numbers are changed.) FEW, for processors that are slow, makes those numbers FEW_OF times smaller, and `all` as
+ * nothing. A value of an option that the header has no number for is 200.
  * Input and buffer end where memory ends, so a byte read or written beyond them is a fault. Each answer has to be as the
  * header says, all memory has to be given back, and a refusal may change nothing; else a line beginning with WRONG is
  * written, and the status is 99. Linked with -Wl,--wrap=malloc,--wrap=realloc,--wrap=free. */
@@ -32,6 +33,7 @@
 #define MOST_OF_ALL 65536
 #define MOST_REFUSALS 400
 #define MOST_PLACES 200
+#define FEW_OF 32
 #define UNTOUCHED 0xA5
 
 /* malloc, realloc and free as the library calls them: counted, and one of them refused. */
@@ -70,6 +72,8 @@ void __wrap_free(void *old) {
 #endif
 
 static int wrong, is_all;
+/* By what the numbers above are divided. */
+static size_t parts = 1;
 
 static void is_wrong(const char *what, size_t number) {
     if (wrong++ < 5) fprintf(stderr, "WRONG: %s, %lu\n", what, (unsigned long)number);
@@ -242,7 +246,7 @@ static size_t try_refusals(const job *j, guarded buffer, size_t capacity, answer
     taken = 0;
     call(j, front, capacity);
     all = taken;
-    step = is_all ? 1 : all / MOST_REFUSALS + 1;
+    step = is_all ? 1 : all / (long)(MOST_REFUSALS / parts) + 1;
     for (number = 1; number <= all; number += step) {
         answered answer;
         memset(buffer.bytes, UNTOUCHED, buffer.size);
@@ -264,7 +268,7 @@ static size_t try_refusals(const job *j, guarded buffer, size_t capacity, answer
 
 /* The call with sizes from 0 to what is needed and beyond. */
 static void try_sizes(const job *j, guarded buffer, answered true_answer, const uint8_t *text) {
-    const size_t needed = true_answer.length, most = is_all ? MOST_OF_ALL : MOST_SIZES;
+    const size_t needed = true_answer.length, most = (is_all ? MOST_OF_ALL : MOST_SIZES) / parts;
     const size_t step = needed <= most ? 1 : needed / 50;
     size_t capacity;
     for (capacity = 0; capacity < needed + 2; capacity += step) try_size(j, buffer, capacity, true_answer, text);
@@ -313,7 +317,7 @@ static int are_same(const void *a, const void *b, const field *fields, size_t co
 }
 
 /* After how many of the edges numbers are changed. */
-static size_t step_of(size_t count) { return is_all ? 1 : count / MOST_PLACES + 1; }
+static size_t step_of(size_t count) { return is_all ? 1 : count / (MOST_PLACES / parts) + 1; }
 
 /* What a device receives on a bus: LISTEN selects the one set, secondary address 7 the other. No other number is a device. */
 static answered receive(uint8_t device, guarded text) {
@@ -916,7 +920,8 @@ int main(int words, char **word) {
     /* What MinGW's start has taken for the words is its own. */
     live = 0;
     if (words < 2) return 98;
-    is_all = once && strcmp(once, "all") == 0;
+    if (getenv("FEW")) parts = FEW_OF;
+    is_all = parts == 1 && once && strcmp(once, "all") == 0;
     j.name = word[1];
     if (strcmp(j.name, "settings") == 0) try_settings();
     else if (strcmp(j.name, "pointers") == 0) try_pointers(), try_edge_pointers();

@@ -18,6 +18,7 @@
 #define ROOM (1 << 20)
 /* What the header says of calls that take no memory. */
 #define SMALL_STACK 4096
+#define CHARACTERS_STACK 20480
 #define MARK 0xC7
 
 void *__real_malloc(size_t size);
@@ -97,17 +98,18 @@ static const struct {
     {"raw", "--as pdf", script}, {"print", "--as svg", NULL}, {"check", "", trace}, {"check", "--as story", trace}, {"check", "--as json", trace}, {"check", "--explain", script},
     {"decode", "--intervals", trace}, {"decode", "--as json", trace}, {"decode", "--as pdf", trace}, {"decode", "--explain", script}, {"edges", "", trace},
     {"pages", "--as svg", NULL}, {"raw", "--as svg", NULL}, {"answer", "", script},
+    {"picture", "--as svg", NULL}, {"picture", "--as png", NULL}, {"picture", "--as pdf", NULL},
 };
 #define TEXTS ((int)(sizeof texts / sizeof *texts))
 
 /* The calls that take no memory, after those. */
-enum { DECODER = sizeof texts / sizeof *texts, RECEIVER, WORDS, BYTE, BYTES, PAGE, DRAW, BITS, CALLS };
-static const char *const others[] = {"decoder", "receiver and device", "words", "printer, byte by byte", "printer, bytes", "printer, page", "printer, draw", "printer, bits"};
+enum { DECODER = sizeof texts / sizeof *texts, RECEIVER, WORDS, BYTE, BYTES, PAGE, DRAW, BITS, DOTS, CALLS };
+static const char *const others[] = {"decoder", "receiver and device", "words", "printer, byte by byte", "printer, bytes", "printer, page", "printer, draw", "printer, bits", "characters"};
 
 static const char *name_of(int call) { return call < TEXTS ? texts[call].name : others[call - TEXTS]; }
 
 /* How much stack a call takes at most. */
-static size_t stack_most(int call) { return call < TEXTS ? PRINT1525_STACK : SMALL_STACK; }
+static size_t stack_most(int call) { return call < TEXTS ? PRINT1525_STACK : call == DOTS ? CHARACTERS_STACK : SMALL_STACK; }
 
 /* What a call tells: its details, and the length beside them. */
 typedef struct {
@@ -133,7 +135,15 @@ static void make_printed(int call, uint8_t *buffer, size_t room, answered *told)
     print1525_printer printer;
     uint64_t sheets;
     size_t index, taken;
-    if (call == PAGE || call == BITS) {
+    if (call == DOTS) {
+        static print1525_characters shapes; /* (not on the stack, which is measured) */
+        memset(buffer, 0, PRINT1525_DOTS_OF_A_MARK * sizeof *made);
+        print1525_characters_read(characters, strlen(characters), &shapes, details);
+        print1525_characters_dots(&shapes, &marks[2], made, PRINT1525_DOTS_OF_A_MARK, &told->length, details);
+        for (index = 0; index < told->length; index++) buffer[index * sizeof *made + sizeof *made - 1] = 0;
+        told->length *= sizeof *made;
+        told->details.place += print1525_printing_time(480, 1, NULL) != 2866667;
+    } else if (call == PAGE || call == BITS) {
         if (call == BITS) print1525_printer_changed(marks, 3, &region, details), region.pixels = PRINT1525_BITS, region.stride = 9;
         memset(buffer, 0, 40 * 20);
         print1525_printer_page(marks, 3, &region, buffer, room, details);
@@ -159,10 +169,12 @@ static void make_printed(int call, uint8_t *buffer, size_t room, answered *told)
     }
 }
 
-/* Characters of a file, each of them blank. */
+/* Characters of a file, each of them blank: how many bytes. They are made once, since a handler reads them. */
 static size_t make_characters(void) {
     static const char *const sets[] = {"upper", "lower"};
-    size_t length = 0, set, code;
+    static size_t length;
+    size_t set, code;
+    if (length > 0) return length;
     for (set = 0; set < 2; set++)
         for (code = 32; code < 224; code += code == 95 ? 65 : 1)
             length += (size_t)snprintf(characters + length, sizeof characters - length, "%s %lu\n......\n......\n......\n......\n......\n......\n......\n", sets[set], (unsigned long)code);
@@ -181,7 +193,16 @@ static print1525_settings settings_by(char *options) {
     return made;
 }
 
+/* Takes a part of a picture behind those before it. */
+static size_t gathered;
+static int gather(void *context, const void *part, size_t length) {
+    memcpy((uint8_t *)context + gathered, part, length);
+    gathered += length;
+    return 0;
+}
+
 static void make_text(int call, uint8_t *buffer, size_t room, answered *told) {
+    static const print1525_mark marks[] = {{0, 0, PRINT1525_CELL, 65, 1, 0, 0}, {7, 5, PRINT1525_DOTS, 77, 0, 0, 0}, {7, 9, PRINT1525_CELL, 88, 0, 1, 1}};
     static const uint16_t inputs[] = {65, 66, PRINT1525_SELECT_LOWER, 67, 13, 8, 255, 13};
     static const char *const words[] = {"raw", "--as", "svg", "--characters", characters, NULL};
     const char *const name = texts[call].name, *const input = texts[call].input == NULL ? script : texts[call].input;
@@ -197,9 +218,13 @@ static void make_text(int call, uint8_t *buffer, size_t room, answered *told) {
     else if (strcmp(name, "decode") == 0) print1525_decode(input, count, &settings, buffer, room, length, details);
     else if (strcmp(name, "raw") == 0) print1525_raw(input, count, &settings, buffer, room, length, details);
     else if (strcmp(name, "listing") == 0) print1525_listing(input, count, &settings, buffer, room, length, details);
-    else if (strcmp(name, "answer") == 0) make_characters(), print1525_answer(words, input, count, buffer, room, length, details);
+    else if (strcmp(name, "answer") == 0) print1525_answer(words, input, count, buffer, room, length, details);
     else if (strcmp(name, "print") == 0) print1525_print(inputs, sizeof inputs / sizeof *inputs, &settings, buffer, room, length, details);
-    else {
+    else if (strcmp(name, "picture") == 0) {
+        gathered = 0;
+        print1525_printer_picture(marks, 3, &settings, gather, buffer, details);
+        *length = gathered;
+    } else {
         print1525_edges(input, count, &settings, (print1525_edge *)(void *)buffer, room / sizeof(print1525_edge), length, details);
         *length *= sizeof(print1525_edge);
     }
@@ -375,6 +400,7 @@ int main(int words, char **word) {
     answered told;
     int call;
     (void)word;
+    make_characters();
     print1525_bus(petcat, 0, NULL, trace, sizeof trace, &trace_length, &details);
     print1525_bus("OPEN 4,4\nPRINT#4,\"A\"\n", 21, NULL, trace, sizeof trace, &trace_length, &details);
     if (details.status != PRINT1525_DONE) is_wrong("no trace", (unsigned long)details.fault);

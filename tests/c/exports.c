@@ -66,7 +66,29 @@ static void print(const text_row *row, print1525_plain_numbers *answer) {
     print1525_plain_print(inputs, length, 0, 0, 0, 3, 0, 2, bytes(""), 0, text, row->room, answer);
 }
 
+/* Marks, each an A in the row of its letter in `input`, which a is the first of; as a list. */
+static void picture(const text_row *row, print1525_plain_numbers *answer) {
+    print1525_mark marks[9];
+    const size_t length = strlen(row->input);
+    size_t n;
+    memset(marks, 0, sizeof marks);
+    for (n = 0; n < length; n++) {
+        marks[n].y = 21 * (uint64_t)(row->input[n] - 'a');
+        marks[n].x = (uint16_t)(6 * n);
+        marks[n].value = 65;
+        marks[n].wide = row->number;
+    }
+    print1525_plain_printer_picture(marks, length, row->number, 0, 3, 0, 2, bytes(""), 0, text, row->room, answer);
+}
+
 static const text_row text_rows[] = {
+    {"marks of two rows", picture, "aab", 0, 999, 0, 0, 0, EXACTLY(81),
+     "printer 4\nrow 0\n 0 cell 65\n 6 cell 65\nrow 21\n 12 cell 65\nprinter 5\nstatus\nscreen\n"},
+    {"marks of rows apart", picture, "be", 0, 999, 0, 0, 0, MORE_THAN(9), "printer 4\nrow 21\n 0 cell 65\nrow 84\n"},
+    {"no marks", picture, "", 0, 999, 0, 0, 0, EXACTLY(34), "printer 4\nprinter 5\nstatus\nscreen\n"},
+    {"a mark above the one before it", picture, "bbca", 0, 999, 2, 18, 3, EXACTLY(0), ""},
+    {"marks without room", picture, "aab", 0, 80, 4, 0, 0, EXACTLY(81), ""},
+    {"marks in no format", picture, "a", 9, 999, 2, 24, 0, EXACTLY(0), ""},
     {"a letter", print, "sA\r", 0, 999, 0, 0, 0, MORE_THAN(9), "printer 4"},
     {"no input", print, "Ax", 0, 999, 2, 28, 1, EXACTLY(0), ""},
     {"no name of petcat's", listing, "10 print \"{nix}\"\n", 2, 999, 2, 63, 1, MORE_THAN(1), ""},
@@ -453,6 +475,72 @@ static void try_device(void) {
     }
 }
 
+/* ---- Characters and printing time. ---- */
+
+static void characters_are_wrong(const char *what) {
+    fprintf(stderr, "WRONG: characters: %s\n", what);
+    wrong = 1;
+}
+
+/* The columns of the project's A in the graphic/upper case set, each as its number, from this place on. */
+static void try_dots(const print1525_characters *characters, const print1525_mark *mark, size_t length,
+                     const uint8_t *columns) {
+    print1525_mark dots[PRINT1525_DOTS_OF_A_MARK + 1];
+    print1525_plain_numbers answer = before;
+    size_t n;
+    memset(dots, SEVEN, sizeof dots);
+    print1525_plain_characters_dots(characters, mark, dots, COUNT(dots), &answer);
+    if (answer.code != 0 || answer.fault != 0 || answer.length != length) characters_are_wrong("another answer");
+    for (n = 0; n < COUNT(dots); n++) {
+        const print1525_mark *const it = &dots[n];
+        if (n >= length ? it->value != SEVEN || it->y != dots[COUNT(dots) - 1].y
+                        : it->y != mark->y || it->x != mark->x + n || it->kind != PRINT1525_DOTS ||
+                              it->value != columns[n] || it->lower || it->reverse || it->wide)
+            characters_are_wrong("another column");
+    }
+    memset(dots, SEVEN, sizeof dots);
+    if (length == 0) return;
+    print1525_plain_characters_dots(characters, mark, dots, length - 1, &answer);
+    if (answer.code != 4 || answer.length != length || dots[0].value != SEVEN)
+        characters_are_wrong("columns without room");
+}
+
+static void try_characters(void) {
+    static const uint8_t letter[] = {126, 9, 9, 9, 126, 0},
+                         wide[] = {1, 1, 118, 118, 118, 118, 118, 118, 1, 1, 127, 127}, column[] = {200};
+    static const print1525_mark marks[] = {{9, 5, PRINT1525_CELL, 65, 0, 0, 0},
+                                           {1, 479, PRINT1525_CELL, 65, 0, 1, 1},
+                                           {2, 7, PRINT1525_DOTS, 200, 1, 1, 1},
+                                           {3, 65533, PRINT1525_CELL, 65, 0, 0, 0}};
+    static const struct {
+        uint32_t columns;
+        uint16_t feeds;
+        print1525_speed speed;
+        uint64_t time;
+    } times[] = {{480, 1, {0, 0}, 2866667}, {6, 0, {0, 0}, 33334}, {0, 2, {0, 0}, 400000}, {6, 3, {600, 5}, 10015},
+                 {UINT32_MAX, UINT16_MAX, {1, UINT32_MAX}, 4576437976677825}};
+    print1525_characters characters, kept;
+    print1525_plain_numbers answer = before;
+    uint64_t time = SEVEN;
+    size_t n;
+    memset(&characters, SEVEN, sizeof characters);
+    kept = characters;
+    print1525_plain_characters_read(bytes("upper 32\n"), 9, &characters, &answer);
+    if (answer.code != 2 || answer.fault != 52 || answer.place != 2 || answer.length != 0 ||
+        memcmp(&kept, &characters, sizeof kept) != 0)
+        characters_are_wrong("a file that ends early");
+    print1525_plain_characters_read(bytes(""), 0, &characters, &answer);
+    if (answer.code != 0 || answer.fault != 0 || answer.length != 0) characters_are_wrong("the project's own");
+    try_dots(&characters, &marks[0], 6, letter);
+    try_dots(&characters, &marks[1], 12, wide);
+    try_dots(&characters, &marks[2], 1, column);
+    try_dots(&characters, &marks[3], 3, letter);
+    for (n = 0; n < COUNT(times); n++) {
+        print1525_plain_printing_time(times[n].columns, times[n].feeds, &times[n].speed, &time);
+        if (time != times[n].time) fprintf(stderr, "WRONG: time %u: %lu\n", (unsigned)n, (unsigned long)time), wrong = 1;
+    }
+}
+
 /* ---- Whole answers. ---- */
 
 typedef struct {
@@ -541,5 +629,6 @@ int main(void) {
     try_names();
 #endif
     try_device();
+    try_characters();
     return wrong;
 }

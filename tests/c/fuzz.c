@@ -505,6 +505,80 @@ static void try_pixels(const print1525_mark *marks, size_t length, print1525_det
             if (paper[index] != (index < size ? pixels[index] : 255) || (index < size && pixels[index] != 0 && pixels[index] != 255)) is_wrong("printer_draw", "a pixel");
 }
 
+/* What comes of a picture, in parts of which some are not wanted. */
+typedef struct {
+    size_t length, parts, wanted;
+    uint64_t sum;
+} gathered;
+
+static int gather(void *context, const void *bytes, size_t length) {
+    gathered *const to = (gathered *)context;
+    const uint8_t *const part = (const uint8_t *)bytes;
+    size_t index;
+    if (length == 0 || length > PRINT1525_PART || to->length != to->parts * PRINT1525_PART) is_wrong("printer_picture", "a part");
+    for (index = 0; index < length; index++) to->sum = (to->sum ^ part[index]) * 0x100000001B3u;
+    to->length += length;
+    to->parts++;
+    return to->parts == to->wanted;
+}
+
+/* A picture of marks, twice; they stay as they were. (Those of a damaged mark may have more sheets than there is time for.) */
+static void try_picture(const print1525_mark *marks, size_t length, print1525_details *details) {
+    print1525_settings made = PRINT1525_SETTINGS_INIT;
+    print1525_details again;
+    gathered one, other;
+    size_t index, above = 0;
+    int status;
+    for (index = 1; index < length && above == 0; index++)
+        if (marks[index].y < marks[index - 1].y) above = index;
+    memset(&one, 0, sizeof one);
+    made.as = (uint8_t)(below(9) ? PRINT1525_AS_SVG + below(2) : drawn());
+    if (made.as == PRINT1525_AS_PDF) made.as = PRINT1525_AS_USUAL;
+    made.top = (uint8_t)(below(5) ? below(66) : drawn());
+    made.sheet = below(3) ? 0 : below(5) ? below(4) : drawn();
+    if (made.as != PRINT1525_AS_PNG && length && marks[length - 1].y > 100000 && made.sheet == 0) made.sheet = 1;
+    if (made.as == PRINT1525_AS_PNG) made.scale = (uint8_t)below(5), made.holes = (uint8_t)below(2);
+    if (made.as == PRINT1525_AS_PNG && made.sheet == 0) made.scale = 1;
+    if (below(9) == 0) made.reserved[below(4)] = drawn();
+    one.wanted = other.wanted = below(2) ? 0 : 1 + below(3);
+    other = one;
+    refused_one = 0;
+    status = print1525_printer_picture(marks, length, &made, gather, &one, details);
+    if (print1525_printer_picture(marks, length, &made, gather, &other, &again) != status) is_wrong("printer_picture", "another status");
+    if (memcmp(&one, &other, sizeof one) != 0 || memcmp(details, &again, sizeof again) != 0) is_wrong("printer_picture", "another answer");
+    if (status != details->status || (status == PRINT1525_DONE) == (details->fault != PRINT1525_FAULT_NONE)) is_wrong("printer_picture", "the status");
+    if (status == PRINT1525_FAILED ? one.parts != one.wanted || details->fault != PRINT1525_FAULT_NOT_WRITTEN : status == PRINT1525_REFUSED ? one.parts != 0 : one.length == 0)
+        is_wrong("printer_picture", "its parts");
+    if (details->fault == PRINT1525_FAULT_MARK_ABOVE ? details->place != above || above == 0 : status != PRINT1525_REFUSED && above != 0) is_wrong("printer_picture", "the mark");
+}
+
+/* The dots of marks in any characters: of those of the project they are the marks' own. */
+static void try_dots(const print1525_mark *marks, size_t length) {
+    static uint8_t one[24 * 14], two[24 * 14];
+    print1525_characters characters;
+    print1525_mark dots[PRINT1525_DOTS_OF_A_MARK];
+    print1525_details details;
+    const int is_damaged = below(2) == 0;
+    size_t index, count, room;
+    const print1525_speed speed = {(uint32_t)drawn(), (uint32_t)drawn()};
+    const uint64_t time = print1525_printing_time((uint32_t)below(481), 1, &speed);
+    if (print1525_characters_size() != sizeof characters) is_wrong("characters_size", "another size");
+    if (time < (speed.feed ? speed.feed : 200000) || time > (uint64_t)480000000 + UINT32_MAX) is_wrong("printing_time", "the time");
+    if (print1525_characters_read(NULL, 0, &characters, &details) != PRINT1525_DONE) is_wrong("characters_read", "no text");
+    if (is_damaged) damage(&characters, sizeof characters);
+    for (index = 0; index < length; index++) {
+        const print1525_region region = {2 * (uint64_t)marks[index].x, marks[index].y, 24, 14, 0, PRINT1525_GRAY};
+        const size_t wanted = marks[index].kind == PRINT1525_DOTS ? 1 : marks[index].wide == 1 ? 12 : 6, left = 65536 - (size_t)marks[index].x;
+        room = below(13);
+        if (print1525_characters_dots(&characters, &marks[index], dots, room, &count, &details) != (count > room ? PRINT1525_FAILED : PRINT1525_DONE)) is_wrong("characters_dots", "the status");
+        if (count != (wanted < left ? wanted : left)) is_wrong("characters_dots", "how many");
+        if (is_damaged || count > room) continue;
+        print1525_printer_page(&marks[index], 1, &region, one, sizeof one, NULL);
+        print1525_printer_page(dots, count, &region, two, sizeof two, NULL);
+        if (count == wanted && memcmp(one, two, sizeof one) != 0) is_wrong("characters_dots", "another dot");
+    }
+}
+
 static void try_printer(uint8_t *memories[6]) {
     print1525_printer *const printer = (print1525_printer *)(void *)(memories[0] + ROOM - sizeof *printer);
     print1525_details *const details = (print1525_details *)(void *)(memories[2] + ROOM - sizeof *details);
@@ -534,6 +608,8 @@ static void try_printer(uint8_t *memories[6]) {
         /* (Marks may be bytes of nothing too.) */
         if (length && below(6) == 0) damage(marks, length * sizeof *marks);
         try_pixels(room ? marks : NULL, length, details, memories);
+        try_dots(marks, length);
+        if (below(5) == 0) try_picture(room ? marks : NULL, length, details);
     }
 }
 

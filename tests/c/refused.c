@@ -90,6 +90,9 @@ static const char program[] = "\001\010\017\010\012\000\237 \064,\064\000\000\00
 static const char bytes[] = "DEAR READER,\r\022REVERSED\r\010ABC\017\016WIDE\r";
 static const uint16_t inputs[] = {PRINT1525_SELECT_LOWER, 65, 66, 13, 8, 255, 13, 14, 67, 13};
 static const uint16_t bad_inputs[] = {65, 258, 66};
+static const print1525_mark few_marks[] = {{0, 0, PRINT1525_CELL, 65, 1, 0, 0}, {0, 6, PRINT1525_DOTS, 77, 0, 0, 0}, {21, 9, PRINT1525_CELL, 88, 0, 1, 1}};
+static const print1525_mark bad_marks[] = {{21, 0, PRINT1525_CELL, 65, 1, 0, 0}, {20, 6, PRINT1525_DOTS, 77, 0, 0, 0}};
+static print1525_mark many_marks[800];
 static const char csv[] = "Time [s],ATN,CLK,DATA\n0,1,1,1\n0.0001,0,1,1\n0.0011,0,0,1\n0.0012,0,0,0\n";
 static const char bad_csv[] = "Time [s],ATN,CLK,DATA\n0,1,1,1\n0.0001,0,1,1\n0.0011,0,0,1\n0.0012,0,?,0\n";
 static char trace[ROOM], dump[ROOM], cut[ROOM], example[ROOM];
@@ -134,6 +137,31 @@ typedef struct {
     print1525_settings settings;
 } job;
 
+/* The parts of a picture, one after another in a buffer. */
+typedef struct {
+    uint8_t *bytes;
+    size_t capacity, length;
+} gathered;
+
+static int gather(void *context, const void *part, size_t length) {
+    gathered *const to = (gathered *)context;
+    if (length == 0 || length > PRINT1525_PART || to->capacity - to->length < length) return 1;
+    memcpy(to->bytes + to->length, part, length);
+    to->length += length;
+    return 0;
+}
+
+/* A picture of marks. */
+static int make_picture(const job *j, const print1525_settings *settings, uint8_t *buffer, size_t capacity, size_t *length, print1525_details *details) {
+    gathered to = {NULL, 0, 0};
+    int status;
+    to.bytes = buffer;
+    to.capacity = capacity;
+    status = print1525_printer_picture((const print1525_mark *)j->input, j->length / sizeof(print1525_mark), settings, gather, &to, details);
+    *length = to.length;
+    return status;
+}
+
 static int make(const job *j, const print1525_settings *settings, uint8_t *buffer, size_t capacity, size_t *length, print1525_details *details) {
     const char *const it = j->name;
     int status;
@@ -142,6 +170,7 @@ static int make(const job *j, const print1525_settings *settings, uint8_t *buffe
     if (strcmp(it, "listing") == 0) return print1525_listing(j->input, j->length, settings, buffer, capacity, length, details);
     if (strcmp(it, "raw") == 0) return print1525_raw(j->input, j->length, settings, buffer, capacity, length, details);
     if (strcmp(it, "print") == 0) return print1525_print((const uint16_t *)j->input, j->length / 2, settings, buffer, capacity, length, details);
+    if (strcmp(it, "picture") == 0) return make_picture(j, settings, buffer, capacity, length, details);
     if (strcmp(it, "check") == 0) return print1525_check(j->input, j->length, settings, buffer, capacity, length, details);
     if (strcmp(it, "decode") == 0) return print1525_decode(j->input, j->length, settings, buffer, capacity, length, details);
     if (strcmp(it, "answer") == 0) return print1525_answer(words_now, j->input, j->length, buffer, capacity, length, details);
@@ -260,6 +289,27 @@ static void try_pages(const char *name, const void *input, size_t length, const 
             if (way == 2) j.settings.characters = characters, j.settings.characters_length = characters_length;
             try_call(&j, tells);
         }
+}
+
+/* Pictures of marks: of all sheets and of one, with characters of the project and of a file, and of more bytes than are
+ * taken for them first. */
+static void try_pictures(int tells) {
+    static const char *const options[] = {"", "--as svg --sheet 1", "--as png", "--as png --sheet 1 --scale 1", "--as pdf --holes", "--as svg --sheet 2"};
+    size_t index;
+    for (index = 0; index < sizeof options / sizeof *options; index++) {
+        job j;
+        try_one("picture", few_marks, sizeof few_marks, options[index], tells);
+        j.name = "picture";
+        j.input = few_marks;
+        j.length = sizeof few_marks;
+        j.settings = settings_by(options[index]);
+        j.settings.characters = characters, j.settings.characters_length = characters_length;
+        try_call(&j, tells);
+    }
+    try_one("picture", bad_marks, sizeof bad_marks, "--as png", tells);
+    try_one("picture", few_marks, 0, "--as png", tells);
+    for (index = 0; index < sizeof many_marks / sizeof *many_marks; index++) many_marks[index].y = 14 * index, many_marks[index].value = 255, many_marks[index].reverse = 1;
+    try_one("picture", many_marks, sizeof many_marks, "--as svg", tells);
 }
 
 /* The calls of a recording. */
@@ -390,6 +440,8 @@ static void try_printer(void) {
     print1525_region window = {0, 0, 0, 0, 0, PRINT1525_BITS};
     uint8_t pixels[20 * 60], paper[20 * 60], bits[120 * 200];
     print1525_printer printer, other;
+    print1525_characters shapes;
+    print1525_mark dots[PRINT1525_DOTS_OF_A_MARK];
     print1525_details details;
     size_t index, one_by_one = 0, together = 0, made = 0, some;
     name_now = "a watched printer";
@@ -399,9 +451,12 @@ static void try_printer(void) {
     memset(paper, 255, sizeof paper);
     if (print1525_printer_begin(&printer, NULL) != PRINT1525_DONE || print1525_printer_select(&printer, PRINT1525_SET_LOWER, NULL) != PRINT1525_DONE) is_wrong("no printer", 0);
     other = printer;
+    if (print1525_characters_read(characters, characters_length, &shapes, &details) != PRINT1525_DONE) is_wrong("characters", details.fault);
+    if (print1525_printing_time(480, 1, NULL) != 2866667) is_wrong("a time", 0);
     for (index = 0; index < sizeof text - 1; index++) {
         if (print1525_printer_byte(&printer, (uint8_t)text[index], marks, PRINT1525_MARKS_OF_A_BYTE, &made, &details) != PRINT1525_DONE) is_wrong("a byte", details.fault);
         one_by_one += made;
+        if (made > 0 && print1525_characters_dots(&shapes, marks, dots, PRINT1525_DOTS_OF_A_MARK, &some, &details) != PRINT1525_DONE) is_wrong("dots", details.fault);
         if (print1525_printer_page(marks, made, &region, pixels, sizeof pixels, &details) != PRINT1525_DONE) is_wrong("a page", details.fault);
         if (print1525_printer_draw(marks, made, &region, paper, sizeof paper, &details) != PRINT1525_DONE) is_wrong("drawn marks", details.fault);
     }
@@ -445,6 +500,7 @@ int main(int words, char **word) {
     try_pages("raw", bytes, sizeof bytes - 1, "", tells);
     try_pages("print", inputs, sizeof inputs, "", tells);
     try_pages("decode", trace, trace_length, "", tells);
+    try_pictures(tells);
     try_one("pages", script, sizeof script - 1, "--as bytes --device 5", tells);
     try_one("pages", stopping, sizeof stopping - 1, "--delays /7,9,1", tells);
     try_one("pages", program, sizeof program - 1, "--from prg", tells);

@@ -141,6 +141,39 @@ static void watched_printers() {
     CHECK(message_of([&] { print1525::pixels(marks, {0, 0, SIZE_MAX, SIZE_MAX, 0, 0}); }) == print1525_strerror(PRINT1525_FAULT_TOO_LARGE));
 }
 
+static void pictures(const char *name) {
+    std::ifstream file(name, std::ios::binary);
+    const std::string text(std::istreambuf_iterator<char>(file), {}), bytes = "\x11" "AB\r\x12W\r";
+    print1525::watched_printer printer;
+    const std::vector<print1525_mark> marks = printer.print(bytes);
+    for (const print1525_as as : {PRINT1525_AS_SVG, PRINT1525_AS_PNG, PRINT1525_AS_PDF}) {
+        print1525::settings with = as;
+        CHECK(print1525::picture(marks, with) == print1525::raw(bytes, with).text);
+        with.draws(text);
+        CHECK(print1525::picture(marks, with) == print1525::raw(bytes, with).text);
+    }
+    std::vector<print1525_mark> many(9000, print1525_mark{0, 0, PRINT1525_CELL, 65, 0, 0, 0});
+    for (std::size_t n = 0; n < many.size(); n++) many[n].y = 14 * (n / 80);
+    std::size_t parts = 0, length = 0;
+    print1525::write_picture(many, {}, [&](std::string_view part) { parts++, length += part.size(); });
+    CHECK(parts == (length + PRINT1525_PART - 1) / PRINT1525_PART && parts > 1 && length == print1525::picture(many).size());
+    bool thrown = false;
+    try {
+        print1525::write_picture(marks, {}, [](std::string_view) { throw 7; });
+    } catch (int seven) {
+        thrown = seven == 7;
+    }
+    CHECK(thrown);
+    CHECK(message_of([&] { print1525::picture({marks[2], marks[0]}); }) == "mark 1: above the one before it");
+    CHECK(message_of([&] { print1525::picture(marks, PRINT1525_AS_LIST); }) == "setting as: bad setting");
+    const print1525::characters own, drawn(text);
+    const print1525_region region = print1525::changed(marks);
+    CHECK(own.dots(marks).size() == 18 && print1525::pixels(own.dots(marks), region) == print1525::pixels(marks, region));
+    CHECK(drawn.dots(marks).size() == 18 && print1525::pixels(drawn.dots(marks), region) != print1525::pixels(marks, region));
+    CHECK(message_of([] { print1525::characters("lower 65\n"); }) == "line 1: bad character line");
+    CHECK(print1525::printing_time(480) == 2866667 && print1525::printing_time(6, 0, {60, 0}) == 100000);
+}
+
 static void devices() {
     print1525::watched_printer printer;
     printer.print("\r"), printer.form_feed();
@@ -164,6 +197,7 @@ int main(int, char **words) {
     printers(words[1]);
     recordings();
     watched_printers();
+    pictures(words[1]);
     devices();
     return failed;
 }

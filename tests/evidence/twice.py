@@ -8,6 +8,7 @@ tests/evidence/once looks. What it is, and why:
 - web/sheets.js, pr_render, pr_pdf: lines above the first row, a disc's width; units differ
 - web/words.js: parts of hints; the page names its own choice in place of an option
 - pr_cli, pr_exports: how many first bytes show a format; both contracts have it
+- pr_ear, pr_exports: the numbers of a mark; each is a library by itself
 - print1525.mjs: --quiet, and that the input is also the output; the module sees no files"""
 
 import ast
@@ -248,7 +249,13 @@ def paper():
     return wrong + differ("the stroke of pr_pdf and twice that of pr_render", int(stroke), 2 * int(wide))
 
 
+def mark():
+    """The numbers of a mark."""
+    one, other = (re.search(r"pub struct WireMark \{.*?^\}", text_of(f"crates/{it}.rt"), re.S | re.M).group() for it in ("pr_ear/src/printer_numbers", "pr_exports/src/marks"))
+    return differ("WireMark of pr_ear and of pr_exports", one, other)
+
+
 def wrong(strings):
     """What differs, in words; `strings` are those of the code, each its file, line, what is before it and its text."""
     paths = sorted({path for path, *_ in strings})
-    return [*settings(), *drawn(), *lists(paths), *listings(), *wave(), *hints(), *quiet(), *paper(), *options(strings)]
+    return [*settings(), *drawn(), *lists(paths), *listings(), *wave(), *hints(), *quiet(), *paper(), *mark(), *options(strings)]

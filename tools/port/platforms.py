@@ -74,7 +74,7 @@ def write(path, text):
 
 
 # The files of the library's C code, and the header of the proved calls that they make.
-CODE = ("words", "bus", "device", "printer", "texts")
+CODE = ("words", "bus", "device", "printer", "characters", "texts", "numbers")
 PLAIN = f"{crates.ROOT}/library/plain.h"
 
 
@@ -85,7 +85,7 @@ def declared():
 
 def names():
     """The names that a shared library has: the calls of the header."""
-    return sorted(re.findall(r"^(?:int|size_t|const char \*) ?(print1525_\w+)\(", crates.text_of(f"{crates.ROOT}/include/print1525.h"), re.M))
+    return sorted(re.findall(r"^(?:int|size_t|uint64_t|const char \*) ?(print1525_\w+)\(", crates.text_of(f"{crates.ROOT}/include/print1525.h"), re.M))
 
 
 def layout(platform):

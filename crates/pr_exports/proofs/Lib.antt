@@ -4,3 +4,5 @@ pub mod InputNumbers
 pub mod Lines
 pub mod Middles
 mod DevicesStored
+pub mod MarkRows
+pub mod MarkTexts

@@ -1,5 +1,5 @@
 -- The middle of lengths, found between two numbers.
-use Rattle.std.proofs.Common.{◌≡◌, ℕ, ◌+◌, ◌*◌, ◌<◌, ◌≤◌, List, [], ◌∷◌, length, refl, sym, ◌∙◌, Bool, true, false, arith}
+use Rattle.std.proofs.Common.{◌≡◌, ℕ, ◌+◌, ◌<◌, ◌≤◌, List, [], ◌∷◌, length, refl, sym, ◌∙◌, Bool, true, false, arith}
 use Rattle.std.specs.Prelude.{max, nat_le}
 use Rattle.pr_decode.specs.Readings.{greatest}
 use Rattle.std.proofs.lemmas.Grind.{common_steps}

@@ -1,6 +1,6 @@
 -- Linking words: how a device is held in numbers, and which moments it was shown. No reader needs to believe them: what
 -- the calls do with `WasShown` is in `Devices`.
-use Rattle.std.specs.Prelude.{◌≡◌, ℕ, ◌==◌, if◌then◌else◌, List, [], ◌∷◌, Option, Some, None}
+use Rattle.std.specs.Prelude.{◌≡◌, ℕ, ◌==◌, if◌then◌else◌, List, Option, Some, None}
 use Rattle.pr_wire.specs.declared.Edge.{Edge}
 use Rattle.pr_device.specs.declared.place.Place.{Place}
 use Rattle.pr_device.specs.declared.place.Place.TheVariants.{Between, Sent, Opening, Bits}

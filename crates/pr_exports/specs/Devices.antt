@@ -1,6 +1,6 @@
 -- Trusted: what the calls of a device on the bus do. `WasShown` holds of a device just begun with no moment; each call
 -- says for which moments it holds next, the latest first; and the answers are right for all moments for which it holds.
-use Rattle.std.specs.Prelude.{◌≡◌, ◌⊎◌, ℕ, ◌-◌, ◌^◌, ◌<◌, ◌≤◌, ◌==◌, Bool, true, false, not, if◌then◌else◌, List, [], ◌∷◌, Option, Some, None, Result, Ok, Err}
+use Rattle.std.specs.Prelude.{◌≡◌, ◌⊎◌, ℕ, ◌-◌, ◌^◌, ◌<◌, ◌≤◌, ◌==◌, false, not, if◌then◌else◌, List, [], ◌∷◌, Option, Some, None, Result, Ok, Err}
 use Rattle.std.specs.Option.{unwrap_or}
 use Rattle.pr_wire.specs.declared.Edge.{Edge}
 use Rattle.pr_device.specs.Data.{pulls, standing, wake}

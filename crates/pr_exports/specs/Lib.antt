@@ -7,8 +7,13 @@ pub mod Numbers
 pub mod EdgeDelays
 pub mod DeviceKept
 pub mod Devices
+pub mod PrintingTime
+pub mod Characters
 pub mod Giving
 pub mod Listings
+pub mod Marks
+pub mod MarkSteps
+pub mod Marked
 pub mod Printing
 pub mod Printed
 pub mod Asked

@@ -14,9 +14,11 @@
 //!   page in a browser draws and marks by these.
 //! - `listings` has a listing's text of a script, with the line and the column of its fault. `printing` has the page of a
 //!   printer's inputs, of which some are no bytes.
+//! - `marked` has the picture of the paper with some marks (`marks`), for those that keep a printer's marks.
+//!   `characters` has the characters of a file as numbers, and the dots that draw a mark in them.
 //! - `devices` has a device on the bus that hears and answers, for emulators and adapters in C. Between two calls it is
 //!   in the numbers of `device_numbers`, with their version. A step restores and stores it, which copies a few numbers,
-//!   and refuses numbers that are no device's. It takes no memory.
+//!   and refuses numbers that are no device's. It takes no memory. `printing_time` has how long a printer is busy.
 //!
 //! `settings` gives the numbers that a caller passes their meaning, `answer` has what is answered, and `faults` the numbers
 //! of faults.
@@ -26,20 +28,25 @@
 #![tactic(auto)]
 
 mod answer;
+mod characters;
 mod delays;
 mod device_numbers;
 mod devices;
 mod faults;
 mod lengths;
 mod listings;
+mod marked;
+mod marks;
 mod numbers;
 mod printing;
+mod printing_time;
 mod program;
 mod rows;
 mod scripts;
 mod settings;
 
 pub use answer::{Answer, TextGiven};
+pub use characters::{WireShapes, print1525_characters_dots, print1525_characters_read};
 pub use delays::print1525_edge_delays;
 pub use device_numbers::{WireDevice, WireStep, WireTiming, devices_come_back};
 pub use devices::{
@@ -47,7 +54,10 @@ pub use devices::{
     print1525_device_step, show_device,
 };
 pub use listings::{Listed, print1525_listing};
+pub use marked::{marks_show_their_page, print1525_printer_picture};
+pub use marks::{WireMark, marks_have_their_page};
 pub use numbers::{print1525_bounds, print1525_edges, print1525_intervals, print1525_reading_rows};
 pub use printing::{bytes_are_inputs, print1525_print};
+pub use printing_time::{WireSpeed, print1525_printing_time};
 pub use program::{End, print1525_answer, print1525_names};
 pub use scripts::{print1525_script_fault, print1525_statement_lines};

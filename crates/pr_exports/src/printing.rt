@@ -3,8 +3,10 @@
 ghost use Rattle.std.specs.Prelude.{◌≡◌, ◌≤◌, length, map, IfOk};
 ghost use Rattle.std.specs.List.{position};
 ghost use Rattle.pr_page.specs.Page.{IsPage};
+ghost use Rattle.pr_jobs.specs.Formats.{text_in};
+ghost use Rattle.pr_jobs.specs.Raw.{four_alone, printed_on};
 ghost use Rattle.pr_exports.specs.Laws.{BytesAreInputs};
-ghost use Rattle.pr_exports.specs.Printed.{GivesInputsText};
+ghost use Rattle.pr_exports.specs.Printed.{GivesInputsText, GivesText};
 ghost use Rattle.pr_exports.specs.Printing.{input_of, inputs_limit, is_no_input};
 ghost use Rattle.pr_exports.specs.Asked.{HandsInputs, TellsPrint};
 ghost use Rattle.pr_exports.specs.Settings.{WithShapes, shown_of};
@@ -66,6 +68,20 @@ fn paper_of(alloc: Global, numbers: &[u16]) -> Result<Paper, NoMemory>
     Ok(printer.into_paper())
 }
 
+/// The text of a paper, as that of printer 4.
+pub fn paper_text(
+    alloc: Global,
+    paper: Paper,
+    format: Format,
+    shapes: &Shapes,
+) -> Result<Vec<u8>, CliFault>
+    ensures { GivesText (text_in shapes.now format four_alone (printed_on paper)) result }
+{
+    let outcome = outcome_with(alloc, paper);
+    let text = text_in_format(alloc, shapes, outcome, FOUR_ALONE, format)?;
+    Ok(text.into_vec()?)
+}
+
 /// The text of the page of the inputs that numbers mean.
 fn text_of(
     alloc: Global,
@@ -77,9 +93,7 @@ fn text_of(
     ensures { GivesInputsText shapes.now format (map input_of numbers.now) result }
 {
     let paper = paper_of(alloc, numbers)?;
-    let outcome = outcome_with(alloc, paper);
-    let text = text_in_format(alloc, shapes, outcome, FOUR_ALONE, format)?;
-    Ok(text.into_vec()?)
+    Ok(paper_text(alloc, paper, format, shapes)?)
 }
 
 /// Puts the text of the page that a printer prints of its inputs, as that of printer 4, at the front of a buffer.

@@ -6,7 +6,7 @@
 pages, bus, check, decode, raw, listing and print_inputs give an Answer: a text as bytes. Settings are the program's
 options, and `answer` takes the words of its command line. `edges` gives the edges of a recording; Decoder and Receiver,
 or readings and received, say what edges mean. A Device is on a bus of yours and answers. A Printer gives the marks of
-each byte; `draw` and `pixels_of` draw them.
+each byte; `draw` and `pixels_of` draw them, and `picture` and `write_picture` give their paper as SVG, PNG or PDF.
 
 Where a call refuses, it raises Refused with the library's words; MemoryError where there is no memory. Where Python's
 own values have no room in those of the library, it raises OverflowError or ValueError, as Python does.
@@ -14,11 +14,13 @@ own values have no room in those of the library, it raises OverflowError or Valu
 The library is what PRINT1525_LIBRARY in the environment names, or it is beside the package, or where the system looks.
 """
 
-from ._bus import Decoder, Device, Heard, Kind, Reading, Received, Receiver, Step, Timing, readings, received
+from ._bus import Decoder, Device, Heard, Kind, Reading, Received, Receiver, Speed, Step, Timing
+from ._bus import printing_time, readings, received
 from ._faults import Fault
 from ._library import LIBRARY as _LIBRARY
 from ._library import Refused
-from ._paper import CELL, DOTS, SHEET, Mark, Pixels, Printer, Region, changed, draw, pixels_of
+from ._paper import CELL, DOTS, SHEET, Characters, Mark, Pixels, Printer, Region, changed, draw, picture
+from ._paper import pixels_of, write_picture
 from ._texts import SELECT_LOWER, SELECT_UPPER, Answer, Edge, Settings
 from ._texts import answer, bus, check, decode, edges, listing, pages, print_inputs, raw
 
@@ -26,10 +28,11 @@ from ._texts import answer, bus, check, decode, edges, listing, pages, print_inp
 __version__ = "1.0.0"
 
 __all__ = [
-    "CELL", "DOTS", "SELECT_LOWER", "SELECT_UPPER", "SHEET", "Answer", "Decoder", "Device", "Edge", "Fault", "Heard",
-    "Kind", "Mark", "Pixels", "Printer", "Reading", "Received", "Receiver", "Refused", "Region", "Settings", "Step",
-    "Timing", "answer", "bus", "changed", "check", "decode", "draw", "edges", "listing", "pages", "pixels_of",
-    "print_inputs", "raw", "readings", "received", "version",
+    "CELL", "DOTS", "SELECT_LOWER", "SELECT_UPPER", "SHEET", "Answer", "Characters", "Decoder", "Device", "Edge",
+    "Fault", "Heard", "Kind", "Mark", "Pixels", "Printer", "Reading", "Received", "Receiver", "Refused", "Region",
+    "Settings", "Speed", "Step", "Timing", "answer", "bus", "changed", "check", "decode", "draw", "edges", "listing",
+    "pages", "picture", "pixels_of", "print_inputs", "printing_time", "raw", "readings", "received", "version",
+    "write_picture",
 ]  # fmt: skip
 
 

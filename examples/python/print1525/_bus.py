@@ -37,6 +37,21 @@ class Timing(NamedTuple):
     leave: int = 0
 
 
+class Speed(NamedTuple):
+    """How many columns of dots a printer prints in a second, and how long a line feed takes; 0 is the figure of the
+    VIC-1525 User's Manual."""
+
+    columns: int = 0
+    feed: int = 0
+
+
+def printing_time(columns: int, feeds: int = 1, speed: Speed = Speed()) -> int:
+    """How long a printer takes for columns of dots from the left edge, blank ones too, and line feeds."""
+    figures = _library.Speed(*(fitting(it, 32, "a speed") for it in speed))
+    given = (fitting(columns, 32, "columns"), fitting(feeds, 16, "line feeds"))
+    return int(LIBRARY.printing_time(*given, byref(figures)))
+
+
 class Step(NamedTuple):
     """Whether a device pulls DATA from a moment on; when it wants to be shown the lines again if none changes before,
     or None; and what it hears."""

@@ -22,6 +22,7 @@ class Fault(enum.IntEnum):
     BAD_SHAPE = 15
     TRUNCATED = 16
     GOES_BACK = 17
+    MARK_ABOVE = 18
     NO_SUCH_DEVICE = 21
     NO_SUCH_SET = 25
     NO_SUCH_TIMING = 26
@@ -63,6 +64,7 @@ class Fault(enum.IntEnum):
     BAD_SETTING = 82
     NO_MEMORY = 90
     TOO_SMALL = 91
+    NOT_WRITTEN = 92
     STOP_TOO_MANY_FILES = 101
     STOP_FILE_OPEN = 102
     STOP_FILE_NOT_OPEN = 103

@@ -5,8 +5,8 @@ from __future__ import annotations
 import ctypes
 import os
 import sys
-from ctypes import POINTER, Structure, byref, c_char_p, c_int, c_int32, c_size_t, c_uint8, c_uint16, c_uint64
-from ctypes import c_void_p
+from ctypes import CFUNCTYPE, POINTER, Structure, byref, c_char_p, c_int, c_int32, c_size_t, c_uint8, c_uint16
+from ctypes import c_uint32, c_uint64, c_void_p
 from typing import Any, Optional
 
 from ._faults import Fault
@@ -51,6 +51,10 @@ class Step(Structure):
     _fields_ = [("wake", c_uint64), ("pulls_data", c_uint8), ("heard", Received)]
 
 
+class Speed(Structure):
+    _fields_ = [("columns", c_uint32), ("feed", c_uint32)]
+
+
 class Byte(Structure):
     _fields_ = [(it, c_uint64) for it in ("look", "ready", "answered", "answer_ended", "pull", "shortest_low")]
     _fields_ += [(it, c_uint64) for it in ("longest_low", "shortest_high", "longest_high", "last_pull")]
@@ -85,6 +89,11 @@ class Region(Structure):
     _fields_ += [("stride", c_size_t), ("pixels", c_uint8)]
 
 
+class Characters(Structure):
+    _fields_ = [("kept", c_uint8 * 1536)]
+
+
+WRITE = CFUNCTYPE(c_int, c_void_p, c_void_p, c_size_t)
 _GIVEN = [c_void_p, c_size_t, POINTER(Settings)]
 _MADE = [c_void_p, c_size_t, POINTER(c_size_t), POINTER(Details)]
 _SHOWN = [c_void_p, c_size_t, POINTER(Region)]
@@ -108,10 +117,14 @@ CALLS: dict[str, list[Any]] = {
     "printer_changed": [*_SHOWN, POINTER(Details)],
     "printer_page": [*_SHOWN, c_void_p, c_size_t, POINTER(Details)],
     "printer_draw": [*_SHOWN, c_void_p, c_size_t, POINTER(Details)],
+    "printer_picture": [*_GIVEN, WRITE, c_void_p, POINTER(Details)],
+    "characters_read": [c_void_p, c_size_t, POINTER(Characters), POINTER(Details)],
+    "characters_dots": [POINTER(Characters), POINTER(Mark), *_MADE],
+    "printing_time": [c_uint32, c_uint16, POINTER(Speed)],
     "message": [POINTER(Details), c_char_p, c_size_t],
     "version": [],
 }
-RESULTS = {"message": c_size_t, "version": c_char_p}
+RESULTS = {"message": c_size_t, "version": c_char_p, "printing_time": c_uint64}
 
 
 def place() -> str:

@@ -1,22 +1,25 @@
-"""Printers that are watched: the marks of each byte as it comes, and the pixels of any part of the paper."""
+"""Printers that are watched: the marks of each byte as it comes, and the pixels and pictures of the paper."""
 
 from __future__ import annotations
 
 import ctypes
 from ctypes import byref, c_size_t, c_uint64
-from typing import Any, Literal, NamedTuple, Optional, Sequence, Union, get_args
+from typing import TYPE_CHECKING, Any, Callable, Literal, NamedTuple, Optional, Sequence, Union, get_args
 
 from . import _library
 from ._bus import _Kept
 from ._library import called, fitting, numbered
-from ._texts import Set
+from ._texts import Data, Set, Settings, _bytes, _settings
+
+if TYPE_CHECKING:
+    from typing_extensions import Unpack
 
 Pixels = Literal["gray", "rgba", "bits"]
 CELL, DOTS = 0, 1
 # The height of a sheet of 11 inches, in 1/126 inch.
 SHEET = 1386
-# How many marks one call gives at most; a byte has no more than 255.
-_MARKS = 1024
+# How many marks one call gives at most; a byte has no more than 255, and a mark 12 columns of dots.
+_MARKS, _DOTS = 1024, 12
 
 
 class Mark(NamedTuple):
@@ -56,6 +59,10 @@ def _marks(marks: Sequence[Mark]) -> Any:
     return (_library.Mark * len(marks))(*marks)
 
 
+def _made(marks: Any) -> list[Mark]:
+    return [Mark(it.y, it.x, it.kind, it.value, it.lower, it.reverse, it.wide) for it in marks]
+
+
 def _region(region: Region) -> _library.Region:
     *numbers, pixels = region
     return _library.Region(*(fitting(it, 64, "a region") for it in numbers), numbered(pixels, get_args(Pixels)))
@@ -92,7 +99,7 @@ class Printer(_Kept):
         while given:
             taken, length = c_size_t(len(given)), c_size_t()
             called("printer_bytes", byref(self._kept), given, byref(taken), marks, _MARKS, byref(length))
-            made += [Mark(it.y, it.x, it.kind, it.value, it.lower, it.reverse, it.wide) for it in marks[: length.value]]
+            made += _made(marks[: length.value])
             given = given[taken.value :]
         return made
 
@@ -133,3 +140,47 @@ def _drawn(call: str, marks: Sequence[Mark], region: Region, memory: Any) -> Non
     size = memoryview(memory).nbytes
     pixels = (ctypes.c_char * size).from_buffer(memory)
     called(call, _marks(marks), len(marks), byref(_region(region)), pixels, size)
+
+
+class Characters:
+    """The characters of a file, or the project's own where it is empty: the dots that draw marks in them."""
+
+    def __init__(self, file: Data = b""):
+        self._kept, data = _library.Characters(), _bytes(file)
+        called("characters_read", data, len(data), byref(self._kept))
+
+    def dots(self, marks: Sequence[Mark]) -> list[Mark]:
+        """The columns of dots that draw marks, for `draw`, `pixels_of` and `changed` in their place."""
+        made, dots, length = [], (_library.Mark * _DOTS)(), c_size_t()
+        for mark in _marks(marks):
+            called("characters_dots", byref(self._kept), byref(mark), dots, _DOTS, byref(length))
+            made += _made(dots[: length.value])
+        return made
+
+
+def write_picture(marks: Sequence[Mark], write: Callable[[bytes], Any], **settings: Unpack[Settings]) -> None:
+    """Gives a picture of the paper with marks to a function, part after part: as_ is "svg", "png" or "pdf". None of
+    the marks is above the one before it. What the function raises ends it."""
+    raised: list[BaseException] = []
+
+    def part(context: Any, data: int, length: int) -> int:
+        try:
+            write(ctypes.string_at(data, length))
+        except BaseException as why:  # it goes on where the call ends
+            raised.append(why)
+        return len(raised)
+
+    try:
+        given = (_marks(marks), len(marks), byref(_settings(settings)), _library.WRITE(part), None)
+        called("printer_picture", *given)
+    except _library.Refused:
+        if raised:
+            raise raised[0] from None
+        raise
+
+
+def picture(marks: Sequence[Mark], **settings: Unpack[Settings]) -> bytes:
+    """A picture of the paper with marks."""
+    made = bytearray()
+    write_picture(marks, made.extend, **settings)
+    return bytes(made)

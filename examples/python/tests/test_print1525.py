@@ -120,6 +120,13 @@ class Bus(unittest.TestCase):
         with self.assertRaisesRegex(Refused, "^no such timing$"):
             Device(4, Timing(hold=10001))
 
+    def test_printing_time(self):
+        self.assertEqual(print1525.printing_time(480), 2_866_667)
+        self.assertEqual(print1525.printing_time(6, 0), 33_334)
+        self.assertEqual(print1525.printing_time(6, 2, print1525.Speed(60, 5)), 100_010)
+        with self.assertRaises(OverflowError):
+            print1525.printing_time(6, 65_536)
+
     def test_edges(self):
         edges = print1525.edges(print1525.bus(HELLO).text)
         heard = [(it.kind, it.byte, it.is_last) for it in print1525.received(edges, 4)]
@@ -184,6 +191,39 @@ class Paper(unittest.TestCase):
             print1525.draw(marks, changed, bytearray(100))
         with self.assertRaises(TypeError):
             print1525.draw(marks, changed, bytes(1000))
+
+    def test_pictures(self):
+        marks = Printer().print(b"AB\r\x12C\r")
+        for form in ("svg", "png", "pdf"):
+            true = print1525.raw(b"AB\r\x12C\r", as_=form, top=0).text
+            self.assertEqual(print1525.picture(marks, as_=form, top=0), true)
+        self.assertEqual(print1525.picture(marks), print1525.picture(marks, as_="svg"))
+        large: list[bytes] = []
+        many = [Mark(21 * y, 6 * x, print1525.CELL, 65) for y in range(200) for x in range(60)]
+        print1525.write_picture(many, large.append, as_="svg")
+        self.assertEqual({len(it) for it in large[:-1]}, {65536})
+        self.assertEqual(b"".join(large), print1525.picture(many))
+        with self.assertRaises(ZeroDivisionError):
+            print1525.write_picture(marks, lambda part: 1 // 0)
+        why = self.refused(print1525.picture, marks[::-1])
+        self.assertEqual((str(why), why.fault), ("mark 1: above the one before it", Fault.MARK_ABOVE))
+        self.assertEqual(str(self.refused(print1525.picture, marks, as_="list")), "setting as: bad setting")
+        self.assertEqual(str(self.refused(print1525.picture, marks, sheet=9)), "no such sheet: the paper has one sheet")
+
+    def refused(self, call, *given, **settings):
+        with self.assertRaises(Refused) as found:
+            call(*given, **settings)
+        return found.exception
+
+    def test_characters(self):
+        marks = Printer().print(b"\x0eA\x0f\x12B\x08\x81\r")
+        region = print1525.changed(marks)
+        own = print1525.Characters()
+        dots = own.dots(marks)
+        self.assertEqual((len(dots), {it.kind for it in dots}), (19, {print1525.DOTS}))
+        self.assertEqual(print1525.pixels_of(dots, region), print1525.pixels_of(marks, region))
+        self.assertEqual(own.dots(dots), dots)
+        self.assertEqual(str(self.refused(print1525.Characters, "upper 65\n")), "line 1: bad character line")
 
     def test_sheets(self):
         printer = Printer()

@@ -1,6 +1,6 @@
 //! The serial bus: devices that answer, and what any bus says, edge by edge. Times are microseconds.
 
-use crate::raw::{self, Byte, Details, Edge, Timing};
+use crate::raw::{self, Byte, Details, Edge, Speed, Timing};
 use crate::{done, Error};
 
 /// What comes to a device.
@@ -177,4 +177,9 @@ impl Receiver {
         let details = raw::receiver_edge(&mut self.kept, &edge, &mut made);
         done(received(made), details)
     }
+}
+
+/// How long a printer takes for columns of dots from the left edge, blank ones too, and line feeds.
+pub fn printing_time(columns: u32, feeds: u16, speed: &Speed) -> u64 {
+    raw::printing_time(columns, feeds, speed)
 }

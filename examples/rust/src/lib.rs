@@ -7,7 +7,8 @@
 //! [`pages`], [`bus()`], [`check`], [`decode`], [`raw()`], [`listing`] and [`print_inputs`] give an [`Answer`]: a text
 //! as bytes. [`Settings`] are the program's options, and [`answer`] takes the words of its command line. [`edges`]
 //! gives the edges of a recording; a [`Decoder`] and a [`Receiver`] say what edges mean. A [`Device`] is on a bus of
-//! yours and answers. A [`Printer`] gives the marks of each byte; [`draw`] and [`paint`] draw them.
+//! yours and answers. A [`Printer`] gives the marks of each byte; [`draw`] and [`paint`] draw them, and [`picture`] and
+//! [`write_picture`] give their paper as SVG, PNG or PDF.
 //!
 //! Where a call refuses, it gives an [`Error`] with the library's words.
 #![deny(unsafe_code)]
@@ -18,9 +19,9 @@ mod paper;
 mod raw;
 mod texts;
 
-pub use bus::{Decoder, Device, Kind, Reading, Received, Receiver, Step};
-pub use paper::{changed, draw, paint, Pixels, Printer, Region, SHEET};
-pub use raw::{Byte, Edge, Mark, Timing};
+pub use bus::{printing_time, Decoder, Device, Kind, Reading, Received, Receiver, Step};
+pub use paper::{changed, draw, paint, picture, write_picture, Characters, Pixels, Printer, Region, SHEET};
+pub use raw::{Byte, Edge, Mark, Speed, Timing};
 pub use texts::{answer, bus, check, decode, edges, listing, pages, print_inputs, raw};
 pub use texts::{Answer, As, Bounds, From, Listening, Mode, Paper, Present, Set, Settings};
 

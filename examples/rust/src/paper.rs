@@ -1,7 +1,7 @@
-//! Printers that are watched: the marks of each byte as it comes, and the pixels of any part of the paper.
+//! Printers that are watched: the marks of each byte as it comes, and the pixels and pictures of the paper.
 
 use crate::raw::{self, Mark};
-use crate::{done, Error, Set};
+use crate::{done, Error, Set, Settings};
 
 /// The height of a sheet of 11 inches, in 1/126 inch.
 pub const SHEET: u64 = 1386;
@@ -108,4 +108,44 @@ pub fn paint(marks: &[Mark], region: &Region, memory: &mut [u8]) -> Result<(), E
 /// Draws marks over the pixels of a region: where a dot is they become black, all others stay as they were.
 pub fn draw(marks: &[Mark], region: &Region, memory: &mut [u8]) -> Result<(), Error> {
     done((), raw::drawn(true, marks, &region.raw(), memory))
+}
+
+/// Gives a picture of the paper with marks, of which none is above the one before it, to a function, part after part.
+/// It is SVG, PNG or PDF by `as_`. Where the function wants no more, the error is [`crate::fault::NOT_WRITTEN`].
+pub fn write_picture(marks: &[Mark], settings: &Settings, mut write: impl FnMut(&[u8]) -> bool) -> Result<(), Error> {
+    done((), raw::picture(marks, &settings.chosen(), &mut write))
+}
+
+/// A picture of the paper with marks.
+pub fn picture(marks: &[Mark], settings: &Settings) -> Result<Vec<u8>, Error> {
+    let mut made = Vec::new();
+    write_picture(marks, settings, |part| {
+        made.extend_from_slice(part);
+        true
+    })?;
+    Ok(made)
+}
+
+/// The most columns of dots that draw a mark.
+const DOTS: usize = 12;
+
+/// The characters of a file, or the project's own where it is empty.
+#[derive(Clone, Debug, PartialEq, Eq)]
+pub struct Characters {
+    kept: raw::Characters,
+}
+
+impl Characters {
+    pub fn new(file: &[u8]) -> Result<Characters, Error> {
+        let mut kept = [0; 1536];
+        let details = raw::characters_read(file, &mut kept);
+        done(Characters { kept }, details)
+    }
+
+    /// Adds the columns of dots that draw a mark, for [`draw`], [`paint`] and [`changed`] in its place.
+    pub fn dots(&self, mark: &Mark, dots: &mut Vec<Mark>) {
+        let mut made = [Mark::default(); DOTS];
+        let length = raw::characters_dots(&self.kept, mark, &mut made);
+        dots.extend_from_slice(&made[..length]);
+    }
 }

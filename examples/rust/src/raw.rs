@@ -1,10 +1,12 @@
 //! The C library: its structures and its calls. All that is `unsafe` in this package is here; every function is safe.
 #![allow(unsafe_code)]
 
+use std::any::Any;
 use std::ffi::{CStr, CString};
 use std::marker::PhantomData;
 use std::mem::size_of;
 use std::os::raw::{c_char, c_int, c_void};
+use std::panic::{catch_unwind, resume_unwind, AssertUnwindSafe};
 use std::ptr::{null, null_mut};
 
 /// What a call reports: its status and the fault, with the line, edge, input or setting, and the column, that it names.
@@ -71,6 +73,16 @@ pub struct Timing {
     pub accept: u16,
     /// From ATN's release to DATA's release, if the device does not listen.
     pub leave: u16,
+}
+
+/// How fast a printer prints; 0 is the figure of the VIC-1525 User's Manual.
+#[repr(C)]
+#[derive(Clone, Copy, Debug, Default, PartialEq, Eq)]
+pub struct Speed {
+    /// How many columns of dots in a second.
+    pub columns: u32,
+    /// How long a line feed takes, in microseconds.
+    pub feed: u32,
 }
 
 #[repr(C)]
@@ -161,10 +173,13 @@ pub type Device = [u64; 8];
 pub type Decoder = [u64; 24];
 pub type Receiver = [u64; 25];
 
+/// What it keeps of the characters of a file.
+pub type Characters = [u8; 1536];
+
 const _: () = assert!(size_of::<Details>() == 24 && size_of::<Settings>() == 104 && size_of::<Edge>() == 16);
 const _: () = assert!(size_of::<Received>() == 3 && size_of::<Timing>() == 12 && size_of::<Step>() == 16);
 const _: () = assert!(size_of::<Byte>() == 88 && size_of::<Reading>() == 104 && size_of::<Mark>() == 16);
-const _: () = assert!(size_of::<Printer>() == 24 && size_of::<Region>() == 48);
+const _: () = assert!(size_of::<Printer>() == 24 && size_of::<Region>() == 48 && size_of::<Speed>() == 8);
 
 type OfItems<Given> =
     unsafe extern "C" fn(Given, usize, *const Settings, *mut c_void, usize, *mut usize, *mut Details) -> c_int;
@@ -268,6 +283,32 @@ extern "C" {
         capacity: usize,
         details: *mut Details,
     ) -> c_int;
+}
+
+extern "C" {
+    fn print1525_printer_picture(
+        marks: *const Mark,
+        length: usize,
+        settings: *const Settings,
+        write: extern "C" fn(*mut c_void, *const c_void, usize) -> c_int,
+        context: *mut c_void,
+        details: *mut Details,
+    ) -> c_int;
+    fn print1525_characters_read(
+        text: *const c_void,
+        length: usize,
+        characters: *mut Characters,
+        details: *mut Details,
+    ) -> c_int;
+    fn print1525_characters_dots(
+        characters: *const Characters,
+        mark: *const Mark,
+        dots: *mut Mark,
+        capacity: usize,
+        length: *mut usize,
+        details: *mut Details,
+    ) -> c_int;
+    fn print1525_printing_time(columns: u32, feeds: u16, speed: *const Speed) -> u64;
 }
 
 pub type OfBytes = Call<*const c_void>;
@@ -446,4 +487,62 @@ pub fn drawn(over: bool, marks: &[Mark], region: &Region, memory: &mut [u8]) -> 
     // SAFETY: the slices live as long as the call, which writes within the memory.
     unsafe { call(marks.as_ptr(), marks.len(), region, memory.as_mut_ptr().cast(), memory.len(), &mut details) };
     details
+}
+
+/// A function that takes parts of a picture, and its panic.
+struct Writing<'a> {
+    write: &'a mut dyn FnMut(&[u8]) -> bool,
+    panic: Option<Box<dyn Any + Send>>,
+}
+
+extern "C" fn write_part(context: *mut c_void, bytes: *const c_void, length: usize) -> c_int {
+    // SAFETY: the context is that of the call below, and the part is there while this runs.
+    let (writing, part) =
+        unsafe { (&mut *context.cast::<Writing>(), std::slice::from_raw_parts(bytes.cast::<u8>(), length)) };
+    let wants = catch_unwind(AssertUnwindSafe(|| (writing.write)(part)));
+    let is_wanted = *wants.as_ref().unwrap_or(&false);
+    writing.panic = wants.err();
+    (!is_wanted).into()
+}
+
+/// Gives a picture of the paper with marks to a function, part after part, as long as it wants more.
+pub fn picture(marks: &[Mark], chosen: &Chosen, write: &mut dyn FnMut(&[u8]) -> bool) -> Details {
+    let (mut details, mut writing) = (Details::default(), Writing { write, panic: None });
+    // SAFETY: the slice, the settings and the function live as long as the call, into which no panic goes.
+    unsafe {
+        print1525_printer_picture(
+            marks.as_ptr(),
+            marks.len(),
+            &chosen.settings,
+            write_part,
+            (&mut writing as *mut Writing).cast(),
+            &mut details,
+        )
+    };
+    match writing.panic {
+        Some(panic) => resume_unwind(panic),
+        None => details,
+    }
+}
+
+pub fn characters_read(file: &[u8], characters: &mut Characters) -> Details {
+    let mut details = Details::default();
+    // SAFETY: the slice and the characters live as long as the call.
+    unsafe { print1525_characters_read(file.as_ptr().cast(), file.len(), characters, &mut details) };
+    details
+}
+
+/// The columns of dots that draw a mark: how many they are.
+pub fn characters_dots(characters: &Characters, mark: &Mark, dots: &mut [Mark]) -> usize {
+    let mut length = 0;
+    // SAFETY: all live as long as the call, which writes no more marks than there is room.
+    unsafe {
+        print1525_characters_dots(characters, mark, dots.as_mut_ptr(), dots.len(), &mut length, null_mut());
+    }
+    length
+}
+
+pub fn printing_time(columns: u32, feeds: u16, speed: &Speed) -> u64 {
+    // SAFETY: the speed lives as long as the call.
+    unsafe { print1525_printing_time(columns, feeds, speed) }
 }

@@ -131,7 +131,7 @@ pub struct Settings<'a> {
 }
 
 impl<'a> Settings<'a> {
-    fn chosen(&self) -> Chosen<'a> {
+    pub(crate) fn chosen(&self) -> Chosen<'a> {
         // (255 is the upper edge for the library, and 254 a number that it refuses.)
         let top = self.top.map_or(0, |lines| match lines {
             0 => 255,

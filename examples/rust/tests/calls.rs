@@ -1,6 +1,7 @@
 //! The package over the library.
-use print1525::{changed, draw, fault, pages, paint, Decoder, Device, Edge, Mark, Pixels, Printer};
-use print1525::{As, Listening, Present, Received, Receiver, Region, Set, Settings, Timing, SHEET};
+use print1525::{changed, draw, fault, pages, paint, picture, printing_time, write_picture, Characters, Decoder};
+use print1525::{As, Listening, Present, Received, Receiver, Region, Set, Settings, Speed, Timing, SHEET};
+use print1525::{Device, Edge, Mark, Pixels, Printer};
 
 const HELLO: &[u8] = b"OPEN 4,4\nPRINT#4,\"HI\"\n";
 const PAGE: &str = "printer 4\nrow 0\n 0 cell 72\n 6 cell 73\nprinter 5\nstatus 0 0\nscreen\n";
@@ -132,4 +133,41 @@ fn paper() {
     assert_eq!((around.stride, around.pixels, changed(&[], 0, Pixels::Gray).width), (100, Pixels::Rgba, 0));
     printer.form_feed();
     assert_eq!((printer.y(), printer.tear_off(), printer.y()), (SHEET, 1, 0));
+}
+
+#[test]
+fn pictures() {
+    let (mut printer, mut marks, data) = (Printer::new(), Vec::new(), b"AB\r\x12C\r");
+    printer.print(data, &mut marks);
+    for as_ in [As::Svg, As::Png, As::Pdf] {
+        let settings = Settings { as_, ..Settings::default() };
+        assert_eq!(picture(&marks, &settings).unwrap(), print1525::raw(data, &settings).unwrap().text);
+    }
+    let many: Vec<Mark> = (0..9000).map(|it| Mark { y: 14 * (it / 80), value: 65, ..Mark::default() }).collect();
+    let (mut lengths, usual) = (Vec::new(), Settings::default());
+    write_picture(&many, &usual, |part| {
+        lengths.push(part.len());
+        true
+    })
+    .unwrap();
+    assert!(lengths.len() > 1 && lengths[..lengths.len() - 1].iter().all(|&it| it == 65_536));
+    let why = write_picture(&marks, &usual, |_| false).unwrap_err();
+    assert_eq!((why.to_string().as_str(), why.fault()), ("not written", fault::NOT_WRITTEN));
+    marks.reverse();
+    assert_eq!(picture(&marks, &usual).unwrap_err().to_string(), "mark 1: above the one before it");
+}
+
+#[test]
+fn characters() {
+    let (own, mut dots) = (Characters::new(b"").unwrap(), Vec::new());
+    let cell = Mark { value: 65, wide: 1, ..Mark::default() };
+    own.dots(&cell, &mut dots);
+    assert_eq!((dots.len(), dots[11].x, dots[0].kind), (12, 11, 1));
+    let region = changed(&[cell], 0, Pixels::Gray);
+    let (mut one, mut other) = ([7; 24 * 14], [8; 24 * 14]);
+    paint(&[cell], &region, &mut one).unwrap();
+    paint(&dots, &region, &mut other).unwrap();
+    assert_eq!(one, other);
+    assert_eq!(Characters::new(b"upper 65\n").unwrap_err().to_string(), "line 1: bad character line");
+    assert_eq!(printing_time(480, 1, &Speed::default()), 2_866_667);
 }
