@@ -48,22 +48,26 @@ int print1525_print(const uint16_t *inputs, size_t inputs_length, const print152
     return report_length(length, details, answer, 1);
 }
 
-/* A picture in memory that is taken for it, or NULL. Where 64 bytes for each mark and those of a part are too few, it
- * is made once more. */
-static uint8_t *picture_of(const task *t, print1525_plain_numbers *answer) {
+/* The picture in a buffer. */
+static void make_picture(const task *t, uint8_t *picture, size_t capacity, print1525_plain_numbers *answer) {
     const print1525_settings *const s = &t->settings;
     const shown it = shown_of(t);
+    print1525_plain_printer_picture((const print1525_mark *)t->input, t->length, it.format, s->sheet, it.top, it.paper,
+                                    it.scale, (const uint8_t *)t->characters, s->characters_length, picture, capacity,
+                                    answer);
+}
+
+/* A picture in memory that is taken for it, or NULL. Where 64 bytes for each mark and those of a part are too few, it
+ * is made once more. Without memory marks are refused all the same. */
+static uint8_t *picture_of(const task *t, print1525_plain_numbers *answer) {
     size_t capacity = room(t->length, 64);
     int tries;
     if (capacity < SIZE_MAX - PRINT1525_PART) capacity += PRINT1525_PART;
     for (tries = 0; tries < 2; tries++) {
-        uint8_t *const picture = (uint8_t *)malloc(capacity);
-        answer->code = 3;
-        if (picture == NULL) return NULL;
-        print1525_plain_printer_picture((const print1525_mark *)t->input, t->length, it.format, s->sheet, it.top,
-                                        it.paper, it.scale, (const uint8_t *)t->characters, s->characters_length,
-                                        picture, capacity, answer);
-        if (answer->code == 0) return picture;
+        uint8_t nothing, *const picture = (uint8_t *)malloc(capacity);
+        make_picture(t, picture == NULL ? &nothing : picture, picture == NULL ? 0 : capacity, answer);
+        if (picture == NULL && answer->code == 4) answer->code = 3;
+        if (picture == NULL || answer->code == 0) return picture;
         free(picture);
         if (answer->code != 4) return NULL;
         capacity = answer->length;

@@ -1,91 +1,83 @@
-/* A printer as an emulator has it: bytes in, and an SVG document for each sheet of 11 inches out.
+/* A printer as an emulator has it: bytes in, and an SVG picture of each sheet of 11 inches out, once the sheet is full.
  *     print PREFIX [upper|lower] < BYTES          writes PREFIX1.svg, PREFIX2.svg ..
- * print1525_print draws continuous paper with folds; a sheet is a window on it, from fold to fold. */
+ * Between two bytes a printer and the marks of one sheet are kept. */
 #include "print1525.h"
 #include <stdio.h>
 #include <stdlib.h>
 #include <string.h>
 
-/* Units of the document: 1/1260 inch. The paper lies below its heading, with half an inch above the first line, which begins at a
- * fold, and half an inch or more below the last one. */
-#define SHEET 13860
-#define PAPER_LEFT 630
-#define FIRST_FOLD 1680
-#define MARGINS 1260
-#define PAPER_WIDTH 12600
-
-/* What the printer received. */
-static uint16_t *received;
+/* The marks of the sheet, and for how many more there is memory. */
+static print1525_mark *marks;
 static size_t count, room;
 
-/* Takes what the machine sends to device 4, a byte or the selection of a character set; 0 where there is no memory for it. */
-static int printer_takes(uint16_t input) {
-    if (count == room) {
-        uint16_t *more = (uint16_t *)realloc(received, (room + 65536) * sizeof *received);
-        if (!more) return 0;
-        received = more;
-        room += 65536;
-    }
-    received[count++] = input;
+/* Memory for the marks of one more byte and a further mark; 0 where there is none. */
+static int has_room(void) {
+    print1525_mark *more;
+    if (room - count > PRINT1525_MARKS_OF_A_BYTE) return 1;
+    more = (print1525_mark *)realloc(marks, (2 * room + 4096) * sizeof *marks);
+    if (more == NULL) return 0;
+    marks = more;
+    room = 2 * room + 4096;
     return 1;
 }
 
-/* The page of what was received, with a zero byte after it, or NULL if there is none. */
-static char *printer_page(print1525_details *details) {
-    print1525_settings settings = PRINT1525_SETTINGS_INIT;
-    size_t length;
-    char *page;
-    settings.as = PRINT1525_AS_SVG;
-    print1525_print(received, count, &settings, NULL, 0, &length, details);
-    if (details->fault != PRINT1525_FAULT_TOO_SMALL) return NULL;
-    page = (char *)malloc(length + 1);
-    if (page == NULL) return NULL;
-    if (print1525_print(received, count, &settings, page, length, NULL, details) != PRINT1525_DONE) {
-        free(page);
-        return NULL;
-    }
-    page[length] = '\0';
-    return page;
+/* Takes a part of a picture; anything but 0 ends the picture. */
+static int to_file(void *file, const void *bytes, size_t length) {
+    return fwrite(bytes, 1, length, (FILE *)file) != length;
 }
 
-/* Writes the sheet with this number, from 0; 0 where its file cannot be written. */
-static int write_sheet(const char *prefix, unsigned long number, const char *page, const char *size, const char *rest) {
+/* Writes a sheet, from 1, of so many marks. */
+static int write_sheet(const char *prefix, uint64_t sheet, size_t length) {
+    print1525_settings settings = PRINT1525_SETTINGS_INIT;
     char name[4096];
     FILE *file;
-    snprintf(name, sizeof name, "%s%lu.svg", prefix, number + 1);
+    int status;
+    settings.as = PRINT1525_AS_SVG;
+    settings.top = PRINT1525_TOP_EDGE; /* marks have their distance from the paper's edge */
+    settings.sheet = sheet;
+    snprintf(name, sizeof name, "%s%lu.svg", prefix, (unsigned long)sheet);
     file = fopen(name, "wb");
-    if (!file) return 0;
-    fwrite(page, 1, (size_t)(size - page), file);
-    fprintf(file, " width=\"60pc\" height=\"66pc\" viewBox=\"%d %lu %d %d\"", PAPER_LEFT, FIRST_FOLD + SHEET * number,
-            PAPER_WIDTH, SHEET);
-    fwrite(rest, 1, strlen(rest), file);
-    return fclose(file) == 0;
+    if (file == NULL) return PRINT1525_FAILED;
+    status = print1525_printer_picture(marks, length, &settings, to_file, file, NULL);
+    return fclose(file) == 0 ? status : PRINT1525_FAILED;
+}
+
+/* Writes a sheet, after which the paper goes on at y, and forgets its marks but those that reach below it. */
+static int end_sheet(const char *prefix, uint64_t sheet, uint64_t y) {
+    const print1525_mark no_dots = {y, 0, PRINT1525_DOTS, 0, 0, 0, 0};
+    size_t at, kept = 0;
+    int status;
+    marks[count] = no_dots; /* a mark further down, without which a sheet at the end without marks would be none */
+    status = write_sheet(prefix, sheet, count + 1);
+    for (at = 0; at < count; at++)
+        if (marks[at].y + 13 >= sheet * PRINT1525_SHEET) marks[kept++] = marks[at];
+    count = kept;
+    return status;
 }
 
 int main(int words, char **word) {
-    print1525_details details;
-    char *page;
-    const char *size, *rest, *paper;
-    unsigned long height, number;
-    int byte, is_lower = words == 3 && strcmp(word[2], "lower") == 0;
+    const int is_lower = words == 3 && strcmp(word[2], "lower") == 0;
+    print1525_printer printer;
+    uint64_t sheet = 1;
+    size_t length;
+    int byte, status = PRINT1525_DONE;
     if (words != 2 && !is_lower && !(words == 3 && strcmp(word[2], "upper") == 0)) {
         fprintf(stderr, "usage: print PREFIX [upper|lower] < BYTES\n");
         return PRINT1525_REFUSED;
     }
-    if (!(received = (uint16_t *)malloc((room = 65536) * sizeof *received))) return PRINT1525_FAILED;
-    printer_takes(is_lower ? PRINT1525_SELECT_LOWER : PRINT1525_SELECT_UPPER);
-    while ((byte = getchar()) != EOF)
-        if (!printer_takes((uint16_t)byte)) return PRINT1525_FAILED;
-    page = printer_page(&details);
-    free(received);
-    if (!page) return PRINT1525_FAILED;
-    size = strstr(page, " width=");
-    rest = strstr(page, ">\n<desc>");
-    paper = strstr(page, "</text>\n<rect width=\"12600\" height=\"");
-    if (!size || !rest || !paper) return 2;
-    height = strtoul(strstr(paper, "height=") + strlen("height=\""), NULL, 10);
-    for (number = 0; number == 0 || SHEET * number + MARGINS < height; number++)
-        if (!write_sheet(word[1], number, page, size, rest)) return PRINT1525_FAILED;
-    free(page);
-    return PRINT1525_DONE;
+    print1525_printer_begin(&printer, NULL);
+    print1525_printer_select(&printer, is_lower ? PRINT1525_SET_LOWER : PRINT1525_SET_UPPER, NULL);
+    printer.y = 3 * 21; /* the paper is put in with its first line three lines below the edge */
+    while (status == PRINT1525_DONE && (byte = getchar()) != EOF) {
+        if (!has_room()) return PRINT1525_FAILED;
+        print1525_printer_byte(&printer, (uint8_t)byte, marks + count, PRINT1525_MARKS_OF_A_BYTE, &length, NULL);
+        count += length;
+        for (; status == PRINT1525_DONE && printer.y >= sheet * PRINT1525_SHEET; sheet++)
+            status = end_sheet(word[1], sheet, printer.y);
+    }
+    /* A line that has not ended is not on the paper yet. */
+    while (count > 0 && marks[count - 1].y == printer.y) count--;
+    if (status == PRINT1525_DONE && (count > 0 || sheet == 1)) status = write_sheet(word[1], sheet, count);
+    free(marks);
+    return status;
 }

@@ -2,7 +2,8 @@
  * print1525_print takes them, it writes the picture of their marks to standard output, with the program's options as
  * settings, and a line to standard error where it is refused; the status is that of the call. Where the options name a
  * sheet, only its marks make the same picture. `pictures refusals` tries what is refused, `pictures marks` the dots of
- * marks in characters. On the way it tries the calls in other ways; a line beginning with WRONG, and status 99, say
+ * marks in characters; `pictures drawn FILE` draws the marks in the characters of a file, and writes the first sheet as
+ * a PGM file. On the way it tries the calls in other ways; a line beginning with WRONG, and status 99, say
  * what differs. */
 #include "options.h"
 #include <stdio.h>
@@ -238,11 +239,34 @@ static int dots(void) {
     return 0;
 }
 
+/* The first sheet, its marks in the characters of a file. */
+static int drawn(const char *name) {
+    static const print1525_region sheet = {0, 0, 960, PRINT1525_SHEET, 0, PRINT1525_GRAY};
+    static uint8_t paper[960 * PRINT1525_SHEET];
+    const size_t count = read_marks();
+    print1525_characters characters;
+    print1525_mark dots[PRINT1525_DOTS_OF_A_MARK];
+    FILE *const file = fopen(name, "rb");
+    size_t n, length = file == NULL ? 0 : fread(again, 1, LARGE, file);
+    if (file == NULL) return 97;
+    fclose(file);
+    WANT(print1525_characters_read(again, length, &characters, NULL) == PRINT1525_DONE);
+    memset(paper, 255, sizeof paper);
+    for (n = 0; n < count; n++) {
+        WANT(print1525_characters_dots(&characters, all + n, dots, PRINT1525_DOTS_OF_A_MARK, &length, NULL) ==
+             PRINT1525_DONE);
+        WANT(print1525_printer_draw(dots, length, &sheet, paper, sizeof paper, NULL) == PRINT1525_DONE);
+    }
+    printf("P5\n960 %d\n255\n", PRINT1525_SHEET);
+    return fwrite(paper, 1, sizeof paper, stdout) == sizeof paper ? 0 : 99;
+}
+
 int main(int words, char **word) {
     print1525_settings settings = PRINT1525_SETTINGS_INIT;
     int at = 1, used;
     if (words > 1 && strcmp(word[1], "refusals") == 0) return refusals();
     if (words > 1 && strcmp(word[1], "marks") == 0) return dots();
+    if (words == 3 && strcmp(word[1], "drawn") == 0) return drawn(word[2]);
     for (; at < words; at += used)
         if ((used = set_option(&settings, word[at], word[at + 1])) == 0) return 97;
     return pictures(&settings);

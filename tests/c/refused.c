@@ -295,6 +295,8 @@ static void try_pages(const char *name, const void *input, size_t length, const 
  * taken for them first. */
 static void try_pictures(int tells) {
     static const char *const options[] = {"", "--as svg --sheet 1", "--as png", "--as png --sheet 1 --scale 1", "--as pdf --holes", "--as svg --sheet 2"};
+    gathered to = {NULL, 0, 0};
+    print1525_details details;
     size_t index;
     for (index = 0; index < sizeof options / sizeof *options; index++) {
         job j;
@@ -308,6 +310,11 @@ static void try_pictures(int tells) {
     }
     try_one("picture", bad_marks, sizeof bad_marks, "--as png", tells);
     try_one("picture", few_marks, 0, "--as png", tells);
+    refused_from = 1, refused_to = MOST, taken = 0;
+    if (print1525_printer_picture(bad_marks, 2, NULL, gather, &to, &details) != PRINT1525_REFUSED ||
+        details.fault != PRINT1525_FAULT_MARK_ABOVE || details.place != 1)
+        is_wrong("a mark above, without memory", details.fault);
+    refused_from = refused_to = 0;
     for (index = 0; index < sizeof many_marks / sizeof *many_marks; index++) many_marks[index].y = 14 * index, many_marks[index].value = 255, many_marks[index].reverse = 1;
     try_one("picture", many_marks, sizeof many_marks, "--as svg", tells);
 }

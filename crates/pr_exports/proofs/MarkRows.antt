@@ -19,7 +19,7 @@ use Rattle.pr_exports.specs.MarkSteps.{placed_by, row_of, rows_after}
 use Rattle.pr_exports.specs.declared.marks.WireMark.{WireMark}
 
 -- the marks of rows
-abbrev marks_in : List Row → List MarkOnPaper
+abbrev pub marks_in : List Row → List MarkOnPaper
 marks_in rows = flat_map (λ (row : Row). map (in_row row.y) row.marks) rows
 
 row_marks : (y : ℕ) (placed : List Placed) → marks_in (row_of y placed) ≡ map (in_row y) placed

@@ -26,17 +26,17 @@ use Rattle.pr_exports.specs.declared.devices.NotShown.TheVariants.{NoDevice, Goe
 -- What numbers mean.
 
 -- the delays that are asked for: 0 is the typical one
-abbrev pub delay_by : ℕ → ℕ → ℕ
-delay_by number usual = if number == 0 then usual else number
+abbrev pub or_usual : ℕ → ℕ → ℕ
+or_usual number usual = if number == 0 then usual else number
 
 abbrev pub delays_by : WireTiming → Timing
 delays_by t = record {
-  attention = delay_by t.attention typical.attention;
-  hold = delay_by t.hold typical.hold;
-  wait = delay_by t.wait typical.wait;
-  answer = delay_by t.answer typical.answer;
-  accept = delay_by t.accept typical.accept;
-  leave = delay_by t.leave typical.leave;
+  attention = or_usual t.attention typical.attention;
+  hold = or_usual t.hold typical.hold;
+  wait = or_usual t.wait typical.wait;
+  answer = or_usual t.answer typical.answer;
+  accept = or_usual t.accept typical.accept;
+  leave = or_usual t.leave typical.leave;
 }
 
 -- the lines at a moment: 0 is a line that is pulled, and every other number one that is released

@@ -1,5 +1,5 @@
 -- Trusted: a picture of marks, and what the call for one answers.
-use Rattle.std.specs.Prelude.{◌≡◌, ◌⊎◌, ℕ, List, [], map, Option, Some, None, Result, Ok, Err}
+use Rattle.std.specs.Prelude.{◌≡◌, ◌⊎◌, ℕ, ◌-◌, List, [], filter, map, Option, Some, None, Result, Ok, Err}
 use Rattle.pr_page.specs.Marks.{marks_on}
 use Rattle.pr_page.specs.Page.{IsPage}
 use Rattle.pr_page.specs.declared.input.Input.{Input}
@@ -7,6 +7,7 @@ use Rattle.pr_page.specs.declared.paper.Paper.{Paper}
 use Rattle.pr_characters.specs.declared.fault.CharactersFault.{CharactersFault}
 use Rattle.pr_dots.specs.declared.character_sets.Shapes.{Shapes}
 use Rattle.pr_render.specs.declared.format.Format.{Format}
+use Rattle.pr_render.specs.declared.format.Part.{Part}
 use Rattle.pr_jobs.specs.Formats.{text_in}
 use Rattle.pr_jobs.specs.Raw.{four_alone, printed_on}
 use Rattle.pr_jobs.specs.declared.fault.CliFault.{CliFault}
@@ -15,7 +16,7 @@ use Rattle.pr_jobs.specs.declared.fault.PictureFault.{PictureFault}
 use Rattle.pr_exports.specs.Answers.{answer_of, refusal}
 use Rattle.pr_exports.specs.Asked.{Refuses, RefusesCharacters}
 use Rattle.pr_exports.specs.Giving.{Gives}
-use Rattle.pr_exports.specs.Marks.{HasMarks, first_up, on_paper, without_blank}
+use Rattle.pr_exports.specs.Marks.{HasMarks, first_up, is_marked_on, on_paper, without_blank}
 use Rattle.pr_exports.specs.declared.answer.Answer.{Answer}
 use Rattle.pr_exports.specs.declared.answer.TextGiven.{TextGiven}
 use Rattle.pr_exports.specs.declared.marks.WireMark.{WireMark}
@@ -62,3 +63,12 @@ MarksShowTheirPage =
     (text : List ℕ) → IsPage inputs page → page.held ≡ [] → map on_paper marks ≡ marks_on page y
     → IsMarksText shapes format marks text
     → text_in shapes format four_alone (printed_on (without_blank page)) ≡ Ok text
+
+-- a law: a picture of one sheet needs the sheet's marks alone: other marks of which the same are on it give the same text
+abbrev pub SheetsNeedTheirMarks : (Part → Format) → Type 0
+SheetsNeedTheirMarks format =
+    (shapes : Shapes) (part : Part) (sheet : ℕ) (marks other : List WireMark) (text again : List ℕ)
+    → part.device ≡ None → part.sheet ≡ Some sheet
+    → filter (is_marked_on part.layout.top (sheet - 1)) marks
+    ≡ filter (is_marked_on part.layout.top (sheet - 1)) other
+    → IsMarksText shapes (format part) marks text → IsMarksText shapes (format part) other again → text ≡ again

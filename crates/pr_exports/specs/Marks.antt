@@ -1,5 +1,5 @@
 -- Trusted: marks on the paper as numbers, and the paper that has them.
-use Rattle.std.specs.Prelude.{◌≡◌, ⊤, ℕ, ◌+◌, ◌≤◌, ◌==◌, Bool, true, false, List, [], ◌∷◌, map, filter, nat_lt}
+use Rattle.std.specs.Prelude.{◌≡◌, ⊤, ℕ, ◌+◌, ◌*◌, ◌≤◌, ◌==◌, Bool, true, false, List, [], ◌∷◌, map, filter, nat_lt}
 use Rattle.std.specs.Prelude.{if◌then◌else◌, Option, Some, None}
 use Rattle.pr_page.specs.Marks.{marks_on}
 use Rattle.pr_page.specs.Page.{IsPage}
@@ -10,6 +10,7 @@ use Rattle.pr_page.specs.declared.paper.Mark.TheVariants.{Cell, Dots}
 use Rattle.pr_page.specs.declared.paper.Paper.{Paper}
 use Rattle.pr_page.specs.declared.paper.Placed.{Placed}
 use Rattle.pr_page.specs.declared.paper.Row.{Row}
+use Rattle.pr_dots.specs.Sheets.{is_on}
 use Rattle.pr_exports.specs.declared.marks.WireMark.{WireMark}
 
 -- a mark by its numbers
@@ -49,6 +50,10 @@ pub record HasMarks (marks : List WireMark) (paper : Paper) : Type 0 where
 -- a paper without the rows that have no marks
 abbrev pub without_blank : Paper → Paper
 without_blank paper = record paper { rows = filter has_marks paper.rows }
+
+-- a mark's row is on a sheet, counted from 0, where the first row of the paper may be some lines below its edge
+abbrev pub is_marked_on : (top sheet : ℕ) → WireMark → Bool
+is_marked_on top sheet w = is_on sheet (record { y = w.y + 21 * top; marks = [] })
 
 -- a law: marks of the page of inputs, where none are held, are those of the page without its blank rows
 abbrev pub MarksHaveTheirPage : Type 0

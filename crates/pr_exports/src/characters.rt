@@ -2,7 +2,7 @@
 
 ghost use Rattle.std.specs.Prelude.{◌≡◌, ◌<◌, ◌++◌, length, Ok};
 ghost use Rattle.pr_exports.specs.Answers.{answer_of};
-ghost use Rattle.pr_exports.specs.Characters.{TellsShapes, column_at, drawn_by, shapes_by, shapes_numbers};
+ghost use Rattle.pr_exports.specs.Characters.{ColumnsDrawTheirMark, TellsShapes, column_at, drawn_by, shapes_by, shapes_numbers};
 ghost use Rattle.pr_exports.specs.Giving.{Gives};
 ghost use Rattle.pr_exports.specs.Settings.{WithShapes};
 ghost use Rattle.pr_exports.specs.declared.answer.TextGiven.{TextGiven};
@@ -115,3 +115,8 @@ pub extern "C" fn print1525_characters_dots(
     let drawn = drawn_by(&restore(shapes), mark);
     *answer = numbered(give(Ok(()), drawn.as_slice(), out));
 }
+
+/// A law, with nothing to run: the columns that draw a mark have its dots.
+pub fn columns_draw_their_mark()
+    ensures { ColumnsDrawTheirMark }
+{}

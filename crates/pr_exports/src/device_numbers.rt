@@ -3,7 +3,7 @@
 ghost use Rattle.std.specs.Prelude.{◌≡◌};
 ghost use Rattle.pr_exports.specs.Numbers.{flag};
 ghost use Rattle.pr_exports.specs.DeviceKept.{DevicesComeBack, change_by, numbers_of_delays, place_by, state_by, stored, with_change, with_place};
-ghost use Rattle.pr_exports.specs.Devices.{delay_by, delays_by, event_numbers, step_numbers};
+ghost use Rattle.pr_exports.specs.Devices.{or_usual, delays_by, event_numbers, step_numbers};
 
 use pr_device::{Event, Place, State, Step, Timing};
 use pr_receiver::Listener;
@@ -101,7 +101,7 @@ fn bit(value: bool) -> u8
 
 /// A delay that a caller asks for: 0 is the typical one.
 fn delay_for(number: u16, typical: u16) -> u16
-    ensures { result ≡ delay_by number typical }
+    ensures { result ≡ or_usual number typical }
 {
     if number == 0 { typical } else { number }
 }

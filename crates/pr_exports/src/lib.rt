@@ -46,7 +46,9 @@ mod scripts;
 mod settings;
 
 pub use answer::{Answer, TextGiven};
-pub use characters::{WireShapes, print1525_characters_dots, print1525_characters_read};
+pub use characters::{
+    WireShapes, columns_draw_their_mark, print1525_characters_dots, print1525_characters_read,
+};
 pub use delays::print1525_edge_delays;
 pub use device_numbers::{WireDevice, WireStep, WireTiming, devices_come_back};
 pub use devices::{
@@ -54,7 +56,7 @@ pub use devices::{
     print1525_device_step, show_device,
 };
 pub use listings::{Listed, print1525_listing};
-pub use marked::{marks_show_their_page, print1525_printer_picture};
+pub use marked::{marks_show_their_page, print1525_printer_picture, sheets_need_their_marks};
 pub use marks::{WireMark, marks_have_their_page};
 pub use numbers::{print1525_bounds, print1525_edges, print1525_intervals, print1525_reading_rows};
 pub use printing::{bytes_are_inputs, print1525_print};

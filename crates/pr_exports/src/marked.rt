@@ -1,7 +1,8 @@
 //! The picture of marks.
 
 ghost use Rattle.std.specs.Prelude.{◌≡◌, length, None};
-ghost use Rattle.pr_exports.specs.Marked.{HandsMarks, MarksShowTheirPage, TellsMarks};
+ghost use Rattle.pr_render.specs.declared.format.Format.{Format};
+ghost use Rattle.pr_exports.specs.Marked.{HandsMarks, MarksShowTheirPage, SheetsNeedTheirMarks, TellsMarks};
 ghost use Rattle.pr_exports.specs.Marks.{first_up};
 ghost use Rattle.pr_exports.specs.Printed.{GivesMarksText};
 ghost use Rattle.pr_exports.specs.Settings.{WithShapes, shown_of};
@@ -91,4 +92,10 @@ pub extern "C" fn print1525_printer_picture(
 /// A law, with nothing to run: the text of marks of the page of inputs is that of the page without its blank rows.
 pub fn marks_show_their_page()
     ensures { MarksShowTheirPage }
+{}
+
+/// A law, with nothing to run: a picture of one sheet needs the sheet's marks alone.
+pub fn sheets_need_their_marks()
+    ensures svg { SheetsNeedTheirMarks Format.Svg }
+    ensures png { SheetsNeedTheirMarks Format.Png }
 {}

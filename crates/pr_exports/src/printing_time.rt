@@ -2,7 +2,7 @@
 
 ghost use Rattle.std.specs.Prelude.{◌≡◌, ◌<◌, ◌^◌};
 ghost use Rattle.pr_device.specs.Printing.{printing_time};
-ghost use Rattle.pr_exports.specs.Devices.{delay_by};
+ghost use Rattle.pr_exports.specs.Devices.{or_usual};
 ghost use Rattle.pr_exports.specs.PrintingTime.{speed_by};
 
 use pr_device::{Speed, printing_time};
@@ -19,7 +19,7 @@ pub struct WireSpeed {
 
 /// The figure that is asked for: 0 is the usual one.
 fn figure_for(number: u32, usual: u32) -> u32
-    ensures { result ≡ delay_by number usual }
+    ensures { result ≡ or_usual number usual }
 {
     if number == 0 { usual } else { number }
 }

@@ -3,6 +3,7 @@
 from __future__ import annotations
 
 import ctypes
+import struct
 from ctypes import byref, c_size_t, c_uint64
 from typing import TYPE_CHECKING, Any, Callable, Literal, NamedTuple, Optional, Sequence, Union, get_args
 
@@ -20,6 +21,8 @@ CELL, DOTS = 0, 1
 SHEET = 1386
 # How many marks one call gives at most; a byte has no more than 255, and a mark 12 columns of dots.
 _MARKS, _DOTS = 1024, 12
+# A mark as the library has it.
+_PACKED = struct.Struct("=QH5Bx")
 
 
 class Mark(NamedTuple):
@@ -56,7 +59,11 @@ class Region(NamedTuple):
 
 
 def _marks(marks: Sequence[Mark]) -> Any:
-    return (_library.Mark * len(marks))(*marks)
+    try:
+        packed = b"".join([_PACKED.pack(*it) for it in marks])
+    except struct.error as why:
+        raise OverflowError(f"a mark: {why}") from None
+    return (_library.Mark * len(marks)).from_buffer_copy(packed)
 
 
 def _made(marks: Any) -> list[Mark]:
