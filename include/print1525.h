@@ -803,9 +803,11 @@ typedef int (*print1525_write)(void *context, const void *bytes, size_t length);
  * which begin at the paper's edge (PRINT1525_SHEET), it is PRINT1525_TOP_EDGE.
  * Gives: to the function, with the context, part after part of what print1525_print gives of the inputs that make these
  * marks, if each of their lines has ended and has a mark. The paper ends with the last row that has marks, and rows
- * without any are not part of it; a mark of kind PRINT1525_DOTS and value 0 has no dot, and makes its row known. The
- * whole picture is made before its first part is given, so nothing is given of one that is refused. A PDF document
- * takes time and memory for each sheet down to the last mark.
+ * without any are not part of it; a mark of kind PRINT1525_DOTS and value 0 has no dot, and makes its row known. No
+ * marks are empty paper, of one sheet. Marks whose `x` is 480 or more, which no printer makes, are beside the columns
+ * of an SVG or PDF picture and not in a PNG file. Where a printer's `y` was set back, put the rows of its marks in
+ * order. The whole picture is made before its first part is given, so nothing is given of one that is refused. A PDF
+ * document takes time and memory for each sheet down to the last mark.
  * Refuses: NULL (80); settings (82); characters, by their first bad line (52); the first mark that is above the one
  * before it (18), with its index; and a picture (50, 51), as print1525_pages. Where the function returns anything but
  * 0, the call fails (92), and gives nothing more. */

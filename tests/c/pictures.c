@@ -136,6 +136,19 @@ static int refusals(void) {
     REFUSES(make(all, 3, &s, &to, again, 0, &details), DOCUMENT_TOO_LARGE, 0);
     s.sheet = 1;
     WANT(make(all, 3, &s, &to, again, 0, &details) == PRINT1525_DONE);
+    /* A mark beside the columns is in a document, and not in a PNG file. No marks are one empty sheet. */
+    all[1] = marks[0];
+    all[1].x = 480;
+    for (n = PRINT1525_AS_SVG; n <= PRINT1525_AS_PNG; n++) {
+        gathered less;
+        s.as = (uint8_t)n;
+        WANT(make(all, 2, &s, &to, picture, 0, &details) == PRINT1525_DONE &&
+             make(all, 1, &s, &less, again, 0, &details) == PRINT1525_DONE);
+        WANT((to.length == less.length && memcmp(picture, again, to.length) == 0) == (n == PRINT1525_AS_PNG));
+        WANT(make(NULL, 0, &s, &to, again, 0, &details) == PRINT1525_DONE);
+    }
+    s.sheet = 2;
+    REFUSES(make(NULL, 0, &s, &to, again, 0, &details), NO_SUCH_SHEET, 1);
     return 0;
 }
 
