@@ -308,12 +308,15 @@ static void try_pictures(int tells) {
         j.settings.characters = characters, j.settings.characters_length = characters_length;
         try_call(&j, tells);
     }
-    try_one("picture", bad_marks, sizeof bad_marks, "--as png", tells);
     try_one("picture", few_marks, 0, "--as png", tells);
-    refused_from = 1, refused_to = MOST, taken = 0;
-    if (print1525_printer_picture(bad_marks, 2, NULL, gather, &to, &details) != PRINT1525_REFUSED ||
-        details.fault != PRINT1525_FAULT_MARK_ABOVE || details.place != 1)
-        is_wrong("a mark above, without memory", details.fault);
+    /* Marks are refused all the same where memory is: the first allocation, the second, or any. */
+    for (index = 0; index < 4; index++) {
+        const long before = live;
+        taken = 0, refused_from = index == 3 ? 1 : (long)index, refused_to = index == 3 ? MOST : (long)index;
+        if (print1525_printer_picture(bad_marks, 2, NULL, gather, &to, &details) != PRINT1525_REFUSED ||
+            details.fault != PRINT1525_FAULT_MARK_ABOVE || details.place != 1 || to.length > 0 || live != before)
+            is_wrong("a mark above, where memory is refused", (long)index);
+    }
     refused_from = refused_to = 0;
     for (index = 0; index < sizeof many_marks / sizeof *many_marks; index++) many_marks[index].y = 14 * index, many_marks[index].value = 255, many_marks[index].reverse = 1;
     try_one("picture", many_marks, sizeof many_marks, "--as svg", tells);
