@@ -67,22 +67,27 @@ size_reverse (x ∷ xs) =
     rw (reverse-append (x ∷ []) xs) (size_append (reverse xs) (x ∷ [])) in
     omega arith
 
--- with one thing more there is no room
-pub room_full : (more : ℕ) (o : Open) (xs : List Open) (i size n : ℕ) → i < length xs → o ≡ get_or xs i o → n ≡ open_size o
-    → size + stack_size (drop i xs) ≡ more + stack_size xs → 162 < size + n
-    → nat_le (more + stack_size (reverse xs)) 162 ≡ false
-room_full more o xs i size n h item taken all large =
+-- what something takes is counted
+pub room_taken : (more : ℕ) (o : Open) (xs : List Open) (i size n : ℕ) → i < length xs → o ≡ get_or xs i o
+    → n ≡ open_size o → size + stack_size (drop i xs) ≡ more + stack_size xs
+    → size + n + stack_size (drop (i + 1) xs) ≡ more + stack_size xs
+room_taken more o xs i size n h item taken all =
     let cut : drop i xs ≡ get_or xs i o ∷ drop (i + 1) xs = rw add-one (drop-cons xs i o h) in
     let sizes : stack_size (drop i xs) ≡ open_size (get_or xs i o) + stack_size (drop (i + 1) xs) = rw cut refl in
     let same : open_size (get_or xs i o) ≡ open_size o = ap (λ (p : Open). open_size p) (sym item) in
-    let back = size_reverse xs in
-    lt-leb _ _ (omega arith)
+    omega arith
 
--- nothing is left, and there is room
+-- there is no room
+pub room_full : (more : ℕ) (xs : List Open) (i size : ℕ) → size + stack_size (drop i xs) ≡ more + stack_size xs
+    → 162 < size → nat_le (more + stack_size (reverse xs)) 162 ≡ false
+room_full more xs i size all large = let back = size_reverse xs in lt-leb _ _ (omega arith)
+
+-- nothing is left to count
 pub room_left : (more : ℕ) (xs : List Open) (i size : ℕ) → length xs ≤ i
-    → size + stack_size (drop i xs) ≡ more + stack_size xs → size ≤ 162
-    → nat_le (more + stack_size (reverse xs)) 162 ≡ true
-room_left more xs i size h all few =
+    → size + stack_size (drop i xs) ≡ more + stack_size xs
+    → nat_le size 162 ≡ nat_le (more + stack_size (reverse xs)) 162
+room_left more xs i size h all =
     let none : stack_size (drop i xs) ≡ 0 = rw (drop_all i xs h) refl in
     let back = size_reverse xs in
-    le-leb _ _ (omega arith)
+    let whole : size ≡ more + stack_size (reverse xs) = omega arith in
+    ap (λ (n : ℕ). nat_le n 162) whole

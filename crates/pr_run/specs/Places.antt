@@ -2,6 +2,7 @@
 use Rattle.std.specs.Prelude.{ℕ, ◌+◌, ◌==◌, List, [], ◌∷◌, Option, Some, None, if◌then◌else◌}
 use Rattle.std.specs.List.{slice_get}
 use Rattle.pr_interpreter.specs.declared.program.ProgramLine.{ProgramLine}
+use Rattle.pr_interpreter.specs.declared.statements.PlacedStatement.{PlacedStatement}
 use Rattle.pr_interpreter.specs.declared.statements.Statement.{Statement}
 use Rattle.pr_run.specs.declared.place.Place.{Place}
 
@@ -11,9 +12,9 @@ pub data Found : Type 0 where
   LineEnd : Found
   ProgramEnd : Found
 
-abbrev pub found_in : Option Statement → Found
+abbrev pub found_in : Option PlacedStatement → Found
 found_in None = LineEnd
-found_in (Some s) = Doing s
+found_in (Some s) = Doing s.statement
 
 abbrev pub found_on : Option ProgramLine → ℕ → Found
 found_on None n = ProgramEnd

@@ -42,7 +42,6 @@ pub fn go_to(program: &Program, number: u16, run: &mut Run) -> Result<(), Ending
 
 /// Refuses what takes so many bytes more of the machine's stack than it surely has.
 fn need_room(at: Use, size: usize, run: &Run) -> Result<(), Ending>
-    requires { size ≤ stack_limit }
     ensures ok { OnOk result (with_room at size (state_of run.now) ≡ Ok (state_of run.now)) }
     ensures err { IfErr result (λ e. EndsAs e (with_room at size (state_of run.now))) }
 {

@@ -103,15 +103,14 @@ fn open_size(open: &Open) -> usize
 
 /// Returns whether the machine's stack surely has room for so many bytes more.
 pub fn has_room(opened: &[Open], more: usize) -> bool
-    requires { more ≤ stack_limit }
     ensures { result ≡ nat_le (more + stack_size (reverse opened.now)) stack_limit }
 {
     let mut size = more;
     for open in opened {
-        size += open_size(open);
         if STACK < size {
             return false;
         }
+        size += open_size(open);
     }
-    true
+    size <= STACK
 }

@@ -299,9 +299,9 @@ pub fn step(alloc: Global, program: &Program, run: &mut Run) -> Result<Done, End
         return Ok(ended(Ending::LastLine));
     };
     match line.statements.as_slice().get(run.place.statement) {
-        Some(statement) => {
+        Some(placed) => {
             run.place.statement += 1;
-            turn(alloc, program, run, statement)
+            turn(alloc, program, run, &placed.statement)
         }
         None => {
             run.go_to_next_line();
