@@ -2,12 +2,12 @@ use Rattle.std.proofs.Common.{◌≡◌, ℕ, zero, suc, ◌+◌, ◌-◌, ◌<�
 use Rattle.std.proofs.Common.{take, drop, get_or, arith, subst, refl, ap, ◌∙◌, Option, Some, None, Result, Ok, Err, inl}
 use Rattle.std.proofs.Common.{inr, length-drop, sym}
 use Rattle.std.specs.Prelude.{if◌then◌else◌, nat_lt, not, slice_range}
-use Rattle.std.specs.List.{insert, position_or_len}
+use Rattle.std.specs.List.{insert}
 use Rattle.std.proofs.lemmas.Bool.Decides.{eqb_tells}
 use Rattle.std.proofs.lemmas.List.{length-take-le}
 use Rattle.std.proofs.lemmas.List.Sums.{prefix_len-le-length}
 use Rattle.pr_interpreter.specs.Lines.{Row, after_row, after_rows, after_rest, blanks, ends_row, enter, entered, front}
-use Rattle.pr_interpreter.specs.Lines.{go_on, is_text, line_in, line_number, others, place_for, program_lines}
+use Rattle.pr_interpreter.specs.Lines.{is_text, line_in, line_number, others, place_for, program_lines}
 use Rattle.pr_interpreter.specs.Lines.{rows_from}
 use Rattle.pr_interpreter.specs.LineLaws.{AreWithin, IsWithin}
 use Rattle.pr_interpreter.proofs.LineLawLemmas.{lines_ok, went_on}

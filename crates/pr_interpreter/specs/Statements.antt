@@ -1,11 +1,10 @@
 -- Trusted: how the lexemes of a line are its statements.
 use Rattle.std.specs.Prelude.{ℕ, ◌+◌, ◌==◌, ◌||◌, ◌&&◌, Bool, true, false, not, List, [], ◌∷◌, length, drop, nat_le}
-use Rattle.std.specs.Prelude.{if◌then◌else◌, Option, Some, None, Result, Ok, Err}
+use Rattle.std.specs.Prelude.{if◌then◌else◌, Option, Some, None, Ok, Err}
 use Rattle.pr_interpreter.specs.declared.constants.Constant.{Constant}
 use Rattle.pr_interpreter.specs.declared.constants.Tens.{Tens}
 use Rattle.pr_interpreter.specs.declared.constants.Tens.TheVariants.{Over, Times}
 use Rattle.pr_interpreter.specs.declared.expressions.Placed.{Placed}
-use Rattle.pr_interpreter.specs.declared.fault.ProgramFault.{ProgramFault}
 use Rattle.pr_interpreter.specs.declared.fault.ProgramFault.TheVariants.{NoStatement, NotTaken}
 use Rattle.pr_interpreter.specs.declared.lexemes.Lexeme.{Lexeme}
 use Rattle.pr_interpreter.specs.declared.lexemes.Word.{Word}

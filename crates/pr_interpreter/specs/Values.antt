@@ -7,7 +7,6 @@ use Rattle.pr_interpreter.specs.declared.expressions.Operator.TheVariants.{Plus,
 use Rattle.pr_interpreter.specs.declared.fault.NumberFault.{NumberFault}
 use Rattle.pr_interpreter.specs.declared.fault.NumberFault.TheVariants.{DivisionByZero, NotCertain, Overflow}
 use Rattle.pr_interpreter.specs.declared.orders.Order.{Order}
-use Rattle.pr_interpreter.specs.declared.values.BasicError.{BasicError}
 use Rattle.pr_interpreter.specs.declared.values.BasicError.TheVariants.{IllegalQuantity, StringTooLong, TypeMismatch}
 use Rattle.pr_interpreter.specs.declared.values.BasicError.TheVariants.{DivisionByZero as DividesByZero}
 use Rattle.pr_interpreter.specs.declared.values.BasicError.TheVariants.{Overflow as Overflows}
