@@ -86,7 +86,7 @@ open_with place is (file ∷ device ∷ second ∷ more) s =
 
 unfoldable pub open_statement : Program → State → List (List Placed) → Worked Output
 open_statement p s is =
-    then_on (file_numbers p s is) (λ found t. open_with (line_use p s).place is found t)
+    then_on (file_numbers p s is) (λ found t. open_with (line_use p t).place is found t)
 
 abbrev pub close_with : ℕ → List ℕ → State → Worked Output
 close_with place [] s = Err (Refused FileName place)
@@ -95,7 +95,7 @@ close_with place (file ∷ more) s =
 
 -- CLOSE: a file that is not open stays so; what closes may be sent to a file
 unfoldable pub close_statement : Program → State → List (List Placed) → Worked Output
-close_statement p s is = then_on (file_numbers p s is) (λ found t. close_with (line_use p s).place found t)
+close_statement p s is = then_on (file_numbers p s is) (λ found t. close_with (line_use p t).place found t)
 
 -- ---- PRINT, CMD and PRINT#
 

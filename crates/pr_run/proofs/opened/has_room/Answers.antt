@@ -10,7 +10,7 @@ returns-then-size-gt-STACK c =
 pub loop-open-preserved : goal.loop-open-preserved
 loop-open-preserved c =
     room_taken c.args.more c.open-item.result c.args.opened.now c.loop-open.open-index c.loop-open.size
-    c.open_size.result c.loop-open-test.true c.open-item.is c.open_size.ensures c.loop-open.invariant
+    c.open_size-size.result c.loop-open-test.true c.open-item.is c.open_size-size.ensures c.loop-open.invariant
 
 pub returns : goal.returns
 returns c =
