@@ -1,4 +1,4 @@
-use Rattle.std.proofs.Common.{◌≡◌, ℕ, Bool, List, refl, sym, ap, ◌∙◌, Result, Ok, Err}
+use Rattle.std.proofs.Common.{◌≡◌, ℕ, Bool, List, sym, ap, Result, Ok, Err}
 use Rattle.pr_interpreter.specs.declared.expressions.Placed.{Placed}
 use Rattle.pr_interpreter.specs.declared.memory.Arrays.{Arrays}
 use Rattle.pr_interpreter.specs.declared.values.Halt.{Halt}
@@ -9,7 +9,7 @@ use Rattle.pr_run.specs.declared.place.Place.{Place}
 use Rattle.pr_run.specs.declared.programs.Program.{Program}
 use Rattle.pr_run.specs.declared.uses.Use.{Use}
 use Rattle.pr_run.specs.States.{State}
-use Rattle.pr_run.specs.Uses.{Valued, Worked, halted, line_at, truth_of, use_of, used}
+use Rattle.pr_run.specs.Uses.{Valued, Worked, line_at, truth_of, use_of, used}
 use Rattle.pr_run.specs.Worked.{scope, then_on, truth, valued, worked, worked_out}
 
 abbrev pub a_truth : Bool → State → Worked (Valued Bool)

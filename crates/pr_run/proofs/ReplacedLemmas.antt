@@ -1,9 +1,6 @@
-use Rattle.std.proofs.Common.{◌≡◌, ℕ, zero, suc, ◌+◌, ◌<◌, ◌≤◌, Bool, true, false, List, [], ◌∷◌, ◌++◌, length, get_or, set, Option, Some, None, arith, refl, sym, ap, inl, inr}
+use Rattle.std.proofs.Common.{◌≡◌, suc, ◌+◌, ◌<◌, ◌≤◌, Bool, List, [], ◌∷◌, ◌++◌, length, set, arith, refl, ap, inl, inr}
 use Rattle.std.proofs.lemmas.Bool.{cases_Bool}
 use Rattle.std.specs.List.{position_or_len}
-use Rattle.pr_interpreter.specs.declared.memory.Array.{Array}
-use Rattle.pr_interpreter.specs.declared.names.Name.{Name}
-use Rattle.pr_interpreter.specs.Memory.{array_of, same_name}
 use Rattle.pr_run.specs.Assignments.{replaced}
 
 -- there is one that is wanted

@@ -1,4 +1,4 @@
-use Rattle.std.proofs.Common.{◌≡◌, ◌⊎◌, inl, inr, ℕ, zero, suc, List, [], ◌++◌, refl, sym, ap, ◌∙◌}
+use Rattle.std.proofs.Common.{◌≡◌, inl, inr, ℕ, zero, suc, List, ◌++◌, refl, sym, ap}
 use Rattle.pr_run.specs.declared.ending.Ending.{Ending}
 use Rattle.pr_run.specs.declared.outcome.Outcome.{Outcome}
 use Rattle.pr_run.specs.declared.performed.Performed.{Performed}

@@ -1,4 +1,4 @@
-use Rattle.std.proofs.Common.{◌≡◌, ◌⊎◌, inl, inr, ℕ, suc, ◌+◌, ◌-◌, ◌<◌, ◌≤◌, Bool, false, arith, List, [], ◌∷◌, ◌++◌, refl, sym, ap, ◌∙◌, add-one, append_assoc, append-nil, Option, Some, None}
+use Rattle.std.proofs.Common.{◌≡◌, inl, inr, ℕ, ◌+◌, ◌-◌, ◌<◌, ◌≤◌, false, arith, List, [], ◌++◌, refl, sym, ap, ◌∙◌, add-one, append_assoc, append-nil, Option, Some, None}
 use Rattle.std.specs.Option.{option_to_list}
 use Rattle.pr_run.specs.declared.ending.Ending.{Ending}
 use Rattle.pr_run.specs.declared.ending.Ending.TheVariants.{TooManySteps}
@@ -11,8 +11,7 @@ use Rattle.pr_run.specs.Endings.{is_memory}
 use Rattle.pr_run.specs.RunLaws.{outcome}
 use Rattle.pr_run.specs.Runs.{after_turn, run_from}
 use Rattle.pr_run.specs.Seen.{LeadsOn, TurnEndsAs, joined, rest_of, state_of, turned, turned_by}
-use Rattle.pr_run.specs.States.{State}
-use Rattle.pr_run.specs.Steps.{Ends, Goes, Turn, step}
+use Rattle.pr_run.specs.Steps.{Ends, step}
 use Rattle.pr_run.specs.Uses.{line_at}
 
 -- what was performed before joins what a turn leads to

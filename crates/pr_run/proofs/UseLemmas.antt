@@ -1,4 +1,4 @@
-use Rattle.std.proofs.Common.{◌≡◌, ℕ, ◌+◌, ◌≤◌, ◌||◌, Bool, true, false, not, nat_le, arith, refl, inl, inr, Option, Some, None, Result, Ok, Err}
+use Rattle.std.proofs.Common.{◌≡◌, ℕ, ◌+◌, ◌≤◌, ◌||◌, false, not, nat_le, arith, inl, inr, Option, Some, None, Result, Ok}
 use Rattle.std.proofs.lemmas.Bool.{cases_Bool, leb-true}
 use Rattle.pr_interpreter.specs.declared.values.Stop.{Stop}
 use Rattle.pr_interpreter.specs.declared.whole_numbers.Whole.{Whole}

@@ -1,5 +1,5 @@
 -- Trusted: what is assigned to: variables, and elements of arrays. DIM and CLR.
-use Rattle.std.specs.Prelude.{ℕ, ◌+◌, ◌-◌, ◌*◌, ◌^◌, ◌==◌, ◌||◌, Bool, true, false, List, [], ◌∷◌, ◌++◌, length, replicate, nat_le, slice_set, if◌then◌else◌, Option, Some, None, Result, Ok, Err}
+use Rattle.std.specs.Prelude.{ℕ, ◌+◌, ◌-◌, ◌*◌, ◌^◌, ◌==◌, ◌||◌, Bool, false, List, [], ◌∷◌, ◌++◌, length, replicate, slice_set, if◌then◌else◌, Option, Some, None, Ok, Err}
 use Rattle.pr_interpreter.specs.declared.expressions.Placed.{Placed}
 use Rattle.pr_interpreter.specs.declared.memory.Array.{Array}
 use Rattle.pr_interpreter.specs.declared.memory.Arrays.{Arrays}

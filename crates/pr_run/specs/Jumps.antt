@@ -1,5 +1,5 @@
 -- Trusted: the statements that say where a run goes on: GOTO, GOSUB, RETURN, ON, IF, FOR and NEXT.
-use Rattle.std.specs.Prelude.{ℕ, zero, suc, ◌+◌, ◌∷◌, Bool, true, false, List, [], nat_le, if◌then◌else◌, Option, Some, None, Result, Ok, Err}
+use Rattle.std.specs.Prelude.{ℕ, zero, suc, ◌+◌, ◌∷◌, Bool, true, false, List, [], nat_le, if◌then◌else◌, Option, Some, None, Ok, Err}
 use Rattle.std.specs.List.{slice_get}
 use Rattle.pr_interpreter.specs.declared.expressions.Placed.{Placed}
 use Rattle.pr_interpreter.specs.declared.names.Kind.{Kind}

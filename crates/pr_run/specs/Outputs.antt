@@ -1,5 +1,5 @@
 -- Trusted: the output statements: OPEN, CLOSE, CMD, PRINT and PRINT#.
-use Rattle.std.specs.Prelude.{ℕ, ◌==◌, ◌||◌, Bool, true, false, not, List, [], ◌∷◌, ◌++◌, length, take, drop, nat_lt, if◌then◌else◌, Option, Some, None, Result, Ok, Err}
+use Rattle.std.specs.Prelude.{ℕ, ◌==◌, ◌||◌, Bool, true, not, List, [], ◌∷◌, ◌++◌, length, take, drop, nat_lt, if◌then◌else◌, Option, Some, None, Ok, Err}
 use Rattle.std.specs.List.{filter, list_any}
 use Rattle.pr_basic.specs.declared.statement.Statement.{Statement}
 use Rattle.pr_basic.specs.declared.statement.Statement.TheVariants.{CloseFile, Cmd, OpenFile, Print, PrintTo}
@@ -13,7 +13,7 @@ use Rattle.pr_run.specs.declared.ending.Refusal.TheVariants.{Device, FileName, S
 use Rattle.pr_run.specs.Lists.{printed}
 use Rattle.pr_run.specs.declared.programs.Program.{Program}
 use Rattle.pr_run.specs.States.{State}
-use Rattle.pr_run.specs.Uses.{Valued, Worked, and_then, first_place, line_use}
+use Rattle.pr_run.specs.Uses.{Valued, Worked, first_place, line_use}
 use Rattle.pr_run.specs.Worked.{every, then_on, whole}
 
 -- the statement that is performed; the error that the machine reports, if it does; and the state after it

@@ -1,5 +1,5 @@
 -- Trusted: a run of a program: its steps, as far as a limit.
-use Rattle.std.specs.Prelude.{ℕ, zero, suc, ◌≡◌, ◌⊎◌, List, [], ◌++◌, Result, Ok, Err}
+use Rattle.std.specs.Prelude.{ℕ, zero, suc, ◌≡◌, ◌⊎◌, List, [], ◌++◌, Result, Ok}
 use Rattle.pr_interpreter.specs.declared.fault.ProgramFault.{ProgramFault}
 use Rattle.pr_interpreter.specs.Lines.{program_lines}
 use Rattle.pr_interpreter.specs.Programs.{or_stop, program}

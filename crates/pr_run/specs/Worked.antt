@@ -4,7 +4,7 @@ use Rattle.pr_interpreter.specs.declared.expressions.Placed.{Placed}
 use Rattle.pr_interpreter.specs.declared.memory.Arrays.{Arrays}
 use Rattle.pr_interpreter.specs.declared.values.Halt.{Halt}
 use Rattle.pr_interpreter.specs.declared.values.Value.{Value}
-use Rattle.pr_interpreter.specs.Evaluation.{Evaluation, Scope, evaluation}
+use Rattle.pr_interpreter.specs.Evaluation.{Scope, evaluation}
 use Rattle.pr_interpreter.specs.Numbers.{Known}
 use Rattle.pr_run.specs.declared.programs.Program.{Program}
 use Rattle.pr_run.specs.States.{State}

@@ -1,4 +1,4 @@
-use Rattle.std.proofs.Common.{◌≡◌, ◌<◌, ◌≤◌, length, arith}
+use Rattle.std.proofs.Common.{◌<◌, ◌≤◌, length, arith}
 use Rattle.std.proofs.lemmas.Result.{on_ok_weaker}
 use Rattle.pr_run.proofs.ArrayLemmas.{array_index, set_found, set_nowhere}
 use Rattle.pr_run.proofs.assignments.set_in_list.Goals as goal

@@ -1,4 +1,4 @@
-use Rattle.std.proofs.Common.{◌≡◌, arith, ap}
+use Rattle.std.proofs.Common.{ap}
 use Rattle.pr_run.specs.declared.place.Place.{Place}
 use Rattle.pr_run.specs.Seen.{state_of}
 use Rattle.pr_run.proofs.PlaceLemmas.{truth_place}

@@ -1,4 +1,4 @@
-use Rattle.std.proofs.Common.{◌≡◌, ◌≤◌, length, arith, sym, ◌∙◌}
+use Rattle.std.proofs.Common.{◌≤◌, length, arith, sym, ◌∙◌}
 use Rattle.std.specs.List.{position_or_len}
 use Rattle.pr_interpreter.specs.Memory.{same_name}
 use Rattle.pr_run.specs.Steps.{with_function}
