@@ -25,8 +25,9 @@ valued_place s t u (Ok a) b e =
     ap (λ (w : Worked (Valued Bool)). place_of w s.place) (sym e)
 valued_place s t u (Err stop) b e = absurd (cc)
 
-worked_place : (p : Program) (s t : State) (nodes : List Placed) (line : ℕ) (arrays : Arrays) (found : Result Value Halt)
-    (b : Bool) → then_on (worked_out line s arrays found) (λ v r. valued r (used (use_of p r nodes) (truth_of v))) ≡ a_truth b t
+worked_place : (p : Program) (s t : State) (nodes : List Placed) (line : ℕ) (arrays : Arrays)
+    (found : Result Value Halt) (b : Bool)
+    → then_on (worked_out line s arrays found) (λ v r. valued r (used (use_of p r nodes) (truth_of v))) ≡ a_truth b t
     → t.place ≡ s.place
 worked_place p s t nodes line arrays (Ok v) b e =
     valued_place (record s { arrays = arrays }) t (use_of p (record s { arrays = arrays }) nodes) (truth_of v) b e

@@ -1,4 +1,5 @@
-use Rattle.std.proofs.Common.{◌≡◌, ℕ, ◌+◌, ◌≤◌, ◌||◌, false, not, nat_le, arith, inl, inr, Option, Some, None, Result, Ok}
+use Rattle.std.proofs.Common.{◌≡◌, ℕ, ◌+◌, ◌≤◌, ◌||◌, false, not, nat_le, arith, inl, inr, Option, Some, None, Result}
+use Rattle.std.proofs.Common.{Ok}
 use Rattle.std.proofs.lemmas.Bool.{cases_Bool, leb-true}
 use Rattle.pr_interpreter.specs.declared.values.Stop.{Stop}
 use Rattle.pr_interpreter.specs.declared.whole_numbers.Whole.{Whole}
@@ -26,7 +27,9 @@ within_fits greatest k (Some w) e =
 pub whole_fits : (greatest k : ℕ) (n : Known) → whole_to greatest n ≡ whole_found k → k ≤ greatest
 unfolding whole_to
 whole_fits greatest k n e =
-    elim (cases_Bool (is_negative (order_of n zero_number) || not (order_of n (whole_number false (greatest + 1))).less)) [
+    let low = is_negative (order_of n zero_number) in
+    let high = not (order_of n (whole_number false (greatest + 1))).less in
+    elim (cases_Bool (low || high)) [
       | inl hit ↦ let none = rw hit at e in absurd (cc)
       | inr miss ↦ within_fits greatest k (floor n) (rw miss at e)
     ]

@@ -1,5 +1,6 @@
 -- Trusted: what is assigned to: variables, and elements of arrays. DIM and CLR.
-use Rattle.std.specs.Prelude.{ℕ, ◌+◌, ◌-◌, ◌*◌, ◌^◌, ◌==◌, ◌||◌, Bool, false, List, [], ◌∷◌, ◌++◌, length, replicate, slice_set, if◌then◌else◌, Option, Some, None, Ok, Err}
+use Rattle.std.specs.Prelude.{ℕ, ◌+◌, ◌-◌, ◌*◌, ◌^◌, ◌==◌, ◌||◌, Bool, false, List, [], ◌∷◌, ◌++◌, length, replicate}
+use Rattle.std.specs.Prelude.{slice_set, if◌then◌else◌, Option, Some, None, Ok, Err}
 use Rattle.pr_interpreter.specs.declared.expressions.Placed.{Placed}
 use Rattle.pr_interpreter.specs.declared.memory.Array.{Array}
 use Rattle.pr_interpreter.specs.declared.memory.Arrays.{Arrays}
@@ -10,7 +11,8 @@ use Rattle.pr_interpreter.specs.declared.names.Name.{Name}
 use Rattle.pr_interpreter.specs.declared.statements.Target.{Target}
 use Rattle.pr_interpreter.specs.declared.values.BasicError.TheVariants.{BadSubscript, RedimensionedArray, Syntax}
 use Rattle.pr_interpreter.specs.declared.values.Value.{Value}
-use Rattle.pr_interpreter.specs.Memory.{array_of, element_bytes, first_value, is_clock, is_status, place_of, same_name, undimensioned, with_array}
+use Rattle.pr_interpreter.specs.Memory.{array_of, element_bytes, first_value, is_clock, is_status, place_of, same_name}
+use Rattle.pr_interpreter.specs.Memory.{undimensioned, with_array}
 use Rattle.pr_run.specs.declared.ending.Ending.{Ending}
 use Rattle.pr_run.specs.declared.ending.Ending.TheVariants.{Error, Refused}
 use Rattle.pr_run.specs.declared.ending.Refusal.TheVariants.{FullMemory, NotTaken, OpenFiles}

@@ -1,7 +1,8 @@
 -- Linking words: endings of a run. No reader needs to believe them.
 use Rattle.std.specs.Prelude.{Bool, true, false}
 use Rattle.pr_run.specs.declared.ending.Ending.{Ending}
-use Rattle.pr_run.specs.declared.ending.Ending.TheVariants.{Break, End, Error, LastLine, OutOfMemory, Refused, TooManySteps}
+use Rattle.pr_run.specs.declared.ending.Ending.TheVariants.{Break, End, Error, LastLine, OutOfMemory, Refused}
+use Rattle.pr_run.specs.declared.ending.Ending.TheVariants.{TooManySteps}
 
 abbrev pub is_memory : Ending → Bool
 is_memory OutOfMemory = true

@@ -1,5 +1,6 @@
 -- Trusted: READ and RESTORE: what an item of DATA gives to a variable.
-use Rattle.std.specs.Prelude.{ℕ, ◌+◌, ◌==◌, Bool, true, false, List, [], ◌∷◌, length, take, drop, nat_le, slice_range, if◌then◌else◌, Option, Some, None, Ok, Err}
+use Rattle.std.specs.Prelude.{ℕ, ◌+◌, ◌==◌, Bool, true, false, List, [], ◌∷◌, length, take, drop, nat_le, slice_range}
+use Rattle.std.specs.Prelude.{if◌then◌else◌, Option, Some, None, Ok, Err}
 use Rattle.std.specs.List.{filter, list_all, position_or_len, slice_get}
 use Rattle.pr_basic.specs.Limits.{byte_limit}
 use Rattle.pr_interpreter.specs.declared.lexemes.Word.{Word}

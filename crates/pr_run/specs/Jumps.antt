@@ -1,5 +1,6 @@
 -- Trusted: the statements that say where a run goes on: GOTO, GOSUB, RETURN, ON, IF, FOR and NEXT.
-use Rattle.std.specs.Prelude.{ℕ, zero, suc, ◌+◌, ◌∷◌, Bool, true, false, List, [], nat_le, if◌then◌else◌, Option, Some, None, Ok, Err}
+use Rattle.std.specs.Prelude.{ℕ, zero, suc, ◌+◌, ◌∷◌, Bool, true, false, List, [], nat_le, if◌then◌else◌, Option, Some}
+use Rattle.std.specs.Prelude.{None, Ok, Err}
 use Rattle.std.specs.List.{slice_get}
 use Rattle.pr_interpreter.specs.declared.expressions.Placed.{Placed}
 use Rattle.pr_interpreter.specs.declared.names.Kind.{Kind}
@@ -8,7 +9,8 @@ use Rattle.pr_interpreter.specs.declared.names.Name.{Name}
 use Rattle.pr_interpreter.specs.declared.statements.Target.{Target}
 use Rattle.pr_interpreter.specs.declared.statements.Way.{Way}
 use Rattle.pr_interpreter.specs.declared.statements.Way.TheVariants.{Gosub, Goto}
-use Rattle.pr_interpreter.specs.declared.values.BasicError.TheVariants.{NextWithoutFor, ReturnWithoutGosub, Syntax, TypeMismatch, UndefinedStatement}
+use Rattle.pr_interpreter.specs.declared.values.BasicError.TheVariants.{NextWithoutFor, ReturnWithoutGosub, Syntax}
+use Rattle.pr_interpreter.specs.declared.values.BasicError.TheVariants.{TypeMismatch, UndefinedStatement}
 use Rattle.pr_interpreter.specs.declared.values.Value.{Value}
 use Rattle.pr_interpreter.specs.declared.values.Value.TheVariants.{Number, Text}
 use Rattle.pr_interpreter.specs.Memory.{variable_value}
@@ -21,13 +23,15 @@ use Rattle.pr_run.specs.declared.opened.Loop.{Loop}
 use Rattle.pr_run.specs.declared.opened.Open.{Open}
 use Rattle.pr_run.specs.declared.opened.Open.TheVariants.{Calling, Looping}
 use Rattle.pr_run.specs.declared.place.Place.{Place}
-use Rattle.pr_run.specs.Opened.{Caller, Inner, call_size, caller_of, loop_of, loop_size, stack_limit, stack_size, without}
+use Rattle.pr_run.specs.Opened.{Caller, Inner, call_size, caller_of, loop_of, loop_size, stack_limit, stack_size}
+use Rattle.pr_run.specs.Opened.{without}
 use Rattle.pr_run.specs.Places.{beginning}
 use Rattle.pr_run.specs.declared.programs.Program.{Program}
 use Rattle.pr_run.specs.declared.uses.Use.{Use}
 use Rattle.pr_run.specs.States.{State, next_line}
 use Rattle.pr_run.specs.Assignments.{assigned, is_system, stored, system_ending, target_place}
-use Rattle.pr_run.specs.Uses.{Valued, Worked, and_then, direction_by, ends_loop, line_at, line_use, use_at, use_of, used}
+use Rattle.pr_run.specs.Uses.{Valued, Worked, and_then, direction_by, ends_loop, line_at, line_use, use_at, use_of}
+use Rattle.pr_run.specs.Uses.{used}
 use Rattle.pr_run.specs.Worked.{number, then_on, truth, whole, worked}
 
 -- ---- GOTO, GOSUB and RETURN

@@ -1,5 +1,6 @@
 -- Trusted: the output statements: OPEN, CLOSE, CMD, PRINT and PRINT#.
-use Rattle.std.specs.Prelude.{ℕ, ◌==◌, ◌||◌, Bool, true, not, List, [], ◌∷◌, ◌++◌, length, take, drop, nat_lt, if◌then◌else◌, Option, Some, None, Ok, Err}
+use Rattle.std.specs.Prelude.{ℕ, ◌==◌, ◌||◌, Bool, true, not, List, [], ◌∷◌, ◌++◌, length, take, drop, nat_lt}
+use Rattle.std.specs.Prelude.{if◌then◌else◌, Option, Some, None, Ok, Err}
 use Rattle.std.specs.List.{filter, list_any}
 use Rattle.pr_basic.specs.declared.statement.Statement.{Statement}
 use Rattle.pr_basic.specs.declared.statement.Statement.TheVariants.{CloseFile, Cmd, OpenFile, Print, PrintTo}
@@ -7,7 +8,8 @@ use Rattle.pr_basic.specs.Text.{Text as Line}
 use Rattle.pr_interpreter.specs.declared.expressions.Placed.{Placed}
 use Rattle.pr_interpreter.specs.declared.statements.Item.{Item}
 use Rattle.pr_interpreter.specs.declared.values.BasicError.{BasicError}
-use Rattle.pr_interpreter.specs.declared.values.BasicError.TheVariants.{FileNotOpen, FileOpen, NotInputFile, TooManyFiles}
+use Rattle.pr_interpreter.specs.declared.values.BasicError.TheVariants.{FileNotOpen, FileOpen, NotInputFile}
+use Rattle.pr_interpreter.specs.declared.values.BasicError.TheVariants.{TooManyFiles}
 use Rattle.pr_run.specs.declared.ending.Ending.TheVariants.{Refused}
 use Rattle.pr_run.specs.declared.ending.Refusal.TheVariants.{Device, FileName, SecondAddress}
 use Rattle.pr_run.specs.Lists.{printed}

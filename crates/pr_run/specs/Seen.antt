@@ -1,5 +1,6 @@
 -- Linking words: a run as the machine keeps it, for the definition. No reader needs to believe them.
-use Rattle.std.specs.Prelude.{ℕ, ◌≡◌, ◌⊎◌, ◌<◌, ◌+◌, Bool, true, false, ◌||◌, nat_lt, Option, Some, None, List, [], ◌∷◌, ◌++◌, length, reverse, take, Result, Ok, Err}
+use Rattle.std.specs.Prelude.{ℕ, ◌≡◌, ◌⊎◌, ◌<◌, ◌+◌, Bool, true, false, ◌||◌, nat_lt, Option, Some, None, List, [], ◌∷◌}
+use Rattle.std.specs.Prelude.{◌++◌, length, reverse, take, Result, Ok, Err}
 use Rattle.std.specs.Option.{option_to_list}
 use Rattle.pr_basic.specs.declared.statement.Statement.{Statement}
 use Rattle.pr_interpreter.specs.declared.names.Name.{Name}

@@ -1,12 +1,16 @@
 -- Trusted: one step of a run.
-use Rattle.std.specs.Prelude.{ℕ, ◌≡◌, ◌||◌, ◌&&◌, Bool, List, [], ◌∷◌, nat_le, if◌then◌else◌, Option, Some, None, Ok, Err}
+use Rattle.std.specs.Prelude.{ℕ, ◌≡◌, ◌||◌, ◌&&◌, Bool, List, [], ◌∷◌, nat_le, if◌then◌else◌, Option, Some, None, Ok}
+use Rattle.std.specs.Prelude.{Err}
 use Rattle.pr_interpreter.specs.declared.expressions.Placed.{Placed}
 use Rattle.pr_interpreter.specs.declared.memory.Function.{Function}
 use Rattle.pr_interpreter.specs.declared.names.Kind.{Kind}
 use Rattle.pr_interpreter.specs.declared.names.Kind.TheVariants.{Number as Numeric, Text as Letters, Whole as Short}
 use Rattle.pr_interpreter.specs.declared.names.Name.{Name}
 use Rattle.pr_interpreter.specs.declared.statements.Statement.{Statement}
-use Rattle.pr_interpreter.specs.declared.statements.Statement.TheVariants.{Clear, Close, Command, Define, Dim, End, For, Go, If, Let, Next, Nothing, On, Open, Poke, Print, PrintFile, Read, Restore, Return, Stop}
+use Rattle.pr_interpreter.specs.declared.statements.Statement.TheVariants.{Clear, Close, Command, Define, Dim, End, For}
+use Rattle.pr_interpreter.specs.declared.statements.Statement.TheVariants.{Go, If, Let, Next, Nothing, On, Open, Poke}
+use Rattle.pr_interpreter.specs.declared.statements.Statement.TheVariants.{Print, PrintFile, Read, Restore, Return}
+use Rattle.pr_interpreter.specs.declared.statements.Statement.TheVariants.{Stop}
 use Rattle.pr_interpreter.specs.declared.values.BasicError.{BasicError}
 use Rattle.pr_interpreter.specs.declared.values.BasicError.TheVariants.{Syntax, TypeMismatch}
 use Rattle.pr_interpreter.specs.Memory.{same_name}
@@ -16,7 +20,8 @@ use Rattle.pr_run.specs.declared.ending.Refusal.TheVariants.{Poke as Poked}
 use Rattle.pr_run.specs.declared.performed.Performed.{Performed}
 use Rattle.pr_run.specs.Items.{read_statement, restore_statement}
 use Rattle.pr_run.specs.Jumps.{for_statement, if_statement, jump, next_statement, on_statement, return_statement}
-use Rattle.pr_run.specs.Outputs.{Output, close_statement, command_statement, open_statement, print_file_statement, print_statement}
+use Rattle.pr_run.specs.Outputs.{Output, close_statement, command_statement, open_statement, print_file_statement}
+use Rattle.pr_run.specs.Outputs.{print_statement}
 use Rattle.pr_run.specs.Places.{Found, Doing, LineEnd, ProgramEnd, after_statement, found_at}
 use Rattle.pr_run.specs.declared.programs.Program.{Program}
 use Rattle.pr_run.specs.States.{State, next_line}

@@ -1,5 +1,6 @@
 -- Trusted: what the values of a statement give; where one is an error or not certain, the run ends.
-use Rattle.std.specs.Prelude.{ℕ, ◌||◌, ◌&&◌, Bool, true, false, not, List, [], ◌∷◌, min, nat_lt, if◌then◌else◌, Option, Some, None, Result, Ok, Err}
+use Rattle.std.specs.Prelude.{ℕ, ◌||◌, ◌&&◌, Bool, true, false, not, List, [], ◌∷◌, min, nat_lt, if◌then◌else◌, Option}
+use Rattle.std.specs.Prelude.{Some, None, Result, Ok, Err}
 use Rattle.std.specs.List.{slice_get}
 use Rattle.pr_interpreter.specs.declared.expressions.Placed.{Placed}
 use Rattle.pr_interpreter.specs.declared.lines.Line.{Line}
@@ -8,9 +9,11 @@ use Rattle.pr_interpreter.specs.declared.names.Kind.TheVariants.{Number as Numer
 use Rattle.pr_interpreter.specs.declared.orders.Order.{Order}
 use Rattle.pr_interpreter.specs.declared.values.BasicError.TheVariants.{IllegalQuantity, TypeMismatch}
 use Rattle.pr_interpreter.specs.declared.values.Halt.{Halt}
-use Rattle.pr_interpreter.specs.declared.values.Halt.TheVariants.{Error as Reports, NotCertain as Doubts, NotTaken as Lacks, OutOfMemory as Exhausts}
+use Rattle.pr_interpreter.specs.declared.values.Halt.TheVariants.{Error as Reports, NotCertain as Doubts}
+use Rattle.pr_interpreter.specs.declared.values.Halt.TheVariants.{NotTaken as Lacks, OutOfMemory as Exhausts}
 use Rattle.pr_interpreter.specs.declared.values.Stop.{Stop}
-use Rattle.pr_interpreter.specs.declared.values.Stop.TheVariants.{Error as Reported, NotCertain as Uncertain, OutOfMemory as NoMemory}
+use Rattle.pr_interpreter.specs.declared.values.Stop.TheVariants.{Error as Reported, NotCertain as Uncertain}
+use Rattle.pr_interpreter.specs.declared.values.Stop.TheVariants.{OutOfMemory as NoMemory}
 use Rattle.pr_interpreter.specs.declared.values.Value.{Value}
 use Rattle.pr_interpreter.specs.declared.values.Value.TheVariants.{Number, Text}
 use Rattle.pr_interpreter.specs.declared.whole_numbers.Whole.{Whole}

@@ -297,7 +297,8 @@ fn leave_loop(run: &mut Run, variable: Name)
     }
 }
 
-/// Goes on with FOR after the first value of its variable: a loop of the same variable is left, and there has to be room.
+/// Goes on with FOR after the first value of its variable: a loop of the same variable is left, and there has to be
+/// room.
 #[tactic(auto, unfolding(crate::specs::Jumps::with_limit))]
 fn with_limit(
     alloc: Global,

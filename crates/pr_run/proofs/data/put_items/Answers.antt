@@ -7,7 +7,8 @@ pub loop-taken-init : goal.loop-taken-init
 loop-taken-init c = record {
   found =
       items_begin c.args.line c.args.place c.front_size-taken.result c.args.bytes.now _ _ c.front_item.result
-      c.front_item.ensures c.front_size-taken.ensures.value c.front_size-taken.ensures.within c.in_ok-push.ensures.items;
+      c.front_item.ensures c.front_size-taken.ensures.value c.front_size-taken.ensures.within
+      c.in_ok-push.ensures.items;
   within = c.front_size-taken.ensures.within;
 }
 
