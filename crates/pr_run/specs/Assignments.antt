@@ -19,7 +19,7 @@ use Rattle.pr_run.specs.declared.ending.Refusal.TheVariants.{FullMemory, NotTake
 use Rattle.pr_run.specs.declared.programs.Program.{Program}
 use Rattle.pr_run.specs.declared.uses.Use.{Use}
 use Rattle.pr_run.specs.States.{State, cleared}
-use Rattle.pr_run.specs.Uses.{Valued, Worked, and_then, kept, line_use, use_at, use_of, used, whole_of}
+use Rattle.pr_run.specs.Uses.{Valued, Worked, and_then, kept, statement_use, use_at, use_of, used, whole_of}
 use Rattle.pr_run.specs.Worked.{each, every, then_on, valued, worked}
 
 -- ---- where a value is kept
@@ -160,4 +160,4 @@ clear_if u s [] = if s.channel == 0 then Ok (cleared s) else Err (Refused OpenFi
 clear_if u s (f ∷ fs) = Err (Refused OpenFiles u.place)
 
 unfoldable pub clear_statement : Program → State → Worked State
-clear_statement p s = clear_if (line_use p s) s s.files
+clear_statement p s = clear_if (statement_use p s) s s.files

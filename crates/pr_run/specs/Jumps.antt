@@ -30,7 +30,7 @@ use Rattle.pr_run.specs.declared.programs.Program.{Program}
 use Rattle.pr_run.specs.declared.uses.Use.{Use}
 use Rattle.pr_run.specs.States.{State, next_line}
 use Rattle.pr_run.specs.Assignments.{assigned, is_system, stored, system_ending, target_place}
-use Rattle.pr_run.specs.Uses.{Valued, Worked, and_then, direction_by, ends_loop, line_at, line_use, use_at, use_of}
+use Rattle.pr_run.specs.Uses.{Valued, Worked, and_then, direction_by, ends_loop, line_at, statement_use, use_at, use_of}
 use Rattle.pr_run.specs.Uses.{used}
 use Rattle.pr_run.specs.Worked.{number, then_on, truth, whole, worked}
 
@@ -56,7 +56,7 @@ with_open o s = record s { opened = o ∷ s.opened }
 -- GOTO; GOSUB, after which RETURN goes on with the next statement
 unfoldable pub jump : Program → Way → ℕ → State → Worked State
 jump p Goto n s = go_to p n s
-jump p Gosub n s = and_then (with_room (line_use p s) call_size s) (λ t. go_to p n (with_open (Calling t.place) t))
+jump p Gosub n s = and_then (with_room (statement_use p s) call_size s) (λ t. go_to p n (with_open (Calling t.place) t))
 
 abbrev pub returned : ℕ → State → Option Caller → Worked State
 returned line s None = Err (Error ReturnWithoutGosub line)
@@ -100,7 +100,7 @@ step_of p s None = Ok (record { value = whole_number false 1; after = s })
 step_of p s (Some nodes) = number p s nodes
 
 abbrev pub step_use : Program → State → Option (List Placed) → Use
-step_use p s None = line_use p s
+step_use p s None = statement_use p s
 step_use p s (Some nodes) = use_of p s nodes
 
 -- the loop of a variable is left, with those inside it
@@ -122,7 +122,7 @@ with_step p name step limit s =
 -- what comes after the first value of a loop's variable: a loop of the same variable is left, and there has to be room
 unfoldable pub with_limit : Program → Name → List Placed → Option (List Placed) → State → Worked State
 with_limit p name to step s =
-    and_then (with_room (line_use p s) loop_size (left_loop name s))
+    and_then (with_room (statement_use p s) loop_size (left_loop name s))
     (λ r. then_on (number p r to) (λ limit t. with_step p name step limit t))
 
 -- the variable of a loop is a number that is no element and has no %
@@ -134,7 +134,7 @@ for_kind p s Numeric name from = then_on (worked p s from) (λ v t. assigned (us
 -- a loop's variable has its first value
 unfoldable pub for_variable : Program → State → Name → List Placed → Worked State
 for_variable p s name from =
-    if is_system name [] then Err (system_ending (line_use p s) name.kind) else for_kind p s name.kind name from
+    if is_system name [] then Err (system_ending (statement_use p s) name.kind) else for_kind p s name.kind name from
 
 unfoldable pub for_statement : Program → State → Name → List Placed → List Placed → Option (List Placed) → Worked State
 for_statement p s name from to step = and_then (for_variable p s name from) (λ t. with_limit p name to step t)
@@ -189,7 +189,7 @@ next_variables p s (t ∷ ts) = and_then (next_variable p s t) (λ r. after_pass
 -- NEXT without a variable: that of the last loop
 unfoldable pub next_last : Program → State → Worked State
 next_last p s =
-    and_then (next_of (line_use p s) (loop_of None s.opened) s) (λ r. after_pass r (λ t. Ok t))
+    and_then (next_of (statement_use p s) (loop_of None s.opened) s) (λ r. after_pass r (λ t. Ok t))
 
 unfoldable pub next_statement : Program → State → List Target → Worked State
 next_statement p s [] = next_last p s

@@ -15,7 +15,7 @@ use Rattle.pr_run.specs.declared.ending.Refusal.TheVariants.{Device, FileName, S
 use Rattle.pr_run.specs.Lists.{printed}
 use Rattle.pr_run.specs.declared.programs.Program.{Program}
 use Rattle.pr_run.specs.States.{State}
-use Rattle.pr_run.specs.Uses.{Valued, Worked, first_place, line_use}
+use Rattle.pr_run.specs.Uses.{Valued, Worked, first_place, statement_place}
 use Rattle.pr_run.specs.Worked.{every, then_on, whole}
 
 -- the statement that is performed; the error that the machine reports, if it does; and the state after it
@@ -88,7 +88,7 @@ open_with place is (file ∷ device ∷ second ∷ more) s =
 
 unfoldable pub open_statement : Program → State → List (List Placed) → Worked Output
 open_statement p s is =
-    then_on (file_numbers p s is) (λ found t. open_with (line_use p t).place is found t)
+    then_on (file_numbers p s is) (λ found t. open_with (statement_place p t) is found t)
 
 abbrev pub close_with : ℕ → List ℕ → State → Worked Output
 close_with place [] s = Err (Refused FileName place)
@@ -97,7 +97,7 @@ close_with place (file ∷ more) s =
 
 -- CLOSE: a file that is not open stays so; what closes may be sent to a file
 unfoldable pub close_statement : Program → State → List (List Placed) → Worked Output
-close_statement p s is = then_on (file_numbers p s is) (λ found t. close_with (line_use p t).place found t)
+close_statement p s is = then_on (file_numbers p s is) (λ found t. close_with (statement_place p t) found t)
 
 -- ---- PRINT, CMD and PRINT#
 

@@ -1,5 +1,5 @@
 -- Trusted: what is at a place of a program, and the places that a statement leads to.
-use Rattle.std.specs.Prelude.{ℕ, ◌+◌, ◌==◌, List, [], ◌∷◌, Option, Some, None, if◌then◌else◌}
+use Rattle.std.specs.Prelude.{ℕ, ◌+◌, ◌-◌, ◌==◌, List, [], ◌∷◌, Option, Some, None, if◌then◌else◌}
 use Rattle.std.specs.List.{slice_get}
 use Rattle.pr_interpreter.specs.declared.program.ProgramLine.{ProgramLine}
 use Rattle.pr_interpreter.specs.declared.statements.PlacedStatement.{PlacedStatement}
@@ -23,6 +23,18 @@ found_on (Some l) n = found_in (slice_get l.statements n)
 -- what is at a place
 unfoldable pub found_at : List ProgramLine → Place → Found
 found_at lines p = found_on (slice_get lines p.line) p.statement
+
+abbrev pub start_of : Option PlacedStatement → ℕ
+start_of None = 0
+start_of (Some s) = s.place
+
+abbrev pub start_on : Option ProgramLine → ℕ → ℕ
+start_on None n = 0
+start_on (Some l) n = start_of (slice_get l.statements n)
+
+-- where the statement before a place begins, as the number of bytes before it in the text
+unfoldable pub start_before : List ProgramLine → Place → ℕ
+start_before lines p = start_on (slice_get lines p.line) (p.statement - 1)
 
 -- the number of the line that a place is in
 abbrev pub number_of : Option ProgramLine → ℕ

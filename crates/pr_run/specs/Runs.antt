@@ -17,7 +17,7 @@ use Rattle.pr_run.specs.Uses.{line_at}
 unfoldable pub program_of : List ℕ → Result Program ProgramFault
 program_of text =
     or_stop (program text) (λ lines. or_stop (program_lines text)
-    (λ rows. Ok (record { text = text; lines = lines; rows = rows; items = data_of text rows })))
+    (λ rows. Ok (record { text = text; lines = lines; items = data_of text rows })))
 
 -- what comes after a turn
 abbrev pub after_turn : Turn → (State → Outcome) → Outcome

@@ -1,9 +1,7 @@
 -- Trusted: what the values of a statement give; where one is an error or not certain, the run ends.
 use Rattle.std.specs.Prelude.{ℕ, ◌||◌, ◌&&◌, Bool, true, false, not, List, [], ◌∷◌, min, nat_lt, if◌then◌else◌, Option}
 use Rattle.std.specs.Prelude.{Some, None, Result, Ok, Err}
-use Rattle.std.specs.List.{slice_get}
 use Rattle.pr_interpreter.specs.declared.expressions.Placed.{Placed}
-use Rattle.pr_interpreter.specs.declared.lines.Line.{Line}
 use Rattle.pr_interpreter.specs.declared.names.Kind.{Kind}
 use Rattle.pr_interpreter.specs.declared.names.Kind.TheVariants.{Number as Numeric, Text as Letters, Whole as Short}
 use Rattle.pr_interpreter.specs.declared.orders.Order.{Order}
@@ -26,7 +24,7 @@ use Rattle.pr_run.specs.declared.opened.Direction.{Direction}
 use Rattle.pr_run.specs.declared.opened.Direction.TheVariants.{Down, Still, Up}
 use Rattle.pr_run.specs.declared.programs.Program.{Program}
 use Rattle.pr_run.specs.declared.uses.Use.{Use}
-use Rattle.pr_run.specs.Places.{number_at}
+use Rattle.pr_run.specs.Places.{number_at, start_before}
 use Rattle.pr_run.specs.States.{State}
 
 -- ---- how a run ends where there is no answer
@@ -65,13 +63,13 @@ first_place (n ∷ ns) = place_from n.place ns
 abbrev pub use_of : Program → State → List Placed → Use
 use_of p s nodes = use_at p s (first_place nodes)
 
-abbrev pub start_of : Option Line → ℕ
-start_of None = 0
-start_of (Some row) = row.start
+-- where the statement that is performed begins in the text: it is the one before the state's place
+abbrev pub statement_place : Program → State → ℕ
+statement_place p s = start_before p.lines s.place
 
--- where a statement has no place of its own, that of its line counts
-abbrev pub line_use : Program → State → Use
-line_use p s = use_at p s (start_of (slice_get p.rows s.place.line))
+-- a use at that place
+abbrev pub statement_use : Program → State → Use
+statement_use p s = use_at p s (statement_place p s)
 
 -- how the run ends where a use of a value has no answer
 abbrev pub ending_of : Use → Stop → Ending

@@ -13,7 +13,7 @@ use crate::growth::put;
 use crate::programs::Program;
 use crate::state::Run;
 use crate::uses::{Use, ending_of, kept, whole_of};
-use crate::worked::{ended, line_at, line_use, worked};
+use crate::worked::{ended, line_at, statement_place, worked};
 use pr_interpreter::{
     Array, Arrays, BasicError, Kind, Name, Nodes, Number, Placed, Target, Value, Variable,
     array_of, element_bytes, is_clock, is_status, place_of, same_name, undimensioned,
@@ -475,7 +475,7 @@ pub fn clear_statement(alloc: Global, program: &Program, run: &mut Run) -> Resul
     if !run.files.is_empty() || run.channel != 0 {
         return Err(Ending::Refused {
             refusal: Refusal::OpenFiles,
-            place: line_use(program, run).place,
+            place: statement_place(program, run),
         });
     }
     run.clear(alloc);

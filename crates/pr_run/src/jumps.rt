@@ -15,7 +15,7 @@ use crate::place::beginning;
 use crate::programs::Program;
 use crate::state::Run;
 use crate::uses::{Use, direction_by, ending_of, ends_loop, kept};
-use crate::worked::{ended, line_at, line_use, number, truth, use_of, whole, worked};
+use crate::worked::{ended, line_at, number, statement_use, truth, use_of, whole, worked};
 use pr_interpreter::{
     BasicError, Kind, Name, Nodes, Number, NumberFault, Placed, Stop, Target, Value, Variable, Way,
     order_of, same_name, sum,
@@ -74,7 +74,7 @@ pub fn jump(program: &Program, way: Way, number: u16, run: &mut Run) -> Result<(
     match way {
         Way::Goto => go_to(program, number, run),
         Way::Gosub => {
-            need_room(line_use(program, run), CALL, run)?;
+            need_room(statement_use(program, run), CALL, run)?;
             let back = run.place;
             add_open(Open::Calling(back), run)?;
             go_to(program, number, run)
@@ -188,13 +188,13 @@ fn step_of(
     }
 }
 
-/// Returns the use of a step: without one that of the line.
+/// Returns the use of a step: without one that of the statement.
 fn step_use(program: &Program, run: &Run, step: &Option<Nodes>) -> Use
     ensures { result ≡ step_use program.now (state_of run.now) step.now }
 {
     match step {
         Some(nodes) => use_of(program, run, nodes.as_slice()),
-        None => line_use(program, run),
+        None => statement_use(program, run),
     }
 }
 
@@ -283,7 +283,7 @@ fn for_variable(
     ensures err { IfErr result (λ e. EndsAs e (for_variable program.now (state_of run.old) variable from.now)) }
 {
     if is_system(variable, &[]) {
-        return Err(system_ending(line_use(program, run), variable.kind));
+        return Err(system_ending(statement_use(program, run), variable.kind));
     }
     set_loop_variable(alloc, program, run, variable, from)
 }
@@ -311,7 +311,7 @@ fn with_limit(
     ensures ok { OnOk result (with_limit program.now variable to.now step.now (state_of run.old) ≡ Ok (state_of run.new)) }
     ensures err { IfErr result (λ e. EndsAs e (with_limit program.now variable to.now step.now (state_of run.old))) }
 {
-    let at = line_use(program, run);
+    let at = statement_use(program, run);
     leave_loop(run, variable);
     need_room(at, LOOP, run)?;
     let limit = number(alloc, program, run, to)?;
@@ -456,7 +456,7 @@ fn next_last(alloc: Global, program: &Program, run: &mut Run) -> Result<(), Endi
     ensures ok { OnOk result (next_last program.now (state_of run.old) ≡ Ok (state_of run.new)) }
     ensures err { IfErr result (λ e. EndsAs e (next_last program.now (state_of run.old))) }
 {
-    let at = line_use(program, run);
+    let at = statement_use(program, run);
     let _over = next_of(alloc, at, None, run)?;
     Ok(())
 }

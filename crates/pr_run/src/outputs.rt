@@ -3,7 +3,7 @@
 ghost use Rattle.std.specs.Prelude.{◌≡◌, ◌==◌, not, [], IfErr, IfOk, Ok, drop, take};
 ghost use Rattle.std.specs.List.{filter};
 ghost use Rattle.pr_run.specs.Outputs.{close_statement, close_with, command_statement, command_to, directed, file_numbers, is_open, no_line, numbers, open_error, open_file, open_statement, open_with, print_file_statement, print_statement, print_to, value_place};
-ghost use Rattle.pr_run.specs.Uses.{line_use};
+ghost use Rattle.pr_run.specs.Uses.{statement_place};
 ghost use Rattle.pr_run.specs.Worked.{whole};
 ghost use Rattle.pr_run.specs.Seen.{EndsAs, IsDevice, IsSecond, gives, puts, state_of};
 
@@ -12,7 +12,7 @@ use crate::lists::printed;
 use crate::programs::Program;
 use crate::state::Run;
 use crate::uses::first_place;
-use crate::worked::{line_use, whole};
+use crate::worked::{statement_place, whole};
 use pr_basic::{Device, Line, Second, Statement};
 use pr_interpreter::{BasicError, Item, Nodes, Placed};
 use std::alloc::Global;
@@ -192,13 +192,13 @@ fn open_with(
     numbers: &[u8],
     run: &mut Run,
 ) -> Result<Output, Ending>
-    ensures ok { IfOk result (λ o. open_with (line_use program.now (state_of run.old)).place values.now numbers.now (state_of run.old) ≡ puts o run.new) }
-    ensures err { IfErr result (λ e. EndsAs e (open_with (line_use program.now (state_of run.old)).place values.now numbers.now (state_of run.old))) }
+    ensures ok { IfOk result (λ o. open_with (statement_place program.now (state_of run.old)) values.now numbers.now (state_of run.old) ≡ puts o run.new) }
+    ensures err { IfErr result (λ e. EndsAs e (open_with (statement_place program.now (state_of run.old)) values.now numbers.now (state_of run.old))) }
 {
     match numbers {
         [] | [_] => Err(Ending::Refused {
             refusal: Refusal::Device(1),
-            place: line_use(program, run).place,
+            place: statement_place(program, run),
         }),
         [file, device] => {
             let device = device_of(*device, value_place(1, values))?;
@@ -236,13 +236,13 @@ fn forget(files: &mut Vec<u8>, file: u8)
 
 /// Closes a file.
 fn close_with(program: &Program, numbers: &[u8], run: &mut Run) -> Result<Output, Ending>
-    ensures ok { IfOk result (λ o. close_with (line_use program.now (state_of run.old)).place numbers.now (state_of run.old) ≡ puts o run.new) }
-    ensures err { IfErr result (λ e. EndsAs e (close_with (line_use program.now (state_of run.old)).place numbers.now (state_of run.old))) }
+    ensures ok { IfOk result (λ o. close_with (statement_place program.now (state_of run.old)) numbers.now (state_of run.old) ≡ puts o run.new) }
+    ensures err { IfErr result (λ e. EndsAs e (close_with (statement_place program.now (state_of run.old)) numbers.now (state_of run.old))) }
 {
     let [file, ..] = numbers else {
         return Err(Ending::Refused {
             refusal: Refusal::FileName,
-            place: line_use(program, run).place,
+            place: statement_place(program, run),
         });
     };
     let file = *file;

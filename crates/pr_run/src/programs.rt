@@ -5,7 +5,7 @@ ghost use Rattle.pr_interpreter.specs.Faults.{FaultsAs};
 ghost use Rattle.pr_run.specs.Runs.{program_of};
 
 use crate::data::{DataItem, data_of};
-use pr_interpreter::{Line, ProgramFault, ProgramLine, lines_of, read_program};
+use pr_interpreter::{ProgramFault, ProgramLine, lines_of, read_program};
 use pr_page::Sequence;
 use std::alloc::Global;
 
@@ -15,8 +15,6 @@ pub struct Program {
     pub text: Sequence<u8>,
     /// The lines in the order of their numbers, with their statements.
     pub lines: Sequence<ProgramLine>,
-    /// Where these lines are in the text.
-    pub rows: Sequence<Line>,
     /// The items of DATA in the order of the lines.
     pub items: Sequence<DataItem>,
 }
@@ -42,7 +40,6 @@ pub fn program_of(alloc: Global, text: &[u8]) -> Result<Program, ProgramFault>
     Ok(Program {
         text: Sequence::from_vec(copy),
         lines,
-        rows: Sequence::from_vec(rows),
         items: Sequence::from_vec(items),
     })
 }

@@ -2,7 +2,7 @@
 
 ghost use Rattle.std.specs.Prelude.{◌≡◌, ◌≤◌, IfErr, IfOk};
 ghost use Rattle.pr_run.specs.Seen.{EndsAs, gives, state_of};
-ghost use Rattle.pr_run.specs.Uses.{ending_of, line_at, line_use, use_of};
+ghost use Rattle.pr_run.specs.Uses.{ending_of, line_at, statement_place, statement_use, use_of};
 ghost use Rattle.pr_run.specs.Worked.{number, truth, whole, worked};
 
 use crate::ending::Ending;
@@ -33,17 +33,28 @@ pub fn use_of(program: &Program, run: &Run, nodes: &[Placed]) -> Use
     }
 }
 
-/// Returns the use of a statement that has no place of its own: that of its line.
-pub fn line_use(program: &Program, run: &Run) -> Use
-    ensures { result ≡ line_use program.now (state_of run.now) }
+/// Returns where the statement that is performed begins, as the number of bytes before it in the text.
+#[tactic(auto, unfolding(crate::specs::Places::start_before))]
+pub fn statement_place(program: &Program, run: &Run) -> usize
+    ensures { result ≡ statement_place program.now (state_of run.now) }
 {
-    let place = match program.rows.as_slice().get(run.place.line) {
-        Some(row) => row.start,
-        None => 0,
+    let Some(line) = program.lines.as_slice().get(run.place.line) else {
+        return 0;
     };
+    let before = run.place.statement.saturating_sub(1);
+    match line.statements.as_slice().get(before) {
+        Some(placed) => placed.place,
+        None => 0,
+    }
+}
+
+/// Returns a use at the statement that is performed.
+pub fn statement_use(program: &Program, run: &Run) -> Use
+    ensures { result ≡ statement_use program.now (state_of run.now) }
+{
     Use {
         line: line_at(program, run),
-        place,
+        place: statement_place(program, run),
     }
 }
 
