@@ -26,7 +26,7 @@ use Rattle.pr_run.specs.Places.{Found, Doing, LineEnd, ProgramEnd, after_stateme
 use Rattle.pr_run.specs.declared.programs.Program.{Program}
 use Rattle.pr_run.specs.States.{State, next_line}
 use Rattle.pr_run.specs.Assignments.{clear_statement, dim_statement, is_system, let_statement, replaced}
-use Rattle.pr_run.specs.Uses.{Worked, first_place, line_at}
+use Rattle.pr_run.specs.Uses.{Worked, line_at, statement_place}
 use Rattle.pr_run.specs.Worked.{then_on, whole}
 
 -- ---- DEF FN and POKE
@@ -71,7 +71,7 @@ poke_at place a s = if is_harmless a then Ok s else Err (Refused (Poked a) place
 -- POKE is left out where it cannot change what is printed
 unfoldable pub poke_statement : Program → State → List Placed → List Placed → Worked State
 poke_statement p s address value =
-    then_on (whole 65535 p s address) (λ a t. then_on (whole 255 p t value) (λ b u. poke_at (first_place address) a u))
+    then_on (whole 65535 p s address) (λ a t. then_on (whole 255 p t value) (λ b u. poke_at (statement_place p u) a u))
 
 -- ---- steps
 

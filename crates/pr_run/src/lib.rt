@@ -1,8 +1,8 @@
 //! Runs programs in Commodore 64 BASIC for the output statements that they perform.
 //!
 //! [`program_of`] reads a text, [`run_program`] runs it: it returns the output statements that the program performs,
-//! with the bytes of their lists, each with the line that it came from, and how the run ended. `specs/Runs.antt` defines
-//! a run as steps from state to state, and `run_program` performs exactly what it says. A statement is not run where
+//! with the bytes of their lists, each with the line that it came from, and how the run ended. `specs/Runs.antt` says
+//! what a run is, as steps from state to state, and `run_program` performs exactly that. A statement is not run where
 //! what it does is not certain: the run ends there, with the place.
 //!
 //! - `programs` has programs with the items of DATA (`data`), `place` the places in them; `ending` says how a run ends,

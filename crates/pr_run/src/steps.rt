@@ -20,8 +20,7 @@ use crate::outputs::{
 use crate::performed::Performed;
 use crate::programs::Program;
 use crate::state::Run;
-use crate::uses::first_place;
-use crate::worked::{line_at, whole};
+use crate::worked::{line_at, statement_place, whole};
 use pr_interpreter::{BasicError, Function, Kind, Name, Placed, Statement, same_name};
 use pr_page::Sequence;
 use std::alloc::Global;
@@ -143,7 +142,7 @@ fn poke_statement(
     }
     Err(Ending::Refused {
         refusal: Refusal::Poke(to),
-        place: first_place(address),
+        place: statement_place(program, run),
     })
 }
 
