@@ -124,12 +124,16 @@ class Run:
             raise BasicError("BAD SUBSCRIPT")
         return values, indices
 
-    def assign(self, target: Variable, expression: Expression) -> None:
+    def target(self, target: Variable) -> Slot:
+        """Where the value of a variable is kept that a statement names: TI and ST cannot be."""
         if target.is_system():
             if target.name.kind:
                 raise Refused(target.place, "TI$ is not run")
             raise BasicError("SYNTAX")
-        values, key = target.slot(self)
+        return target.slot(self)
+
+    def assign(self, target: Variable, expression: Expression) -> None:
+        values, key = self.target(target)
         value = expression.evaluate(self)
         if isinstance(value, bytes) != (target.name.kind == "$"):
             raise BasicError("TYPE MISMATCH")
@@ -148,9 +152,11 @@ class Run:
             return self.text_item(item)
         with used_at(item.place):
             value, rest = number_in(item.text)
-            if rest:
-                raise BasicError("SYNTAX", item.line)
-            return exact(signed_whole(value)) if name.kind == "%" else value
+            if name.kind == "%":
+                value = exact(signed_whole(value))
+        if rest:
+            raise BasicError("SYNTAX", item.line)
+        return value
 
     def text_item(self, item: Item) -> bytes:
         """An item as a string: names of keys count in quotes alone."""

@@ -1,14 +1,17 @@
-use Rattle.std.proofs.Common.{◌≡◌, ℕ, ◌+◌, ◌-◌, ◌*◌, ◌/◌, ◌%◌, ◌^◌, ◌<◌, ◌≤◌, ◌==◌, ◌⊎◌, Bool, true, false, nat_le, arith, sym, refl, inl, inr, subst, Result, Ok, Err, IfOk, ◌∙◌, if◌then◌else◌}
+use Rattle.std.proofs.Common.{◌≡◌, ℕ, ◌+◌, ◌-◌, ◌*◌, ◌/◌, ◌%◌, ◌^◌, ◌<◌, ◌≤◌, ◌==◌, ◌⊎◌, Bool, true, false, nat_le}
+use Rattle.std.proofs.Common.{arith, sym, refl, inl, inr, subst, Result, Ok, Err, IfOk, ◌∙◌, if◌then◌else◌}
 use Rattle.std.proofs.Math.Nat.{mul-le-mul_right, mul-le-mul_left, eq_of_mul-eq-mul_right, lt_of_mul-lt-mul_right}
 use Rattle.std.proofs.lemmas.Bool.{and_parts, leb-true, eqb-true}
 use Rattle.std.proofs.lemmas.Nat.{pow_pos, div-mul-add, shr_split}
 use Rattle.pr_interpreter.specs.Machine.{MayAnswer, IsNear, HasForm, smallest_bits, largest_bits}
-use Rattle.pr_interpreter.specs.Spans.{IsWide, IsShort, Holds, bit_length, drop_digits, shorten, widen, is_in_range, in_range, is_too_large, around, has_form, answer, end_digits}
+use Rattle.pr_interpreter.specs.Spans.{IsWide, IsShort, Holds, bit_length, drop_digits, shorten, widen, is_in_range}
+use Rattle.pr_interpreter.specs.Spans.{in_range, is_too_large, around, has_form, answer, end_digits}
 use Rattle.pr_interpreter.specs.declared.span.Span.{Span}
 use Rattle.pr_interpreter.specs.declared.fault.NumberFault.{NumberFault}
 use Rattle.pr_interpreter.specs.declared.fault.NumberFault.TheVariants.{NotCertain, Overflow}
 use Rattle.pr_interpreter.proofs.BitLemmas.{pow_order, widened_wide}
-use Rattle.pr_interpreter.proofs.SpanLemmas.{shorten_bounds, shorten_holds, widen_answers, scale_parts, digits_and_excess}
+use Rattle.pr_interpreter.proofs.SpanLemmas.{shorten_bounds, shorten_holds, widen_answers, scale_parts}
+use Rattle.pr_interpreter.proofs.SpanLemmas.{digits_and_excess}
 use Rattle.pr_interpreter.proofs.RangeLemmas.{InRange, either_branch, in_range_answer, in_range_facts}
 
 -- the exact magnitude is near itself
@@ -127,7 +130,8 @@ exact_holds digits error s t p q r wide few pos h may form e =
     } in
     subst (λ (u : Span). Holds u r 1) ok.0 (elim may [
       | inl itself ↦
-          let same = eq_of_mul-eq-mul_right q pos r ((shorten digits s).low * 2 ^ (shorten digits s).scale) (itself.1 ∙ sym value) in
+          let same = eq_of_mul-eq-mul_right q pos r ((shorten digits s).low * 2 ^ (shorten digits s).scale) (itself.1
+          ∙ sym value) in
           one_holds (shorten digits s) r exact.0 same
       | inr other ↦ elim other [
         | inl tiny ↦ rw tiny.1 (tiny_holds (shorten digits s) p q pos ok.1 kept tiny.0)
@@ -156,7 +160,8 @@ answer_holds digits error s t p q r wide scale few small pos h may e =
     ]
 
 -- an if whose branches meet a condition, where they have a result
-pub ok_or_fault : (b : Bool) (s : Span) (fault : NumberFault) (P : Span → Type 0) → (b ≡ true → P s) → IfOk (if b then Ok s else Err fault) P
+pub ok_or_fault : (b : Bool) (s : Span) (fault : NumberFault) (P : Span → Type 0) → (b ≡ true → P s)
+    → IfOk (if b then Ok s else Err fault) P
 ok_or_fault true s fault P h = h refl
 ok_or_fault false s fault P h = tt
 
@@ -170,7 +175,8 @@ pub in_range_short : (s : Span) → s.low ≤ s.high → s.high ≤ 2 ^ 40 → I
 unfolding in_range
 in_range_short s ordered high =
     let fit : s.high < 2 ^ 127 = omega arith in
-    ok_or_fault (is_in_range s) s (if is_too_large s then Overflow else NotCertain) IsShort (λ (e : is_in_range s ≡ true).
+    ok_or_fault (is_in_range s) s (if is_too_large s then Overflow
+    else NotCertain) IsShort (λ (e : is_in_range s ≡ true).
     let facts = in_range_facts s ordered fit e in
     record { ordered = ordered; high = high; scale = facts.scale })
 
@@ -180,14 +186,17 @@ exact_short digits s wide few =
     let ordered = pow_order digits 40 few in
     in_range_short (shorten digits s) bounds.ordered (omega (arith, bounds.high))
 
-pub around_short : (error : ℕ) (s : Span) → error ≤ 32 → s.low ≤ s.high → s.high ≤ 2 ^ 40 → s.scale ≤ 1000 → IfOk (around error s) IsShort
+pub around_short : (error : ℕ) (s : Span) → error ≤ 32 → s.low ≤ s.high → s.high ≤ 2 ^ 40 → s.scale ≤ 1000
+    → IfOk (around error s) IsShort
 unfolding around
 around_short error s small ordered short scale =
     branch_or_branch (nat_le error s.scale) (in_range (shorten end_digits (widen error s))) (Err NotCertain) IsShort
-    (λ (_ : nat_le error s.scale ≡ true). let few : 40 ≤ 40 = omega arith in exact_short 40 (widen error s) (widened_wide error s small ordered short scale) few)
+    (λ (_ : nat_le error s.scale ≡ true). let few : 40 ≤ 40 = omega arith in exact_short 40 (widen error s)
+    (widened_wide error s small ordered short scale) few)
     (λ (_ : nat_le error s.scale ≡ false). tt)
 
-pub shortened_short : (error : ℕ) (s : Span) → error ≤ 32 → IsWide s → s.scale ≤ 800 → IfOk (around error (shorten end_digits s)) IsShort
+pub shortened_short : (error : ℕ) (s : Span) → error ≤ 32 → IsWide s → s.scale ≤ 800
+    → IfOk (around error (shorten end_digits s)) IsShort
 shortened_short error s small wide scale =
     let bounds = shorten_bounds end_digits s wide in
     let fit : (shorten end_digits s).scale ≤ 1000 = omega (arith, bounds.most) in

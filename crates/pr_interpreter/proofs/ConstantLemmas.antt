@@ -1,4 +1,5 @@
-use Rattle.std.proofs.Common.{◌≡◌, ℕ, pos, ◌+◌, ◌-◌, ◌*◌, ◌/◌, ◌^◌, ◌<◌, ◌≤◌, Bool, true, false, nat_le, if◌then◌else◌, arith, sym, ap, ◌∙◌, inl, inr, Ok, Err}
+use Rattle.std.proofs.Common.{◌≡◌, ℕ, pos, ◌+◌, ◌-◌, ◌*◌, ◌/◌, ◌^◌, ◌<◌, ◌≤◌, Bool, true, false, nat_le, if◌then◌else◌}
+use Rattle.std.proofs.Common.{arith, sym, ap, ◌∙◌, inl, inr, Ok, Err}
 use Rattle.std.proofs.lemmas.Bool.{leb-true}
 use Rattle.std.proofs.lemmas.Int.{ints}
 use Rattle.std.proofs.lemmas.Nat.{pow-add}
@@ -6,7 +7,8 @@ use Rattle.std.proofs.Math.Nat.{mul-le-mul, mul-le-mul_right, div-mul-le_self, d
 use Rattle.pr_interpreter.specs.Machine.{unit_bits}
 use Rattle.pr_interpreter.specs.Spans.{IsWide, Holds, answer}
 use Rattle.pr_interpreter.specs.Numbers.{Known, Encloses, signed, quotient_digits, quotient_scale}
-use Rattle.pr_interpreter.specs.Constants.{least, greatest, exponent_of, times_ten, over_ten, scaled_span, error_after, value_of, MayRead, ConstantsAreCertain}
+use Rattle.pr_interpreter.specs.Constants.{least, greatest, exponent_of, times_ten, over_ten, scaled_span, error_after}
+use Rattle.pr_interpreter.specs.Constants.{value_of, MayRead, ConstantsAreCertain}
 use Rattle.pr_interpreter.specs.declared.constants.Tens.{Tens}
 use Rattle.pr_interpreter.specs.declared.constants.Tens.TheVariants.{Times, Over}
 use Rattle.pr_interpreter.specs.declared.number.Sign.TheVariants.{Plus}

@@ -1,7 +1,8 @@
 use Rattle.std.proofs.Common.{◌≡◌, ℕ, ◌+◌, ◌-◌, ◌*◌, ◌/◌, ◌^◌, ◌<◌, ◌≤◌, min, arith, sym, subst, ap, ◌∙◌, inl, inr}
 use Rattle.std.proofs.lemmas.Bool.{cases_lt}
 use Rattle.std.proofs.lemmas.Nat.{pow_pos, pow-add, mul-pow, le-div}
-use Rattle.std.proofs.Math.Nat.{mul-div-mul_right, div-eq_of_lt, div-div-eq-div-mul, mul-pos, mul-le-mul, one-le-pow, pow-le-pow_right}
+use Rattle.std.proofs.Math.Nat.{mul-div-mul_right, div-eq_of_lt, div-div-eq-div-mul, mul-pos, mul-le-mul, one-le-pow}
+use Rattle.std.proofs.Math.Nat.{pow-le-pow_right}
 use Rattle.pr_interpreter.specs.Decimals.{HasDigits, IsFirst, sixteenths, ten_digits, next_place}
 use Rattle.pr_interpreter.specs.declared.decimals.Digits.{Digits}
 use Rattle.pr_interpreter.proofs.BitLemmas.{pow_order}

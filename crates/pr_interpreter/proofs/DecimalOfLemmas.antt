@@ -1,6 +1,10 @@
-use Rattle.std.proofs.Common.{◌≡◌, ℕ, zero, suc, ◌+◌, ◌*◌, ◌/◌, ◌^◌, ◌<◌, ◌≤◌, ◌==◌, ◌&&◌, Bool, true, false, nat_lt, if◌then◌else◌, Option, Some, None, Result, Ok, Err, List, MatchOption, arith, sym, subst, refl, ap, ◌∙◌, inl, inr, below_more}
-use Rattle.std.proofs.lemmas.Bool.{and_parts, cases_Bool, cases_eq, cases_lt, eq-eqb, eqb-false, eqb-true, le-ltb, lt-ltb, ltb-false, ltb-true, ne_eqb, and_from}
-use Rattle.pr_interpreter.specs.Decimals.{HasCommon, HasDigits, IsDecimal, common, decimal_by, decimal_of, decimal_with, digits_from, digits_of, next_place, sign_of, sixteenths, ten_digits}
+use Rattle.std.proofs.Common.{◌≡◌, ℕ, zero, suc, ◌+◌, ◌*◌, ◌/◌, ◌^◌, ◌<◌, ◌≤◌, ◌==◌, ◌&&◌, Bool, true, false, nat_lt}
+use Rattle.std.proofs.Common.{if◌then◌else◌, Option, Some, None, Ok, Err, arith, sym, subst}
+use Rattle.std.proofs.Common.{refl, ap, ◌∙◌, inl, inr, below_more}
+use Rattle.std.proofs.lemmas.Bool.{and_parts, cases_Bool, cases_eq, cases_lt, eq-eqb, eqb-false, eqb-true}
+use Rattle.std.proofs.lemmas.Bool.{lt-ltb, ltb-false, ltb-true, ne_eqb, and_from}
+use Rattle.pr_interpreter.specs.Decimals.{HasCommon, HasDigits, IsDecimal, common, decimal_by, decimal_of, decimal_with}
+use Rattle.pr_interpreter.specs.Decimals.{digits_from, digits_of, next_place, sign_of, sixteenths, ten_digits}
 use Rattle.pr_interpreter.specs.Functions.{number_text, text_of_decimal}
 use Rattle.pr_interpreter.specs.Numbers.{Known}
 use Rattle.pr_interpreter.specs.Printing.{decimal_text}
@@ -8,7 +12,6 @@ use Rattle.pr_interpreter.specs.declared.decimals.Decimal.{Decimal}
 use Rattle.pr_interpreter.specs.declared.decimals.Digits.{Digits}
 use Rattle.pr_interpreter.specs.declared.number.Sign.{Sign}
 use Rattle.pr_interpreter.specs.declared.number.Sign.TheVariants.{Plus, Minus, Either}
-use Rattle.pr_interpreter.specs.declared.values.Stop.{Stop}
 use Rattle.pr_interpreter.specs.declared.values.Stop.TheVariants.{NotCertain as Uncertain}
 
 -- ---- the digits of a magnitude, found from the first place on

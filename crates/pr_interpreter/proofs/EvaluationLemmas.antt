@@ -1,10 +1,11 @@
-use Rattle.std.proofs.Common.{◌≡◌, ℕ, zero, suc, ◌+◌, ◌-◌, ◌*◌, ◌^◌, ◌<◌, Bool, true, false, nat_le, if◌then◌else◌, List, length, arith, refl, sym, ap, ◌∙◌, Option, Some, None}
+use Rattle.std.proofs.Common.{◌≡◌, ℕ, zero, suc, ◌+◌, ◌-◌, ◌*◌, ◌^◌, ◌<◌, Bool, true, false, nat_le, if◌then◌else◌}
+use Rattle.std.proofs.Common.{List, length, arith, refl, sym, ap, ◌∙◌, Option, Some, None}
 use Rattle.std.proofs.lemmas.Bool.{lt-leb}
 use Rattle.pr_interpreter.specs.Evaluation.{Scope, Working, element, give, in_array, through, worked}
 use Rattle.pr_interpreter.specs.Memory.{added, element_bytes, undimensioned}
 use Rattle.pr_interpreter.specs.Working.{element_of}
-use Rattle.pr_interpreter.specs.declared.evaluation.Given.{Given}
-use Rattle.pr_interpreter.specs.declared.evaluation.Given.TheVariants.{Stopped}
+use Rattle.pr_interpreter.specs.declared.given.Given.{Given}
+use Rattle.pr_interpreter.specs.declared.given.Given.TheVariants.{Stopped}
 use Rattle.pr_interpreter.specs.declared.expressions.Placed.{Placed}
 use Rattle.pr_interpreter.specs.declared.memory.Array.{Array}
 use Rattle.pr_interpreter.specs.declared.memory.Arrays.{Arrays}

@@ -1,4 +1,5 @@
-use Rattle.std.proofs.Common.{◌≡◌, ℕ, zero, suc, ◌+◌, ◌-◌, ◌*◌, ◌/◌, ◌%◌, ◌^◌, ◌<◌, ◌≤◌, ◌==◌, true, nat_lt, arith, sym, subst, refl, ap, ◌∙◌, inl, inr, Ok}
+use Rattle.std.proofs.Common.{◌≡◌, ℕ, zero, suc, ◌+◌, ◌-◌, ◌*◌, ◌/◌, ◌%◌, ◌^◌, ◌<◌, ◌≤◌, ◌==◌, true, nat_lt, arith, sym}
+use Rattle.std.proofs.Common.{subst, refl, ap, ◌∙◌, inl, inr, Ok}
 use Rattle.std.proofs.Math.Nat.{mul-lt-mul_of_pos_right, eq_of_mul-eq-mul_right, mul-mod_left, mul-pos}
 use Rattle.std.proofs.lemmas.Bool.{cases_lt, eq-eqb, le-leb, lt-ltb, or_right}
 use Rattle.std.proofs.lemmas.Nat.{pow_pos, pow-add, mod_below, shr_split}
@@ -20,19 +21,22 @@ exponent_large n scale digits mantissa exponent some wide short e long =
           let fit : n < 2 ^ 128 = omega arith in
           let order : digits + exponent < bit_length n + scale = omega arith in
           let above = fits_above n scale (digits + exponent) some fit order in
-          let below = mul-lt-mul_of_pos_right {m = mantissa} {n = 2 ^ digits} {k = 2 ^ exponent} short (pow_pos exponent) in
+          let below = mul-lt-mul_of_pos_right {m = mantissa} {n = 2 ^ digits} {k = 2 ^ exponent} short
+          (pow_pos exponent) in
           absurd (omega (arith, pow-add 2 digits exponent))
       | inr large ↦ large
     ]
 
-pub zeros_at_end : (n scale mantissa exponent k : ℕ) → n * 2 ^ scale ≡ mantissa * 2 ^ exponent → k + scale ≤ exponent → n % 2 ^ k ≡ 0
+pub zeros_at_end : (n scale mantissa exponent k : ℕ) → n * 2 ^ scale ≡ mantissa * 2 ^ exponent → k + scale ≤ exponent
+    → n % 2 ^ k ≡ 0
 zeros_at_end n scale mantissa exponent k e large =
     let parts : exponent - (k + scale) + (k + scale) ≡ exponent = omega arith in
     let powers = sym (ap (λ (t : ℕ). 2 ^ t) parts) ∙ pow-add 2 (exponent - (k + scale)) (k + scale) in
     let inner = ap (λ (t : ℕ). mantissa * 2 ^ (exponent - (k + scale)) * t) (pow-add 2 k scale) in
     let outer = ap (λ (t : ℕ). mantissa * t) powers in
     let whole : n * 2 ^ scale ≡ mantissa * 2 ^ (exponent - (k + scale)) * 2 ^ k * 2 ^ scale = omega arith in
-    let same = eq_of_mul-eq-mul_right (2 ^ scale) (pow_pos scale) n (mantissa * 2 ^ (exponent - (k + scale)) * 2 ^ k) whole in
+    let same = eq_of_mul-eq-mul_right (2 ^ scale) (pow_pos scale) n (mantissa * 2 ^ (exponent - (k + scale)) * 2 ^ k)
+    whole in
     ap (λ (t : ℕ). t % 2 ^ k) same ∙ mul-mod_left (mantissa * 2 ^ (exponent - (k + scale))) (2 ^ k)
 
 pub nothing_dropped : (n k : ℕ) → k ≡ 0 → n % 2 ^ k ≡ 0
@@ -41,7 +45,8 @@ nothing_dropped n k e =
     let below = mod_below n 1 one in
     rw e (omega arith)
 
-pub ends_in_zeros : (n scale digits magnitude : ℕ) → 0 < n → n < 2 ^ 127 → n * 2 ^ scale ≡ magnitude → HasForm digits magnitude
+pub ends_in_zeros : (n scale digits magnitude : ℕ) → 0 < n → n < 2 ^ 127 → n * 2 ^ scale ≡ magnitude
+    → HasForm digits magnitude
     → n % 2 ^ (bit_length n - digits) ≡ 0
 ends_in_zeros n scale digits magnitude some wide e form = elim (cases_lt digits (bit_length n)) [
   | inl long ↦
@@ -51,7 +56,8 @@ ends_in_zeros n scale digits magnitude some wide e form = elim (cases_lt digits 
   | inr short ↦ let none : bit_length n - digits ≡ 0 = omega arith in nothing_dropped n (bit_length n - digits) none
 ]
 
-pub form_found : (digits : ℕ) (s : Span) → s.low ≡ s.high → s.high % 2 ^ (bit_length s.high - digits) ≡ 0 → has_form digits s ≡ true
+pub form_found : (digits : ℕ) (s : Span) → s.low ≡ s.high → s.high % 2 ^ (bit_length s.high - digits) ≡ 0
+    → has_form digits s ≡ true
 unfolding has_form
 form_found digits s same zeros =
     rw (eq-eqb s.low s.high same, eq-eqb (s.high % 2 ^ (bit_length s.high - digits)) 0 zeros) refl
@@ -74,14 +80,16 @@ range_found t same some wide small large =
       | inr within ↦ let below = fits_below t.low t.scale smallest_bits fit_low within in absurd (omega arith)
     ] in
     let first = le-leb (bit_length t.high + t.scale) largest_bits upper in
-    let second = or_right (t.low == 0) (nat_lt smallest_bits (bit_length t.low + t.scale)) (lt-ltb smallest_bits (bit_length t.low + t.scale) lower) in
+    let second = or_right (t.low == 0) (nat_lt smallest_bits (bit_length t.low + t.scale))
+    (lt-ltb smallest_bits (bit_length t.low + t.scale) lower) in
     rw (first, second) refl
 
 pub range_kept : (t : Span) → is_in_range t ≡ true → in_range t ≡ Ok t
 unfolding in_range
 range_kept t e = rw e refl
 
-pub form_kept : (digits error : ℕ) (s : Span) → has_form digits s ≡ true → answer digits error s ≡ in_range (shorten digits s)
+pub form_kept : (digits error : ℕ) (s : Span) → has_form digits s ≡ true → answer digits error s
+    ≡ in_range (shorten digits s)
 unfolding answer
 form_kept digits error s e = rw e refl
 
@@ -110,7 +118,8 @@ forms_are_kept digits error s wide few same some form =
     let ordered = pow_order digits 40 few in
     let short : (shorten digits s).high < 2 ^ 127 = omega (arith, bounds.high) in
     let large = form_large digits (s.low * 2 ^ s.scale) form (mul-pos some (pow_pos s.scale)) in
-    let positive = low_positive (shorten digits s).low (2 ^ (shorten digits s).scale) (s.low * 2 ^ s.scale) value (mul-pos some (pow_pos s.scale)) in
+    let positive = low_positive (shorten digits s).low (2 ^ (shorten digits s).scale) (s.low * 2 ^ s.scale) value
+    (mul-pos some (pow_pos s.scale)) in
     let small = subst (λ (n : ℕ). n < 2 ^ largest_bits) (sym value) form.small in
     let least = subst (λ (n : ℕ). 2 ^ smallest_bits ≤ n) (sym value) large in
     let range = range_found (shorten digits s) exact.0 positive short small least in

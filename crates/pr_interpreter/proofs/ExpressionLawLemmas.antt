@@ -1,22 +1,30 @@
-use Rattle.std.proofs.Common.{◌≡◌, ℕ, ◌+◌, ◌-◌, ◌≤◌, ◌==◌, Bool, true, false, List, [], ◌∷◌, ◌++◌, if◌then◌else◌, arith, sym, refl, ap, ◌∙◌, Option, Some, None, Result, Ok, Err}
+use Rattle.std.proofs.Common.{◌≡◌, ℕ, ◌+◌, ◌-◌, ◌≤◌, ◌==◌, Bool, true, false, List, [], ◌∷◌, ◌++◌, if◌then◌else◌, arith}
+use Rattle.std.proofs.Common.{sym, refl, ap, ◌∙◌, Option, Some, None, Result, Ok, Err}
 use Rattle.std.proofs.lemmas.Bool.{false≢true, le-leb}
 use Rattle.std.specs.Option.{is_some, unwrap_or}
 use Rattle.std.specs.Prelude.{nat_le, nat_lt}
 use Rattle.std.specs.Result.{is_ok}
 use Rattle.pr_interpreter.specs.ExpressionLaws.{ExpressionsAreWhole, operands, takes, values_after}
-use Rattle.pr_interpreter.specs.Expressions.{Done, Next, Refused, Stacks, Turn, after_turn, bound, close_pending, close_turn, closing_code, comma_pending, comma_turn, end_of_operand, end_turn, expression, function_turn, greatest_count, is_function, least_count, nothing, opening_turn, opens, operand_code, operand_turn, operator_of, operator_or, operator_turn, own_turn, precedence, reading, settle, settled, turn, with_node, with_waiting}
+use Rattle.pr_interpreter.specs.Expressions.{Done, Next, Refused, Stacks, Turn, after_turn, bound, close_pending}
+use Rattle.pr_interpreter.specs.Expressions.{close_turn, closing_code, comma_pending, comma_turn, end_of_operand}
+use Rattle.pr_interpreter.specs.Expressions.{end_turn, expression, function_turn, greatest_count, is_function}
+use Rattle.pr_interpreter.specs.Expressions.{least_count, nothing, opening_turn, opens, operand_code, operand_turn}
+use Rattle.pr_interpreter.specs.Expressions.{operator_of, operator_or, operator_turn, own_turn, precedence, reading}
+use Rattle.pr_interpreter.specs.Expressions.{settle, settled, turn, with_node, with_waiting}
 use Rattle.pr_interpreter.specs.declared.expressions.Callee.{Callee}
 use Rattle.pr_interpreter.specs.declared.expressions.Callee.TheVariants.{Array, Function}
 use Rattle.pr_interpreter.specs.declared.expressions.Node.{Node}
 use Rattle.pr_interpreter.specs.declared.expressions.Node.TheVariants.{Apply, Call, Number, Text, Variable}
 use Rattle.pr_interpreter.specs.declared.expressions.Operator.{Operator}
-use Rattle.pr_interpreter.specs.declared.expressions.Operator.TheVariants.{And, Compare, Minus, Negate, Not, Or, Over, Plus, Power, Times}
+use Rattle.pr_interpreter.specs.declared.expressions.Operator.TheVariants.{And, Compare, Minus, Negate, Not, Or, Over}
+use Rattle.pr_interpreter.specs.declared.expressions.Operator.TheVariants.{Plus, Power, Times}
 use Rattle.pr_interpreter.specs.declared.expressions.Placed.{Placed}
 use Rattle.pr_interpreter.specs.declared.fault.ProgramFault.{ProgramFault}
 use Rattle.pr_interpreter.specs.declared.fault.ProgramFault.TheVariants.{NoExpression}
 use Rattle.pr_interpreter.specs.declared.lexemes.Lexeme.{Lexeme}
 use Rattle.pr_interpreter.specs.declared.lexemes.Word.{Word}
-use Rattle.pr_interpreter.specs.declared.lexemes.Word.TheVariants.{Code, Comparison, Constant, Items, Named, Remark, Text as Quoted}
+use Rattle.pr_interpreter.specs.declared.lexemes.Word.TheVariants.{Code, Comparison, Constant, Items, Named, Remark}
+use Rattle.pr_interpreter.specs.declared.lexemes.Word.TheVariants.{Text as Quoted}
 use Rattle.pr_interpreter.specs.declared.reader.Expected.{Expected}
 use Rattle.pr_interpreter.specs.declared.reader.Expected.TheVariants.{NameEnd, Opening, Operand, OperandEnd, OwnName}
 use Rattle.pr_interpreter.specs.declared.reader.Pending.{Pending}
@@ -94,7 +102,8 @@ operands_some Or = omega arith
 
 -- a node takes its values and leaves one
 node_leaves : (s : Stacks) (node : Node) (place n : ℕ) → AllBegun s.waiting
-    → values_after 0 s.nodes ≡ some n → takes node ≤ n → n - takes node ≡ held s.waiting → Leaves (with_node s node place) 1
+    → values_after 0 s.nodes ≡ some n → takes node ≤ n → n - takes node ≡ held s.waiting
+    → Leaves (with_node s node place) 1
 node_leaves s node place n begun e h left = record {
   values = values_more 0 n s.nodes (record { node = node; place = place }) e h ∙ ap (λ (k : ℕ). some (k + 1)) left;
   begun = begun;
@@ -125,7 +134,8 @@ settled_leaves least nodes (w ∷ ws) h = cases w.pending refl (λ more k. settl
         let enough : takes (Apply op) ≤ held (w ∷ ws) + 1 = omega (arith, has, least_one) in
         let left : held (w ∷ ws) + 1 - takes (Apply op) ≡ held ws = omega (arith, has, least_one) in
         rw found (go (nodes ++ record { node = Apply op; place = w.place } ∷ [])
-        (node_leaves (record { nodes = nodes; waiting = ws }) (Apply op) w.place (held (w ∷ ws) + 1) h.begun.1 h.values enough left))
+        (node_leaves (record { nodes = nodes; waiting = ws }) (Apply op) w.place (held (w ∷ ws) + 1) h.begun.1 h.values
+        enough left))
 
     tests : (op : Operator) (t : Bool) → nat_le least (precedence op) ≡ t → w.pending ≡ Applies op
         → ((more : List Placed) → Leaves (record { nodes = more; waiting = ws }) 1 → Leaves (settled least more ws) 1)
@@ -195,7 +205,8 @@ operand_keeps s (Comparison accepts) place h = tt
 operand_keeps s (Items start end) place h = tt
 operand_keeps s Remark place h = tt
 
-opening_keeps : (s : Stacks) (callee : Callee) (place : ℕ) (word : Word) → Leaves s 0 → Keeps (opening_turn s callee place word)
+opening_keeps : (s : Stacks) (callee : Callee) (place : ℕ) (word : Word) → Leaves s 0
+    → Keeps (opening_turn s callee place word)
 opening_keeps s callee place word h =
     either (opens word) (Next (with_waiting s (Calls callee 1) place) Operand) Refused
     (waiting_leaves s (Calls callee 1) place 0 0 (omega arith) (omega arith) h) tt
@@ -209,9 +220,11 @@ own_keeps s place (Comparison accepts) h = tt
 own_keeps s place (Items start end) h = tt
 own_keeps s place Remark h = tt
 
-operator_keeps : (s : Stacks) (op : Operator) (place : ℕ) → operands op ≡ 2 → Leaves s 1 → Keeps (operator_turn s op place)
+operator_keeps : (s : Stacks) (op : Operator) (place : ℕ) → operands op ≡ 2 → Leaves s 1
+    → Keeps (operator_turn s op place)
 operator_keeps s op place two h =
-    waiting_leaves (settle (precedence op) s) (Applies op) place 1 0 tt (omega (arith, two)) (settle_leaves (precedence op) s h)
+    waiting_leaves (settle (precedence op) s) (Applies op) place 1 0 tt (omega (arith, two))
+    (settle_leaves (precedence op) s h)
 
 pending_comma : (s : Stacks) (p : Pending) (place : ℕ) → Begun p → AllBegun s.waiting
     → values_after 0 s.nodes ≡ some (holds p + held s.waiting + 1) → Keeps (comma_pending s p place)
@@ -229,7 +242,8 @@ pending_close s Group place begun all e = record { values = e ∙ ap (λ (k : �
 pending_close s (Applies op) place begun all e = tt
 pending_close s (Calls callee count) place begun all e =
     either (nat_le (least_count callee) count) (Next (with_node s (Call callee count) place) OperandEnd) Refused
-    (node_leaves s (Call callee count) place (count - 1 + held s.waiting + 1) all e (omega (arith, begun)) (omega (arith, begun))) tt
+    (node_leaves s (Call callee count) place (count - 1 + held s.waiting + 1) all e (omega (arith, begun))
+    (omega (arith, begun))) tt
 
 comma_keeps : (nodes : List Placed) (ws : List Waiting) → Leaves (record { nodes = nodes; waiting = ws }) 1
     → Keeps (comma_turn nodes ws)

@@ -1,4 +1,5 @@
-use Rattle.std.proofs.Common.{◌≡◌, ℕ, zero, suc, ◌+◌, ◌-◌, ◌<◌, ◌==◌, ◌&&◌, Bool, true, false, arith, refl, ap, Option, Some, None}
+use Rattle.std.proofs.Common.{◌≡◌, ℕ, zero, suc, ◌+◌, ◌-◌, ◌<◌, ◌==◌, ◌&&◌, Bool, true, false, arith, refl, ap, Option}
+use Rattle.std.proofs.Common.{Some, None}
 use Rattle.std.proofs.lemmas.Bool.{eqb-false, eqb-true, false≢true}
 use Rattle.pr_listing.specs.Keywords.{keyword_of}
 use Rattle.pr_interpreter.specs.LexemeLaws.{KeywordsAreFound}
@@ -31,7 +32,8 @@ unfolding are_found
 found_at zero k e h = absurd (omega arith)
 found_at (suc n) k e h =
     let parts = both (is_itself (128 + n) (typed_token (keyword_of (128 + n)))) (are_found n) e in
-    last (k == n) refl (itself_is (128 + n) (typed_token (keyword_of (128 + n))) parts.0) (λ less. found_at n k parts.1 less)
+    last (k == n) refl (itself_is (128 + n) (typed_token (keyword_of (128 + n))) parts.0)
+    (λ less. found_at n k parts.1 less)
   where
     last : (t : Bool) → (k == n) ≡ t → typed_token (keyword_of (128 + n)) ≡ Some (128 + n)
         → (k < n → typed_token (keyword_of (128 + k)) ≡ Some (128 + k))

@@ -1,8 +1,10 @@
-use Rattle.std.proofs.Common.{◌≡◌, ◌≢◌, ℕ, zero, suc, ◌+◌, ◌≤◌, ◌==◌, false, List, [], ◌∷◌, arith, subst, refl, ap, ◌∙◌, Option, Some, None, Result, Ok, Err, inl, inr}
+use Rattle.std.proofs.Common.{◌≡◌, ◌≢◌, ℕ, zero, suc, ◌+◌, ◌≤◌, ◌==◌, false, List, [], ◌∷◌, arith, subst, refl, ap, ◌∙◌}
+use Rattle.std.proofs.Common.{Option, Some, None, Result, Ok, Err, inl, inr}
 use Rattle.std.specs.List.{insert}
 use Rattle.std.proofs.lemmas.Bool.{cases_lt, eq-eqb, le-ltb, lt-ltb}
 use Rattle.std.proofs.lemmas.Bool.Decides.{eqb_tells}
-use Rattle.pr_interpreter.specs.Lines.{Row, after_rest, after_row, after_rows, enter, entered, go_on, others, place_for, program_lines, rows_from}
+use Rattle.pr_interpreter.specs.Lines.{Row, after_rest, after_row, after_rows, enter, entered, go_on, others, place_for}
+use Rattle.pr_interpreter.specs.Lines.{program_lines, rows_from}
 use Rattle.pr_interpreter.specs.LineLaws.{Ascend, LinesAscend, TypedLinesCount, line_of}
 use Rattle.pr_interpreter.specs.declared.lines.Line.{Line}
 use Rattle.pr_interpreter.specs.declared.fault.ProgramFault.{ProgramFault}

@@ -1,4 +1,6 @@
-use Rattle.std.proofs.Common.{◌≡◌, ℕ, zero, suc, ◌+◌, ◌-◌, ◌*◌, ◌<◌, ◌≤◌, ◌==◌, Bool, true, false, List, [], ◌∷◌, length, drop, get_or, if◌then◌else◌, arith, sym, refl, ap, ◌∙◌, drop-cons, add-one, Result, Ok, Err, ◌⊎◌, inl, inr}
+use Rattle.std.proofs.Common.{◌≡◌, ℕ, zero, suc, ◌+◌, ◌-◌, ◌*◌, ◌<◌, ◌≤◌, ◌==◌, Bool, true, false, List, [], ◌∷◌}
+use Rattle.std.proofs.Common.{length, drop, get_or, if◌then◌else◌, arith, sym, refl, ap, ◌∙◌, drop-cons, add-one}
+use Rattle.std.proofs.Common.{Result, Ok, Err, ◌⊎◌, inl, inr}
 use Rattle.pr_interpreter.specs.Lines.{after_rest, after_row, ends_row, go_on, line_number, next_number, program_lines}
 use Rattle.pr_interpreter.specs.declared.lines.Line.{Line}
 use Rattle.pr_interpreter.specs.declared.fault.ProgramFault.{ProgramFault}

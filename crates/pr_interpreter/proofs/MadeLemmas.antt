@@ -13,7 +13,8 @@ minus_is x m sign above below = omega (arith, ints)
 pub plus_has : (m : ℕ) → (pos 0 ≤ℤ pos m) × (m * 1 ≤ unsigned_abs (pos m)) × (unsigned_abs (pos m) ≤ m * 1)
 plus_has m = (omega (arith, ints), omega (arith, ints), omega (arith, ints))
 
-pub minus_has : (m : ℕ) → (neg_ℤ (pos m) ≤ℤ pos 0) × (m * 1 ≤ unsigned_abs (neg_ℤ (pos m))) × (unsigned_abs (neg_ℤ (pos m)) ≤ m * 1)
+pub minus_has : (m : ℕ) → (neg_ℤ (pos m) ≤ℤ pos 0) × (m * 1 ≤ unsigned_abs (neg_ℤ (pos m)))
+    × (unsigned_abs (neg_ℤ (pos m)) ≤ m * 1)
 minus_has m = (omega (arith, ints), omega (arith, ints), omega (arith, ints))
 
 pub plus_encloses : (magnitude : ℕ) → Encloses (whole_number false magnitude) (whole_value false magnitude)
@@ -28,12 +29,16 @@ minus_encloses magnitude =
 
 pub whole_numbers_are_exact : WholeNumbersAreExact
 whole_numbers_are_exact false magnitude x = (
-  λ (h : Encloses (whole_number false magnitude) x). plus_is x (magnitude * 2 ^ unit_bits) h.sign h.magnitude.above h.magnitude.below,
-  λ (e : x ≡ whole_value false magnitude). subst (λ (z : ℤ). Encloses (whole_number false magnitude) z) (sym e) (plus_encloses magnitude),
+  λ (h : Encloses (whole_number false magnitude) x). plus_is x (magnitude * 2 ^ unit_bits) h.sign h.magnitude.above
+      h.magnitude.below,
+  λ (e : x ≡ whole_value false magnitude). subst (λ (z : ℤ). Encloses (whole_number false magnitude) z) (sym e)
+      (plus_encloses magnitude),
 )
 whole_numbers_are_exact true magnitude x = (
-  λ (h : Encloses (whole_number true magnitude) x). minus_is x (magnitude * 2 ^ unit_bits) h.sign h.magnitude.above h.magnitude.below,
-  λ (e : x ≡ whole_value true magnitude). subst (λ (z : ℤ). Encloses (whole_number true magnitude) z) (sym e) (minus_encloses magnitude),
+  λ (h : Encloses (whole_number true magnitude) x). minus_is x (magnitude * 2 ^ unit_bits) h.sign h.magnitude.above
+      h.magnitude.below,
+  λ (e : x ≡ whole_value true magnitude). subst (λ (z : ℤ). Encloses (whole_number true magnitude) z) (sym e)
+      (minus_encloses magnitude),
 )
 
 pub size_of_size : (x : ℤ) → unsigned_abs (pos (unsigned_abs x)) ≡ unsigned_abs x

@@ -1,5 +1,7 @@
-use Rattle.std.proofs.Common.{◌≡◌, ℕ, suc, ◌+◌, ◌*◌, ◌^◌, ◌<◌, ◌≤◌, ◌&&◌, Bool, true, false, nat_le, nat_lt, List, [], ◌∷◌, length, drop, get_or, Option, Some, None, arith, refl, sym, ap, add-one, drop-cons, inl, inr}
-use Rattle.std.proofs.lemmas.Bool.{and_from, and_right, cases_Bool, le-leb, le-ltb, lt-leb, lt-ltb}
+use Rattle.std.proofs.Common.{◌≡◌, ℕ, suc, ◌+◌, ◌*◌, ◌^◌, ◌<◌, ◌≤◌, ◌&&◌, false, nat_le, nat_lt, List, []}
+use Rattle.std.proofs.Common.{◌∷◌, length, drop, get_or, Option, Some, None, arith, refl, ap, add-one, drop-cons}
+use Rattle.std.proofs.Common.{inl, inr}
+use Rattle.std.proofs.lemmas.Bool.{and_right, cases_Bool, le-leb, le-ltb, lt-leb, lt-ltb}
 use Rattle.std.proofs.lemmas.List.{drop_all}
 use Rattle.std.proofs.Math.Nat.{mul-le-mul, pow-le-pow_right}
 use Rattle.pr_interpreter.specs.Memory.{element_bytes, place_of}

@@ -1,10 +1,13 @@
-use Rattle.std.proofs.Common.{◌≡◌, ℕ, ◌+◌, ◌-◌, ◌*◌, ◌/◌, ◌^◌, ◌<◌, ◌≤◌, ◌==◌, ◌||◌, ◌⊎◌, ℤ, Bool, true, false, nat_le, if◌then◌else◌, arith, sym, subst, refl, ap, ◌∙◌, inl, inr, unsigned_abs, Result, Ok, Err}
+use Rattle.std.proofs.Common.{◌≡◌, ℕ, ◌+◌, ◌-◌, ◌*◌, ◌/◌, ◌^◌, ◌<◌, ◌≤◌, ◌==◌, ◌||◌, ◌⊎◌, ℤ, Bool, true, false, nat_le}
+use Rattle.std.proofs.Common.{if◌then◌else◌, arith, sym, subst, refl, ap, ◌∙◌, inl, inr, unsigned_abs, Result, Ok, Err}
 use Rattle.std.proofs.lemmas.Bool.{or_cases, eqb-true, eqb-false, leb-true}
 use Rattle.std.proofs.lemmas.Nat.{pow_pos, pow-add, le-div}
-use Rattle.std.proofs.Math.Nat.{mul-le-mul, mul-le-mul_left, mul-le-mul_right, div-mul-le_self, div-le_self, lt-div-mul-add, mul-pos}
+use Rattle.std.proofs.Math.Nat.{mul-le-mul, mul-le-mul_left, mul-le-mul_right, div-mul-le_self, div-le_self}
+use Rattle.std.proofs.Math.Nat.{lt-div-mul-add, mul-pos}
 use Rattle.pr_interpreter.specs.Machine.{MayAnswer, unit_bits}
 use Rattle.pr_interpreter.specs.Spans.{IsShort, IsWide, Holds, answer}
-use Rattle.pr_interpreter.specs.Numbers.{Known, Encloses, HasSign, is_zero, zero_number, signed, times, span_product, product, span_quotient, quotient, quotient_digits, quotient_scale}
+use Rattle.pr_interpreter.specs.Numbers.{Known, Encloses, HasSign, is_zero, zero_number, signed, times, span_product}
+use Rattle.pr_interpreter.specs.Numbers.{product, span_quotient, quotient, quotient_digits, quotient_scale}
 use Rattle.pr_interpreter.specs.NumberLaws.{ProductsAreCertain, QuotientsAreCertain}
 use Rattle.pr_interpreter.specs.declared.span.Span.{Span}
 use Rattle.pr_interpreter.specs.declared.number.Sign.{Sign}
@@ -28,7 +31,8 @@ signed_ok s (Err fault) n e = absurd (cc)
 -- what is answered to a calculation with magnitudes, with its sign
 pub signed_encloses : (s : Sign) (digits error : ℕ) (span : Span) (n : Known) (p q : ℕ) (r : ℤ)
     → IsWide span → span.scale ≤ 800 → digits ≤ 40 → error ≤ 32 → 0 < q → Holds span p q
-    → MayAnswer digits error p q (unsigned_abs r) → HasSign s r → signed s (answer digits error span) ≡ Ok n → Encloses n r
+    → MayAnswer digits error p q (unsigned_abs r) → HasSign s r → signed s (answer digits error span) ≡ Ok n
+    → Encloses n r
 signed_encloses s digits error span n p q r wide scale few small pos holds may sign e =
     let found = signed_ok s (answer digits error span) n e in
     let held = answer_holds digits error span found.0 p q (unsigned_abs r) wide scale few small pos holds may found.1 in
@@ -87,13 +91,16 @@ power_sum i j k h =
     let e : j + k - i + i ≡ j + k = omega arith in
     sym (pow-add 2 (j + k - i) i) ∙ ap (λ (n : ℕ). 2 ^ n) e ∙ pow-add 2 j k
 
-pub product_holds : (x y : Span) (m n : ℕ) → unit_bits ≤ x.scale + y.scale → Holds x m 1 → Holds y n 1 → Holds (span_product x y) (m * n) (2 ^ unit_bits)
+pub product_holds : (x y : Span) (m n : ℕ) → unit_bits ≤ x.scale + y.scale → Holds x m 1 → Holds y n 1
+    → Holds (span_product x y) (m * n) (2 ^ unit_bits)
 product_holds x y m n scale first second =
     let powers = power_sum unit_bits x.scale y.scale scale in
     let p = 2 ^ (x.scale + y.scale - unit_bits) in
     record {
-      above = product_below x.low y.low (2 ^ x.scale) (2 ^ y.scale) p (2 ^ unit_bits) m n powers (omega (arith, first.above)) (omega (arith, second.above));
-      below = product_above x.high y.high (2 ^ x.scale) (2 ^ y.scale) p (2 ^ unit_bits) m n powers (omega (arith, first.below)) (omega (arith, second.below));
+      above = product_below x.low y.low (2 ^ x.scale) (2 ^ y.scale) p (2 ^ unit_bits) m n powers
+          (omega (arith, first.above)) (omega (arith, second.above));
+      below = product_above x.high y.high (2 ^ x.scale) (2 ^ y.scale) p (2 ^ unit_bits) m n powers
+          (omega (arith, first.below)) (omega (arith, second.below));
     }
 
 -- a product of which one factor is 0
@@ -107,19 +114,24 @@ products_are_certain a b n x y r first second in_a in_b may e =
     let m = unsigned_abs x in
     let k = unsigned_abs y in
     let unit = pow_pos unit_bits in
-    let none = λ (h : (m ≡ 0) ⊎ (k ≡ 0)). answer_zero 24 30 (m * k) (2 ^ unit_bits) (unsigned_abs r) unit (no_product m k h) may.1 in
-    elim (known_branch (is_zero a || is_zero b) (Ok zero_number) (if nat_le unit_bits (a.span.scale + b.span.scale) then signed (times a.sign b.sign) (answer 24 30 (span_product a.span b.span)) else Err NotCertain) n e) [
+    let none = λ (h : (m ≡ 0) ⊎ (k ≡ 0)). answer_zero 24 30 (m * k) (2 ^ unit_bits) (unsigned_abs r) unit
+    (no_product m k h) may.1 in
+    elim (known_branch (is_zero a || is_zero b) (Ok zero_number) (if nat_le unit_bits (a.span.scale + b.span.scale)
+    then signed (times a.sign b.sign) (answer 24 30 (span_product a.span b.span)) else Err NotCertain) n e) [
       | inl zero ↦ zero_encloses n r zero.1 (elim (or_cases (is_zero a) (is_zero b) zero.0) [
         | inl is ↦ none (inl (none_in a x in_a is))
         | inr is ↦ none (inr (none_in b y in_b is))
       ])
       | inr more ↦
-          elim (known_branch (nat_le unit_bits (a.span.scale + b.span.scale)) (signed (times a.sign b.sign) (answer 24 30 (span_product a.span b.span))) (Err NotCertain) n more.1) [
+          elim (known_branch (nat_le unit_bits (a.span.scale + b.span.scale))
+          (signed (times a.sign b.sign) (answer 24 30 (span_product a.span b.span))) (Err NotCertain) n more.1) [
             | inl found ↦
                 let scale = leb-true unit_bits (a.span.scale + b.span.scale) found.0 in
-                let sign = product_sign a.sign b.sign x y r in_a.sign in_b.sign may.0 (λ (h : m ≡ 0). none (inl h)) (λ (h : k ≡ 0). none (inr h)) in
+                let sign = product_sign a.sign b.sign x y r in_a.sign in_b.sign may.0 (λ (h : m ≡ 0). none (inl h))
+                (λ (h : k ≡ 0). none (inr h)) in
                 signed_encloses (times a.sign b.sign) 24 30 (span_product a.span b.span) n (m * k) (2 ^ unit_bits) r
-                (product_wide a.span b.span first second) (omega (arith, first.scale, second.scale)) (omega arith) (omega arith) unit
+                (product_wide a.span b.span first second) (omega (arith, first.scale, second.scale)) (omega arith)
+                (omega arith) unit
                 (product_holds a.span b.span m k scale in_a.magnitude in_b.magnitude) may.1 sign found.1
             | inr none ↦ absurd (cc)
           ]
@@ -143,12 +155,14 @@ quotient_wide x y first second pos =
     let most = mul-le-mul_right {m = x.high} {n = 2 ^ 40} (2 ^ quotient_digits) first.high in
     let small = div-le_self (x.high * 2 ^ quotient_digits + (y.low - 1)) y.low in
     record {
-      ordered = quotient_order (x.low * 2 ^ quotient_digits) (x.high * 2 ^ quotient_digits) y.low y.high raised pos second.ordered;
+      ordered = quotient_order (x.low * 2 ^ quotient_digits) (x.high * 2 ^ quotient_digits) y.low y.high raised pos
+          second.ordered;
       high = omega (arith, second.high, second.ordered);
       scale = omega (arith, first.scale);
     }
 
-pub quotient_below : (c h a d v w p u x y : ℕ) → p * w * d ≡ v * u → c * h ≤ a * d → a * v ≤ x → y ≤ h * w → c * p * y ≤ x * u
+pub quotient_below : (c h a d v w p u x y : ℕ) → p * w * d ≡ v * u → c * h ≤ a * d → a * v ≤ x → y ≤ h * w
+    → c * p * y ≤ x * u
 quotient_below c h a d v w p u x y e whole first second =
     let most = mul-le-mul_left (c * p) second in
     let least = mul-le-mul_right {m = c * h} {n = a * d} (p * w) whole in
@@ -156,7 +170,8 @@ quotient_below c h a d v w p u x y e whole first second =
     let over = mul-le-mul_right {m = a * v} {n = x} u first in
     omega arith
 
-pub quotient_above : (c h a d v w p u x y : ℕ) → p * w * d ≡ v * u → a * d ≤ c * h → x ≤ a * v → h * w ≤ y → x * u ≤ c * p * y
+pub quotient_above : (c h a d v w p u x y : ℕ) → p * w * d ≡ v * u → a * d ≤ c * h → x ≤ a * v → h * w ≤ y
+    → x * u ≤ c * p * y
 quotient_above c h a d v w p u x y e whole first second =
     let least = mul-le-mul_left (c * p) second in
     let most = mul-le-mul_right {m = a * d} {n = c * h} (p * w) whole in
@@ -184,7 +199,8 @@ quotient_holds x y m n scale pos first second =
     record {
       above = quotient_below (x.low * d / y.high) y.high x.low d (2 ^ x.scale) (2 ^ y.scale) p u m n powers
           (div-mul-le_self (x.low * d) y.high) (omega (arith, first.above)) (omega (arith, second.below));
-      below = quotient_above ((x.high * d + (y.low - 1)) / y.low) y.low x.high d (2 ^ x.scale) (2 ^ y.scale) p u m n powers
+      below = quotient_above ((x.high * d + (y.low - 1)) / y.low) y.low x.high d (2 ^ x.scale) (2 ^ y.scale) p u m n
+          powers
           (ceiling_of (x.high * d) y.low pos) (omega (arith, first.below)) (omega (arith, second.above));
     }
 
@@ -197,22 +213,30 @@ unfolding quotient
 quotients_are_certain a b n x y r first second in_a in_b may e =
     let m = unsigned_abs x in
     let k = unsigned_abs y in
-    elim (known_branch (b.span.low == 0) (Err (if is_zero b then DivisionByZero else NotCertain)) (if is_zero a then Ok zero_number else if nat_le b.span.scale (a.span.scale + quotient_scale) then signed (times a.sign b.sign) (answer 32 31 (span_quotient a.span b.span)) else Err NotCertain) n e) [
+    elim (known_branch (b.span.low == 0) (Err (if is_zero b then DivisionByZero else NotCertain)) (if is_zero a
+    then Ok zero_number else if nat_le b.span.scale (a.span.scale + quotient_scale)
+    then signed (times a.sign b.sign) (answer 32 31 (span_quotient a.span b.span)) else Err NotCertain) n e) [
       | inl none ↦ absurd (cc)
       | inr some ↦
           let nonzero = eqb-false b.span.low 0 some.0 in
           let pos : 0 < b.span.low = omega arith in
           let divisor = divisor_positive b.span k pos in_b.magnitude in
-          let none = λ (h : m ≡ 0). answer_zero 32 31 (m * 2 ^ unit_bits) k (unsigned_abs r) divisor (no_product m (2 ^ unit_bits) (inl h)) may.1 in
-          elim (known_branch (is_zero a) (Ok zero_number) (if nat_le b.span.scale (a.span.scale + quotient_scale) then signed (times a.sign b.sign) (answer 32 31 (span_quotient a.span b.span)) else Err NotCertain) n some.1) [
+          let none = λ (h : m ≡ 0). answer_zero 32 31 (m * 2 ^ unit_bits) k (unsigned_abs r) divisor
+          (no_product m (2 ^ unit_bits) (inl h)) may.1 in
+          elim (known_branch (is_zero a) (Ok zero_number) (if nat_le b.span.scale (a.span.scale + quotient_scale)
+          then signed (times a.sign b.sign) (answer 32 31 (span_quotient a.span b.span)) else Err NotCertain) n some.1) [
             | inl zero ↦ zero_encloses n r zero.1 (none (none_in a x in_a zero.0))
             | inr more ↦
-                elim (known_branch (nat_le b.span.scale (a.span.scale + quotient_scale)) (signed (times a.sign b.sign) (answer 32 31 (span_quotient a.span b.span))) (Err NotCertain) n more.1) [
+                elim (known_branch (nat_le b.span.scale (a.span.scale + quotient_scale))
+                (signed (times a.sign b.sign) (answer 32 31 (span_quotient a.span b.span))) (Err NotCertain) n more.1) [
                   | inl found ↦
                       let scale = leb-true b.span.scale (a.span.scale + quotient_scale) found.0 in
-                      let sign = product_sign a.sign b.sign x y r in_a.sign in_b.sign may.0 none (λ (h : k ≡ 0). absurd (omega arith)) in
-                      signed_encloses (times a.sign b.sign) 32 31 (span_quotient a.span b.span) n (m * 2 ^ unit_bits) k r
-                      (quotient_wide a.span b.span first second pos) (omega (arith, first.scale)) (omega arith) (omega arith) divisor
+                      let sign = product_sign a.sign b.sign x y r in_a.sign in_b.sign may.0 none
+                      (λ (h : k ≡ 0). absurd (omega arith)) in
+                      signed_encloses (times a.sign b.sign) 32 31 (span_quotient a.span b.span) n (m * 2 ^ unit_bits) k
+                      r
+                      (quotient_wide a.span b.span first second pos) (omega (arith, first.scale)) (omega arith)
+                      (omega arith) divisor
                       (quotient_holds a.span b.span m k scale pos in_a.magnitude in_b.magnitude) may.1 sign found.1
                   | inr none ↦ absurd (cc)
                 ]

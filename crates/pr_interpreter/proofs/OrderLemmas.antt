@@ -1,4 +1,5 @@
-use Rattle.std.proofs.Common.{◌≡◌, ℕ, ◌*◌, ◌^◌, ◌<◌, ◌≤◌, ◌==◌, ℤ, pos, neg_ℤ, ◌+ℤ◌, Bool, true, false, nat_lt, if◌then◌else◌, arith, sym, subst, refl, inl, inr, unsigned_abs}
+use Rattle.std.proofs.Common.{◌≡◌, ℕ, ◌*◌, ◌^◌, ◌<◌, ◌≤◌, ◌==◌, ℤ, pos, neg_ℤ, ◌+ℤ◌, Bool, true, false, nat_lt}
+use Rattle.std.proofs.Common.{if◌then◌else◌, arith, sym, subst, refl, inl, inr, unsigned_abs}
 use Rattle.std.proofs.lemmas.Bool.{eq-eqb, lt-ltb, cases_eq}
 use Rattle.std.proofs.lemmas.Int.{ints}
 use Rattle.std.proofs.lemmas.Nat.{pow_pos}
@@ -46,7 +47,8 @@ high_some s m h least = elim (cases_eq s.high 0) [
 ]
 
 -- a value against 0
-pub against_zero_allows : (s : Sign) (t : Span) (z : ℤ) → HasSign s z → Holds t (unsigned_abs z) 1 → Allows (against_zero s t) z (pos 0)
+pub against_zero_allows : (s : Sign) (t : Span) (z : ℤ) → HasSign s z → Holds t (unsigned_abs z) 1
+    → Allows (against_zero s t) z (pos 0)
 against_zero_allows Plus t z sign h = record {
   less = λ k. absurd (omega (arith, ints));
   equal = λ e. low_none t (unsigned_abs z) h (omega (arith, ints));
@@ -71,7 +73,8 @@ by_difference o x y h = record {
   greater = λ k. h.greater (omega (arith, ints));
 }
 
-pub order_choice : (a b : Bool) (o p q : Order) (x y : ℤ) → (a ≡ true → Allows o x y) → (b ≡ true → Allows p x y) → Allows q x y
+pub order_choice : (a b : Bool) (o p q : Order) (x y : ℤ) → (a ≡ true → Allows o x y) → (b ≡ true → Allows p x y)
+    → Allows q x y
     → Allows (if a then o else if b then p else q) x y
 order_choice true b o p q x y h k m = h refl
 order_choice false true o p q x y h k m = k refl
@@ -88,11 +91,14 @@ orders_are_certain a b x y first second in_a in_b =
     let none = none_in b y in_b zero in
     let same : x +ℤ neg_ℤ y ≡ x = omega (arith, ints) in
     by_difference (against_zero a.sign a.span) x y
-    (subst (λ (z : ℤ). Allows (against_zero a.sign a.span) z (pos 0)) (sym same) (against_zero_allows a.sign a.span x in_a.sign in_a.magnitude)))
+    (subst (λ (z : ℤ). Allows (against_zero a.sign a.span) z (pos 0)) (sym same)
+    (against_zero_allows a.sign a.span x in_a.sign in_a.magnitude)))
     (λ (zero : is_zero a ≡ true).
     let none = none_in a x in_a zero in
     let same : x +ℤ neg_ℤ y ≡ neg_ℤ y = omega (arith, ints) in
     by_difference (against_zero (flip b.sign) b.span) x y
-    (subst (λ (z : ℤ). Allows (against_zero (flip b.sign) b.span) z (pos 0)) (sym same) (against_zero_allows (flip b.sign) b.span (neg_ℤ y) turned.sign turned.magnitude)))
+    (subst (λ (z : ℤ). Allows (against_zero (flip b.sign) b.span) z (pos 0)) (sym same)
+    (against_zero_allows (flip b.sign) b.span (neg_ℤ y) turned.sign turned.magnitude)))
     (by_difference (against_zero (exact_sum a (negated b)).sign (exact_sum a (negated b)).span) x y
-    (against_zero_allows (exact_sum a (negated b)).sign (exact_sum a (negated b)).span (x +ℤ neg_ℤ y) difference.sign difference.magnitude))
+    (against_zero_allows (exact_sum a (negated b)).sign (exact_sum a (negated b)).span (x +ℤ neg_ℤ y) difference.sign
+    difference.magnitude))

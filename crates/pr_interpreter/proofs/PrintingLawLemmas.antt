@@ -1,15 +1,19 @@
-use Rattle.std.proofs.Common.{◌≡◌, ◌≢◌, ℕ, ℤ, pos, ◌≤ℤ◌, zero, suc, ◌+◌, ◌-◌, ◌*◌, ◌/◌, ◌%◌, ◌^◌, ◌<◌, ◌≤◌, Bool, true, false, List, [], ◌∷◌, get_or, if◌then◌else◌, arith, sym, subst, refl, ap, ◌∙◌, inl, inr, unsigned_abs}
+use Rattle.std.proofs.Common.{◌≡◌, ◌≢◌, ℕ, ℤ, pos, ◌≤ℤ◌, zero, suc, ◌+◌, ◌-◌, ◌*◌, ◌/◌, ◌%◌, ◌^◌, ◌<◌, ◌≤◌, Bool, true}
+use Rattle.std.proofs.Common.{false, List, [], ◌∷◌, get_or, if◌then◌else◌, arith, sym, subst, refl, ap, ◌∙◌, inl, inr}
+use Rattle.std.proofs.Common.{unsigned_abs}
 use Rattle.std.proofs.lemmas.Bool.{ne_eqb, cases_lt}
 use Rattle.std.proofs.lemmas.Int.{ints}
 use Rattle.std.proofs.lemmas.Nat.{pow_pos, pow-add, le-div}
 use Rattle.std.proofs.Math.Arith.{mod-mul}
-use Rattle.std.proofs.Math.Nat.{add-sub_cancel_left, add-zero, div-div-eq-div-mul, div-mul-le_self, mul-div_cancel, mul-le-mul, mul-pos, one-le-pow, pow-le-pow_right, pow-suc}
+use Rattle.std.proofs.Math.Nat.{add-sub_cancel_left, add-zero, div-div-eq-div-mul, div-mul-le_self, mul-div_cancel}
+use Rattle.std.proofs.Math.Nat.{mul-le-mul, mul-pos, one-le-pow, pow-le-pow_right, pow-suc}
 use Rattle.pr_interpreter.specs.Machine.{unit_bits}
 use Rattle.pr_interpreter.specs.Spans.{Holds}
 use Rattle.pr_interpreter.specs.Numbers.{Known, Encloses, HasSign, whole_number}
 use Rattle.pr_interpreter.specs.Decimals.{HasDigits, HasCommon, IsDecimal, sign_of, sixteenths, ten_digits}
 use Rattle.pr_interpreter.specs.Printing.{digit, nine_digits, significant, pointed, digits_text}
-use Rattle.pr_interpreter.specs.PrintingLaws.{DigitsAreCertain, AreDigits, read_digits, Writes, ReadsBack, WholeNumbersReadBack}
+use Rattle.pr_interpreter.specs.PrintingLaws.{DigitsAreCertain, AreDigits, read_digits, Writes, ReadsBack}
+use Rattle.pr_interpreter.specs.PrintingLaws.{WholeNumbersReadBack}
 use Rattle.pr_interpreter.specs.declared.decimals.Digits.{Digits}
 use Rattle.pr_interpreter.specs.declared.decimals.Decimal.{Decimal}
 use Rattle.pr_interpreter.specs.declared.span.Span.{Span}

@@ -1,4 +1,5 @@
-use Rattle.std.proofs.Common.{◌≡◌, ◌⊎◌, inl, inr, ℕ, ◌+◌, ◌<◌, ◌≤◌, List, [], ◌∷◌, ◌++◌, length, drop, get_or, arith, sym, refl, ap, ◌∙◌, drop-cons, add-one, Result, Ok, Err}
+use Rattle.std.proofs.Common.{◌≡◌, inl, inr, ℕ, ◌+◌, ◌<◌, ◌≤◌, List, [], ◌∷◌, ◌++◌, length, drop, get_or}
+use Rattle.std.proofs.Common.{sym, refl, ap, ◌∙◌, drop-cons, add-one, Result, Ok}
 use Rattle.std.proofs.lemmas.List.{drop_all}
 use Rattle.pr_interpreter.specs.Faults.{FaultsAs}
 use Rattle.pr_interpreter.specs.Programs.{each_line, program_line}

@@ -1,4 +1,5 @@
-use Rattle.std.proofs.Common.{◌≡◌, ℕ, zero, suc, ◌+◌, ◌*◌, ◌^◌, ◌<◌, ◌≤◌, ◌==◌, ◌||◌, ◌⊎◌, Bool, true, false, nat_le, nat_lt, if◌then◌else◌, arith, refl, inl, inr, Result, Ok, Err}
+use Rattle.std.proofs.Common.{◌≡◌, ℕ, zero, suc, ◌+◌, ◌*◌, ◌^◌, ◌<◌, ◌≤◌, ◌==◌, ◌||◌, ◌⊎◌, Bool, true, false, nat_le}
+use Rattle.std.proofs.Common.{nat_lt, if◌then◌else◌, arith, refl, inl, inr, Result, Ok, Err}
 use Rattle.std.proofs.Math.Nat.{mul-lt-mul_of_pos_right, mul-le-mul_right, two-pow-succ}
 use Rattle.std.proofs.lemmas.Bool.{and_parts, or_cases, leb-true, ltb-true, eqb-true, cases_eq}
 use Rattle.std.proofs.lemmas.Nat.{pow_pos, pow-add}
@@ -10,7 +11,8 @@ use Rattle.pr_interpreter.specs.declared.fault.NumberFault.TheVariants.{NotCerta
 use Rattle.pr_interpreter.proofs.BitLemmas.{pow_order, bit_length_above, bit_length_below}
 
 -- an if that has a result took its first branch
-pub ok_first : (b : Bool) (s t : Span) (fault : NumberFault) → (if b then Ok s else Err fault) ≡ Ok t → (b ≡ true) × (s ≡ t)
+pub ok_first : (b : Bool) (s t : Span) (fault : NumberFault) → (if b then Ok s else Err fault) ≡ Ok t → (b ≡ true)
+    × (s ≡ t)
 ok_first true s t fault e = (refl, cc)
 ok_first false s t fault e = absurd (cc)
 
@@ -30,7 +32,8 @@ fits_below n k m wide fit =
     omega arith
 
 -- half of the power of 2 of a length
-half_of_length : (n length : ℕ) → 0 < n → n < 2 ^ length → 2 ^ length ≤ 2 * n + 1 → (j : ℕ) × (length ≡ suc j) × (2 ^ j ≤ n)
+half_of_length : (n length : ℕ) → 0 < n → n < 2 ^ length → 2 ^ length ≤ 2 * n + 1 → (j : ℕ) × (length ≡ suc j)
+    × (2 ^ j ≤ n)
 half_of_length n zero pos above below = absurd (omega arith)
 half_of_length n (suc j) pos above below = let double = two-pow-succ j in (j, refl, omega arith)
 
@@ -57,7 +60,8 @@ unfolding is_in_range
 in_range_facts s ordered high e =
     let wide : s.high < 2 ^ 128 = omega arith in
     let wide_low : s.low < 2 ^ 128 = omega arith in
-    let parts = and_parts (nat_le (bit_length s.high + s.scale) largest_bits) (s.low == 0 || nat_lt smallest_bits (bit_length s.low + s.scale)) e in
+    let parts = and_parts (nat_le (bit_length s.high + s.scale) largest_bits)
+    (s.low == 0 || nat_lt smallest_bits (bit_length s.low + s.scale)) e in
     let fit = leb-true (bit_length s.high + s.scale) largest_bits parts.0 in
     record {
       small = fits_below s.high s.scale largest_bits wide fit;
@@ -67,7 +71,8 @@ in_range_facts s ordered high e =
             let pos : 0 < s.low = omega arith in
             elim (or_cases (s.low == 0) (nat_lt smallest_bits (bit_length s.low + s.scale)) parts.1) [
               | inl none ↦ inl (eqb-true s.low 0 none)
-              | inr long ↦ inr (fits_above s.low s.scale smallest_bits pos wide_low (ltb-true smallest_bits (bit_length s.low + s.scale) long))
+              | inr long ↦ inr (fits_above s.low s.scale smallest_bits pos wide_low
+                  (ltb-true smallest_bits (bit_length s.low + s.scale) long))
             ]
       ];
       scale = omega arith;

@@ -1,5 +1,7 @@
 use Rattle.std.proofs.Common.{◌≡◌, ℕ, ◌<◌, List, [], ◌∷◌, ◌++◌, length, arith, sym, refl, ap, ◌∙◌, Option, Some, None}
-use Rattle.pr_interpreter.specs.Expressions.{Done, Refused, Stacks, Turn, bound, close_pending, close_turn, comma_pending, comma_turn, end_turn, settle, settled, with_node, with_waiting}
+use Rattle.pr_interpreter.specs.Expressions.{Done, Refused, Stacks, Turn, bound, close_pending, close_turn}
+use Rattle.pr_interpreter.specs.Expressions.{comma_pending, comma_turn, end_turn, settle, settled, with_node}
+use Rattle.pr_interpreter.specs.Expressions.{with_waiting}
 use Rattle.pr_interpreter.specs.declared.expressions.Node.TheVariants.{Apply}
 use Rattle.pr_interpreter.specs.declared.expressions.Operator.{Operator}
 use Rattle.pr_interpreter.specs.declared.expressions.Placed.{Placed}

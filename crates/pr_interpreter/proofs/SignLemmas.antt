@@ -1,4 +1,5 @@
-use Rattle.std.proofs.Common.{◌≡◌, ℕ, ◌+◌, ◌*◌, ◌^◌, ◌<◌, ◌≤◌, ◌⊎◌, ℤ, pos, negsuc, Bool, true, false, not, arith, sym, subst, refl, ap, inl, inr, unsigned_abs}
+use Rattle.std.proofs.Common.{◌≡◌, ℕ, ◌+◌, ◌*◌, ◌^◌, ◌<◌, ◌≤◌, ◌⊎◌, ℤ, pos, negsuc, Bool, true, false, not, arith, sym}
+use Rattle.std.proofs.Common.{subst, refl, ap, inl, inr, unsigned_abs}
 use Rattle.std.proofs.lemmas.Int.{ints}
 use Rattle.std.proofs.lemmas.Bool.{cases_eq}
 use Rattle.std.proofs.lemmas.Nat.{pow_pos}
@@ -43,7 +44,8 @@ times_shows Minus t a b e f = subst (λ (c : Bool). Shows (flip t) (differ c b))
 times_shows Either t a b e f = tt
 
 -- the sign of what is answered to a product
-pub product_sign : (s t : Sign) (x y r : ℤ) → HasSign s x → HasSign t y → SignedAs (differ (is_negative x) (is_negative y)) r
+pub product_sign : (s t : Sign) (x y r : ℤ) → HasSign s x → HasSign t y
+    → SignedAs (differ (is_negative x) (is_negative y)) r
     → (unsigned_abs x ≡ 0 → unsigned_abs r ≡ 0) → (unsigned_abs y ≡ 0 → unsigned_abs r ≡ 0) → HasSign (times s t) r
 product_sign s t x y r first second h first_zero second_zero =
     elim (sign_cases s x first) [

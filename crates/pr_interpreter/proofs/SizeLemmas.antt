@@ -1,12 +1,15 @@
-use Rattle.std.proofs.Common.{◌≡◌, ℕ, ◌+◌, ◌<◌, ◌≤◌, Bool, true, false, List, [], ◌∷◌, arith, ap, ◌==◌, Result, Ok, Err, if◌then◌else◌}
-use Rattle.pr_interpreter.specs.Expressions.{Done, Next, Refused, Stacks, Turn, after_turn, expression, function_turn, is_function, nothing, operand_code, reading, turn, with_waiting}
+use Rattle.std.proofs.Common.{◌≡◌, ℕ, ◌+◌, ◌<◌, ◌≤◌, Bool, true, false, List, [], ◌∷◌, arith, ap, ◌==◌, Result, Ok, Err}
+use Rattle.std.proofs.Common.{if◌then◌else◌}
+use Rattle.pr_interpreter.specs.Expressions.{Done, Next, Refused, Stacks, Turn, after_turn, expression, function_turn}
+use Rattle.pr_interpreter.specs.Expressions.{is_function, nothing, operand_code, reading, turn, with_waiting}
 use Rattle.pr_interpreter.specs.declared.expressions.Callee.TheVariants.{Function}
 use Rattle.pr_interpreter.specs.declared.expressions.Operator.TheVariants.{Negate, Not}
 use Rattle.pr_interpreter.specs.declared.expressions.Placed.{Placed}
 use Rattle.pr_interpreter.specs.declared.fault.ProgramFault.{ProgramFault}
 use Rattle.pr_interpreter.specs.declared.lexemes.Lexeme.{Lexeme}
 use Rattle.pr_interpreter.specs.declared.lexemes.Word.{Word}
-use Rattle.pr_interpreter.specs.declared.lexemes.Word.TheVariants.{Code, Comparison, Constant, Items, Named, Remark, Text}
+use Rattle.pr_interpreter.specs.declared.lexemes.Word.TheVariants.{Code, Comparison, Constant, Items, Named, Remark}
+use Rattle.pr_interpreter.specs.declared.lexemes.Word.TheVariants.{Text}
 use Rattle.pr_interpreter.specs.declared.reader.Expected.{Expected}
 use Rattle.pr_interpreter.specs.declared.reader.Expected.TheVariants.{Opening, Operand, OwnName}
 use Rattle.pr_interpreter.specs.declared.reader.Pending.TheVariants.{Applies, Group}

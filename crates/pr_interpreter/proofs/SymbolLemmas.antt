@@ -1,4 +1,6 @@
-use Rattle.std.proofs.Common.{◌≡◌, ℕ, zero, suc, ◌+◌, ◌-◌, ◌<◌, ◌≤◌, ◌==◌, ◌&&◌, Bool, true, false, List, [], ◌∷◌, ◌++◌, length, drop, get_or, arith, sym, refl, ap, ◌∙◌, drop-cons, add-one, append_assoc, append-nil, eq-eqb, Option, Some, None}
+use Rattle.std.proofs.Common.{◌≡◌, ℕ, zero, suc, ◌+◌, ◌-◌, ◌<◌, ◌≤◌, ◌==◌, ◌&&◌, Bool, true, false, List, [], ◌∷◌, ◌++◌}
+use Rattle.std.proofs.Common.{length, drop, get_or, arith, sym, refl, ap, ◌∙◌, drop-cons, add-one, append_assoc}
+use Rattle.std.proofs.Common.{append-nil, eq-eqb, Option, Some, None}
 use Rattle.std.proofs.lemmas.List.{drop-drop, drop_all}
 use Rattle.std.proofs.lemmas.Bool.{false≢true, le-leb, ne_eqb}
 use Rattle.std.specs.Char.{to_ascii_uppercase}
@@ -24,7 +26,8 @@ pub begins_short : (ws bs : List ℕ) → length bs < length ws → begins ws bs
 begins_short [] bs h = absurd (omega arith)
 begins_short (w ∷ ws) [] h = refl
 begins_short (w ∷ ws) (b ∷ bs) h =
-    let less : length bs < length ws = omega arith in rw (begins_short ws bs less) (and_none (to_ascii_uppercase b == w))
+    let less : length bs < length ws = omega arith in rw (begins_short ws bs less)
+    (and_none (to_ascii_uppercase b == w))
 
 -- a byte that differs ends the search
 pub begins_fails : (ws bs : List ℕ) (i r : ℕ) → i < length ws → i < length bs
@@ -95,7 +98,8 @@ pub token_is : (token : ℕ) (word text : List ℕ) (b : Bool) (whole : Option �
     → Some (record { token = token; size = length word }) ≡ spelled whole
 token_is token word text b whole h e test is all =
     let named = in_table token word h e in
-    let front : begins (keyword_of token) text ≡ true = ap (λ (ws : List ℕ). begins ws text) (sym named) ∙ (sym test ∙ is) in
+    let front : begins (keyword_of token) text ≡ true = ap (λ (ws : List ℕ). begins ws text) (sym named)
+    ∙ (sym test ∙ is) in
     ap (λ (ws : List ℕ). spelled_as token (length ws)) named ∙ ap spelled (sym (token_found token text h front) ∙ all)
 
 -- or to one whose word is not

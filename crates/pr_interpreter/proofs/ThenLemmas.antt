@@ -1,6 +1,6 @@
-use Rattle.std.proofs.Common.{◌≡◌, ◌⊎◌, inl, inr, ℕ, ◌+◌, List, drop, refl, sym, ◌∙◌, Result, Ok, Err}
+use Rattle.std.proofs.Common.{◌≡◌, inl, inr, ℕ, ◌+◌, List, drop, refl, Ok, Err}
 use Rattle.pr_interpreter.specs.Faults.{FaultsAs}
-use Rattle.pr_interpreter.specs.Reading.{Read, and_then, longer, made}
+use Rattle.pr_interpreter.specs.Reading.{Read, and_then}
 use Rattle.pr_interpreter.specs.declared.fault.ProgramFault.{ProgramFault}
 use Rattle.pr_interpreter.specs.declared.lexemes.Lexeme.{Lexeme}
 

@@ -1,8 +1,11 @@
-use Rattle.std.proofs.Common.{◌≡◌, ℕ, zero, suc, ◌+◌, ◌-◌, ◌*◌, ◌/◌, ◌^◌, ◌<◌, ◌≤◌, ◌==◌, ℤ, pos, ◌≤ℤ◌, Bool, true, false, nat_le, nat_lt, min, if◌then◌else◌, arith, sym, subst, refl, ap, ◌∙◌, inl, inr, unsigned_abs, Option, Some, None}
+use Rattle.std.proofs.Common.{◌≡◌, ℕ, zero, suc, ◌+◌, ◌-◌, ◌*◌, ◌/◌, ◌^◌, ◌<◌, ◌≤◌, ◌==◌, ℤ, pos, ◌≤ℤ◌, Bool, true}
+use Rattle.std.proofs.Common.{false, nat_le, nat_lt, min, if◌then◌else◌, arith, sym, subst, refl, ap, ◌∙◌, inl, inr}
+use Rattle.std.proofs.Common.{unsigned_abs, Option, Some, None}
 use Rattle.std.proofs.lemmas.Bool.{eqb-true, lt-ltb, cases_lt}
 use Rattle.std.proofs.lemmas.Int.{ints}
 use Rattle.std.proofs.lemmas.Nat.{pow_pos, pow-add, div-mul-add}
-use Rattle.std.proofs.Math.Nat.{div-mul-le_self, lt-div-mul-add, mul-div_cancel, mul-div-mul_right, div-eq_of_lt, div-div-eq-div-mul, add-div_right, mul-pos}
+use Rattle.std.proofs.Math.Nat.{div-mul-le_self, lt-div-mul-add, mul-div_cancel, mul-div-mul_right, div-eq_of_lt}
+use Rattle.std.proofs.Math.Nat.{div-div-eq-div-mul, add-div_right, mul-pos}
 use Rattle.pr_interpreter.specs.Machine.{unit_bits}
 use Rattle.pr_interpreter.specs.Spans.{Holds, bit_length}
 use Rattle.pr_interpreter.specs.Numbers.{HasSign, floor_of, ceiling_of, whole_of, floor}
@@ -68,7 +71,8 @@ ceiling_bounds low high m p u positive above below e =
     (omega arith, omega arith)
 
 -- ends without a fraction are their own whole part
-pub ceiling_up : (n scale unit : ℕ) → unit ≤ scale → n * 2 ^ (scale - unit) ≡ (n * 2 ^ scale + (2 ^ unit - 1)) / 2 ^ unit
+pub ceiling_up : (n scale unit : ℕ) → unit ≤ scale → n * 2 ^ (scale - unit)
+    ≡ (n * 2 ^ scale + (2 ^ unit - 1)) / 2 ^ unit
 ceiling_up n scale unit h =
     let rest : 2 ^ unit - 1 < 2 ^ unit = omega (arith, pow_pos unit) in
     let cancel = div-mul-add (n * 2 ^ (scale - unit)) (2 ^ unit) (2 ^ unit - 1) rest in
@@ -84,14 +88,17 @@ ceiling_step m p k small large =
     let order : k * p ≡ p * k = omega arith in
     ap (λ (t : ℕ). t / (k * p)) e
     ∙ add-div_right (m * p + (p - 1)) unit
-    ∙ ap (λ (t : ℕ). t + 1) (ap (λ (t : ℕ). (m * p + (p - 1)) / t) order ∙ sym (div-div-eq-div-mul (m * p + (p - 1)) p k) ∙ ap (λ (t : ℕ). t / k) inner)
+    ∙ ap (λ (t : ℕ). t + 1) (ap (λ (t : ℕ). (m * p + (p - 1)) / t) order
+    ∙ sym (div-div-eq-div-mul (m * p + (p - 1)) p k) ∙ ap (λ (t : ℕ). t / k) inner)
 
-pub ceiling_down : (n scale unit : ℕ) → scale ≤ unit → 0 < n → (n - 1) / 2 ^ (unit - scale) + 1 ≡ (n * 2 ^ scale + (2 ^ unit - 1)) / 2 ^ unit
+pub ceiling_down : (n scale unit : ℕ) → scale ≤ unit → 0 < n → (n - 1) / 2 ^ (unit - scale) + 1
+    ≡ (n * 2 ^ scale + (2 ^ unit - 1)) / 2 ^ unit
 ceiling_down n scale unit h some =
     let parts = unit_parts scale unit h in
     let e : n - 1 + 1 ≡ n = omega arith in
     let step = ceiling_step (n - 1) (2 ^ scale) (2 ^ (unit - scale)) (pow_pos scale) (pow_pos (unit - scale)) in
-    rw parts (sym step ∙ ap (λ (t : ℕ). (t * 2 ^ scale + (2 ^ (unit - scale) * 2 ^ scale - 1)) / (2 ^ (unit - scale) * 2 ^ scale)) e)
+    rw parts (sym step ∙ ap (λ (t : ℕ). (t * 2 ^ scale + (2 ^ (unit - scale) * 2 ^ scale - 1)) /
+    (2 ^ (unit - scale) * 2 ^ scale)) e)
 
 pub ceiling_none : (scale unit : ℕ) → 0 ≡ (0 * 2 ^ scale + (2 ^ unit - 1)) / 2 ^ unit
 ceiling_none scale unit =
@@ -102,32 +109,40 @@ some_if true w v e = (refl, cc)
 some_if false w v e = absurd (cc)
 
 -- a whole number that is not above 0
-pub floor_below : (c : ℕ) (x : ℤ) → x ≤ℤ pos 0 → unsigned_abs x ≤ c * 2 ^ unit_bits → c * 2 ^ unit_bits < unsigned_abs x + 2 ^ unit_bits
+pub floor_below : (c : ℕ) (x : ℤ) → x ≤ℤ pos 0 → unsigned_abs x ≤ c * 2 ^ unit_bits
+    → c * 2 ^ unit_bits < unsigned_abs x + 2 ^ unit_bits
     → IsFloorFor (nat_lt 0 c) c x
 floor_below zero x sign above below = (omega (arith, ints), omega arith, omega arith)
 floor_below (suc d) x sign above below =
     let some : 0 < suc d = omega arith in
     subst (λ (b : Bool). IsFloorFor b (suc d) x) (sym (lt-ltb 0 (suc d) some)) (sign, above, below)
 
-pub whole_is : (s : Sign) (t : Span) (x : ℤ) (w : Whole) → HasSign s x → Holds t (unsigned_abs x) 1 → whole_of s t ≡ Some w
+pub whole_is : (s : Sign) (t : Span) (x : ℤ) (w : Whole) → HasSign s x → Holds t (unsigned_abs x) 1 → whole_of s t
+    ≡ Some w
     → IsFloorFor w.negative w.magnitude x
 unfolding floor_of ceiling_of
 whole_is Plus t x w sign h e =
-    let found = some_if (floor_of t.low t.scale == floor_of t.high t.scale) (record { negative = false; magnitude = floor_of t.low t.scale }) w e in
+    let found = some_if (floor_of t.low t.scale == floor_of t.high t.scale)
+    (record { negative = false; magnitude = floor_of t.low t.scale }) w e in
     let same = eqb-true (floor_of t.low t.scale) (floor_of t.high t.scale) found.0 in
-    let bounds = floor_bounds t.low t.high (unsigned_abs x) (2 ^ t.scale) (2 ^ unit_bits) (pow_pos unit_bits) h.above h.below same in
+    let bounds = floor_bounds t.low t.high (unsigned_abs x) (2 ^ t.scale) (2 ^ unit_bits) (pow_pos unit_bits) h.above
+    h.below same in
     subst (λ (v : Whole). IsFloorFor v.negative v.magnitude x) found.1 (sign, bounds.0, bounds.1)
 whole_is Minus t x w sign h e =
-    let found = some_if (ceiling_of t.low t.scale == ceiling_of t.high t.scale) (record { negative = nat_lt 0 (ceiling_of t.low t.scale); magnitude = ceiling_of t.low t.scale }) w e in
+    let found = some_if (ceiling_of t.low t.scale == ceiling_of t.high t.scale)
+    (record { negative = nat_lt 0 (ceiling_of t.low t.scale); magnitude = ceiling_of t.low t.scale }) w e in
     let same = eqb-true (ceiling_of t.low t.scale) (ceiling_of t.high t.scale) found.0 in
-    let bounds = ceiling_bounds t.low t.high (unsigned_abs x) (2 ^ t.scale) (2 ^ unit_bits) (pow_pos unit_bits) h.above h.below same in
-    subst (λ (v : Whole). IsFloorFor v.negative v.magnitude x) found.1 (floor_below (ceiling_of t.low t.scale) x sign bounds.0 bounds.1)
+    let bounds = ceiling_bounds t.low t.high (unsigned_abs x) (2 ^ t.scale) (2 ^ unit_bits) (pow_pos unit_bits) h.above
+    h.below same in
+    subst (λ (v : Whole). IsFloorFor v.negative v.magnitude x) found.1
+    (floor_below (ceiling_of t.low t.scale) x sign bounds.0 bounds.1)
 whole_is Either t x w sign h e =
     let found = some_if (t.high == 0) (record { negative = false; magnitude = 0 }) w e in
     let none = eqb-true t.high 0 found.0 in
     let below = subst (λ (k : ℕ). unsigned_abs x ≤ k * 2 ^ t.scale * 1) none h.below in
     let size : unsigned_abs x ≡ 0 = omega arith in
-    subst (λ (v : Whole). IsFloorFor v.negative v.magnitude x) found.1 (omega (arith, ints), omega arith, omega (arith, pow_pos unit_bits))
+    subst (λ (v : Whole). IsFloorFor v.negative v.magnitude x) found.1
+    (omega (arith, ints), omega arith, omega (arith, pow_pos unit_bits))
 
 pub whole_if : (b : Bool) (o : Option Whole) (w : Whole) → (if b then o else None) ≡ Some w → o ≡ Some w
 whole_if true o w e = e
@@ -136,4 +151,5 @@ whole_if false o w e = absurd (cc)
 pub wholes_are_certain : WholesAreCertain
 unfolding floor
 wholes_are_certain a x w h e =
-    whole_is a.sign a.span x w h.sign h.magnitude (whole_if (nat_le (bit_length a.span.high + a.span.scale) (unit_bits + 40)) (whole_of a.sign a.span) w e)
+    whole_is a.sign a.span x w h.sign h.magnitude (whole_if (nat_le (bit_length a.span.high + a.span.scale)
+    (unit_bits + 40)) (whole_of a.sign a.span) w e)

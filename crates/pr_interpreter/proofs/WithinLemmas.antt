@@ -1,12 +1,17 @@
-use Rattle.std.proofs.Common.{◌≡◌, ℕ, zero, suc, ◌+◌, ◌-◌, ◌<◌, ◌≤◌, ◌==◌, Bool, true, false, List, [], ◌∷◌, length, take, drop, get_or, arith, subst, refl, ap, ◌∙◌, Option, Some, None, Result, Ok, Err, inl, inr, length-drop}
+use Rattle.std.proofs.Common.{◌≡◌, ℕ, zero, suc, ◌+◌, ◌-◌, ◌<◌, ◌≤◌, ◌==◌, Bool, true, false, List, [], ◌∷◌, length}
+use Rattle.std.proofs.Common.{take, drop, get_or, arith, subst, refl, ap, ◌∙◌, Option, Some, None, Result, Ok, Err, inl}
+use Rattle.std.proofs.Common.{inr, length-drop, sym}
 use Rattle.std.specs.Prelude.{if◌then◌else◌, nat_lt, not, slice_range}
-use Rattle.std.specs.List.{insert, position_or_len}
+use Rattle.std.specs.List.{insert}
 use Rattle.std.proofs.lemmas.Bool.Decides.{eqb_tells}
 use Rattle.std.proofs.lemmas.List.{length-take-le}
 use Rattle.std.proofs.lemmas.List.Sums.{prefix_len-le-length}
-use Rattle.pr_interpreter.specs.Lines.{Row, after_row, after_rows, after_rest, blanks, ends_row, enter, entered, front, go_on, is_text, line_in, line_number, others, place_for, program_lines, rows_from}
+use Rattle.pr_interpreter.specs.Lines.{Row, after_row, after_rows, after_rest, blanks, ends_row, enter, entered, front}
+use Rattle.pr_interpreter.specs.Lines.{is_text, line_in, line_number, others, place_for, program_lines}
+use Rattle.pr_interpreter.specs.Lines.{rows_from}
 use Rattle.pr_interpreter.specs.LineLaws.{AreWithin, IsWithin}
 use Rattle.pr_interpreter.proofs.LineLawLemmas.{lines_ok, went_on}
+use Rattle.pr_interpreter.proofs.LineLemmas.{last_taken}
 use Rattle.pr_interpreter.specs.declared.lines.Line.{Line}
 use Rattle.pr_interpreter.specs.declared.fault.ProgramFault.{ProgramFault}
 use Rattle.pr_interpreter.specs.declared.fault.ProgramFault.TheVariants.{LargeLineNumber, NoLineNumber}
@@ -133,6 +138,15 @@ unfolding program_lines after_rest
 lines_within text lines e =
     let inside = rows_within (length text) 0 0 text (omega arith) (omega arith) in
     after_rows_within text (rows_from 0 0 text) [] lines inside tt e
+
+-- the lines after the last row
+pub last_within : (text : List ℕ) (start place : ℕ) (lines more : List Line) → place ≡ length text
+    → after_row text start (length text) lines ≡ lines_ok more → after_rest text start place lines ≡ program_lines text
+    → AreWithin (length text) more
+last_within text start place lines more e done all =
+    let most : length text ≤ place = omega arith in
+    let same = ap (λ (n : ℕ). after_row text start n lines) e in
+    lines_within text more (sym all ∙ last_taken text start place lines more most (same ∙ done))
 
 -- a line is where the program is
 pub within_at : (size : ℕ) (xs : List Line) (i : ℕ) (d : Line) → AreWithin size xs → i < length xs

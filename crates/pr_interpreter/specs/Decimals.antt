@@ -1,6 +1,7 @@
 -- Trusted: the nine digits that BASIC prints of a number.
 -- A digit's place is a power of ten, counted from 10 ^ -37: at place 37 are the ones, at place 38 the tens.
-use Rattle.std.specs.Prelude.{ℕ, ◌+◌, ◌-◌, ◌*◌, ◌/◌, ◌^◌, ◌<◌, ◌≤◌, ◌≡◌, ◌≢◌, ◌==◌, ◌&&◌, zero, suc, Bool, true, false, nat_lt, if◌then◌else◌, Option, Some, None}
+use Rattle.std.specs.Prelude.{ℕ, ◌+◌, ◌-◌, ◌*◌, ◌/◌, ◌^◌, ◌<◌, ◌≤◌, ◌≡◌, ◌≢◌, ◌==◌, ◌&&◌, zero, suc, Bool, true, false}
+use Rattle.std.specs.Prelude.{nat_lt, if◌then◌else◌, Option, Some, None}
 use Rattle.pr_interpreter.specs.declared.decimals.Digits.{Digits}
 use Rattle.pr_interpreter.specs.declared.decimals.Decimal.{Decimal}
 use Rattle.pr_interpreter.specs.declared.span.Span.{Span}

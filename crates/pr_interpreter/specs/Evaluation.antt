@@ -1,14 +1,18 @@
 -- Trusted: the value of an expression. Its nodes are worked out from left to right: each takes the last of what was
 -- given before it, and gives something itself. What stops an operand stops what takes it, in the order in which the
 -- machine looks at its operands.
-use Rattle.std.specs.Prelude.{ℕ, zero, suc, ◌+◌, ◌-◌, ◌*◌, ◌^◌, ◌==◌, ◌&&◌, ◌||◌, Bool, true, false, not, List, [], ◌∷◌, ◌++◌, length, take, drop, count_by, slice_index_or, slice_range, nat_le, nat_lt, if◌then◌else◌, Option, Some, None, Result, Ok, Err}
-use Rattle.pr_interpreter.specs.declared.evaluation.Given.{Given}
-use Rattle.pr_interpreter.specs.declared.evaluation.Given.TheVariants.{Kept, Made, Number, Stopped}
+use Rattle.std.specs.Prelude.{ℕ, zero, suc, ◌+◌, ◌-◌, ◌*◌, ◌^◌, ◌==◌, ◌&&◌, ◌||◌, Bool, true, false, not, List, [], ◌∷◌}
+use Rattle.std.specs.Prelude.{◌++◌, length, take, drop, count_by, slice_index_or, slice_range, nat_le, nat_lt}
+use Rattle.std.specs.Prelude.{if◌then◌else◌, Option, Some, None, Result, Ok, Err}
+use Rattle.pr_interpreter.specs.declared.given.Given.{Given}
+use Rattle.pr_interpreter.specs.declared.given.Given.TheVariants.{Kept, Made, Number, Stopped}
 use Rattle.pr_interpreter.specs.declared.expressions.Callee.TheVariants.{Array as Element, Function as Builtin, Own}
 use Rattle.pr_interpreter.specs.declared.expressions.Node.{Node}
-use Rattle.pr_interpreter.specs.declared.expressions.Node.TheVariants.{Apply, Call, Number as Constant, Text as Quoted, Variable as Named}
+use Rattle.pr_interpreter.specs.declared.expressions.Node.TheVariants.{Apply, Call, Number as Constant, Text as Quoted}
+use Rattle.pr_interpreter.specs.declared.expressions.Node.TheVariants.{Variable as Named}
 use Rattle.pr_interpreter.specs.declared.expressions.Operator.{Operator}
-use Rattle.pr_interpreter.specs.declared.expressions.Operator.TheVariants.{And, Compare, Minus, Negate, Not, Or, Over, Plus, Power, Times}
+use Rattle.pr_interpreter.specs.declared.expressions.Operator.TheVariants.{And, Compare, Minus, Negate, Not, Or, Over}
+use Rattle.pr_interpreter.specs.declared.expressions.Operator.TheVariants.{Plus, Power, Times}
 use Rattle.pr_interpreter.specs.declared.expressions.Placed.{Placed}
 use Rattle.pr_interpreter.specs.declared.memory.Array.{Array}
 use Rattle.pr_interpreter.specs.declared.memory.Arrays.{Arrays}
@@ -16,17 +20,21 @@ use Rattle.pr_interpreter.specs.declared.memory.Function.{Function}
 use Rattle.pr_interpreter.specs.declared.memory.Parameter.{Parameter}
 use Rattle.pr_interpreter.specs.declared.memory.Variable.{Variable}
 use Rattle.pr_interpreter.specs.declared.names.Name.{Name}
-use Rattle.pr_interpreter.specs.declared.values.BasicError.TheVariants.{BadSubscript, FormulaTooComplex, Syntax, TypeMismatch, UndefinedFunction}
+use Rattle.pr_interpreter.specs.declared.values.BasicError.TheVariants.{BadSubscript, FormulaTooComplex, Syntax}
+use Rattle.pr_interpreter.specs.declared.values.BasicError.TheVariants.{TypeMismatch, UndefinedFunction}
 use Rattle.pr_interpreter.specs.declared.values.Halt.{Halt}
 use Rattle.pr_interpreter.specs.declared.values.Halt.TheVariants.{Error, NotCertain, NotTaken, OutOfMemory}
 use Rattle.pr_interpreter.specs.declared.values.Stop.{Stop}
-use Rattle.pr_interpreter.specs.declared.values.Stop.TheVariants.{Error as Reported, NotCertain as Uncertain, OutOfMemory as NoMemory}
+use Rattle.pr_interpreter.specs.declared.values.Stop.TheVariants.{Error as Reported, NotCertain as Uncertain}
+use Rattle.pr_interpreter.specs.declared.values.Stop.TheVariants.{OutOfMemory as NoMemory}
 use Rattle.pr_interpreter.specs.declared.values.Value.{Value}
 use Rattle.pr_interpreter.specs.declared.values.Value.TheVariants.{Number as NumberValue, Text as TextValue}
 use Rattle.pr_interpreter.specs.Constants.{value_of}
 use Rattle.pr_interpreter.specs.ExpressionLaws.{operands}
-use Rattle.pr_interpreter.specs.Functions.{character, first_byte, integer_part, length_of, middle, number_at_front, number_text, part_of, sign_number, square_root, whole_to, with_whole}
-use Rattle.pr_interpreter.specs.Memory.{array_of, element_at, element_bytes, function_of, is_clock, is_status, parameter, parameter_of, place_of, undimensioned, variable_value, with_array}
+use Rattle.pr_interpreter.specs.Functions.{character, first_byte, integer_part, length_of, middle, number_at_front}
+use Rattle.pr_interpreter.specs.Functions.{number_text, part_of, sign_number, square_root, whole_to, with_whole}
+use Rattle.pr_interpreter.specs.Memory.{array_of, element_at, element_bytes, function_of, is_clock, is_status}
+use Rattle.pr_interpreter.specs.Memory.{parameter, parameter_of, place_of, undimensioned, variable_value, with_array}
 use Rattle.pr_interpreter.specs.Numbers.{Known, absolute, order_of, whole_number, zero_number}
 use Rattle.pr_interpreter.specs.Values.{calculated, of_numbers, of_texts}
 

@@ -1,9 +1,11 @@
--- What is certain of expressions: worked out from left to right, their nodes find the values that they take, and leave one.
+-- What is certain of expressions: worked out from left to right, their nodes find the values that they take, and
+-- leave one.
 use Rattle.std.specs.Prelude.{ℕ, ◌+◌, ◌-◌, ◌≡◌, List, [], ◌∷◌, nat_le, if◌then◌else◌, Option, Some, None, Ok}
 use Rattle.pr_interpreter.specs.declared.expressions.Node.{Node}
 use Rattle.pr_interpreter.specs.declared.expressions.Node.TheVariants.{Apply, Call, Number, Text, Variable}
 use Rattle.pr_interpreter.specs.declared.expressions.Operator.{Operator}
-use Rattle.pr_interpreter.specs.declared.expressions.Operator.TheVariants.{And, Compare, Minus, Negate, Not, Or, Over, Plus, Power, Times}
+use Rattle.pr_interpreter.specs.declared.expressions.Operator.TheVariants.{And, Compare, Minus, Negate, Not, Or, Over}
+use Rattle.pr_interpreter.specs.declared.expressions.Operator.TheVariants.{Plus, Power, Times}
 use Rattle.pr_interpreter.specs.declared.expressions.Placed.{Placed}
 use Rattle.pr_interpreter.specs.declared.lexemes.Lexeme.{Lexeme}
 use Rattle.pr_interpreter.specs.Expressions.{expression}

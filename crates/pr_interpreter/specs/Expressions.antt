@@ -1,19 +1,22 @@
 -- Trusted: how an expression is read from lexemes. Its nodes come in the order in which the machine works them out:
 -- operands before what takes them. As the machine does, the reader keeps what waits for its operands to end: operators,
 -- parentheses and calls, the last first.
-use Rattle.std.specs.Prelude.{ℕ, ◌+◌, ◌==◌, ◌&&◌, Bool, false, List, [], ◌∷◌, ◌++◌, nat_le, nat_lt, if◌then◌else◌, Option, Some, None, Result, Ok, Err}
+use Rattle.std.specs.Prelude.{ℕ, ◌+◌, ◌==◌, ◌&&◌, Bool, false, List, [], ◌∷◌, ◌++◌, nat_le, nat_lt, if◌then◌else◌}
+use Rattle.std.specs.Prelude.{Option, Some, None, Result, Ok, Err}
 use Rattle.pr_interpreter.specs.declared.expressions.Callee.{Callee}
 use Rattle.pr_interpreter.specs.declared.expressions.Callee.TheVariants.{Array, Function, Own}
 use Rattle.pr_interpreter.specs.declared.expressions.Node.{Node}
 use Rattle.pr_interpreter.specs.declared.expressions.Node.TheVariants.{Apply, Call, Number, Text, Variable}
 use Rattle.pr_interpreter.specs.declared.expressions.Operator.{Operator}
-use Rattle.pr_interpreter.specs.declared.expressions.Operator.TheVariants.{And, Compare, Minus, Negate, Not, Or, Over, Plus, Power, Times}
+use Rattle.pr_interpreter.specs.declared.expressions.Operator.TheVariants.{And, Compare, Minus, Negate, Not, Or, Over}
+use Rattle.pr_interpreter.specs.declared.expressions.Operator.TheVariants.{Plus, Power, Times}
 use Rattle.pr_interpreter.specs.declared.expressions.Placed.{Placed}
 use Rattle.pr_interpreter.specs.declared.fault.ProgramFault.{ProgramFault}
 use Rattle.pr_interpreter.specs.declared.fault.ProgramFault.TheVariants.{NoExpression}
 use Rattle.pr_interpreter.specs.declared.lexemes.Lexeme.{Lexeme}
 use Rattle.pr_interpreter.specs.declared.lexemes.Word.{Word}
-use Rattle.pr_interpreter.specs.declared.lexemes.Word.TheVariants.{Code, Comparison, Constant, Items, Named, Remark, Text as Quoted}
+use Rattle.pr_interpreter.specs.declared.lexemes.Word.TheVariants.{Code, Comparison, Constant, Items, Named, Remark}
+use Rattle.pr_interpreter.specs.declared.lexemes.Word.TheVariants.{Text as Quoted}
 use Rattle.pr_interpreter.specs.declared.names.Name.{Name}
 use Rattle.pr_interpreter.specs.declared.reader.Expected.{Expected}
 use Rattle.pr_interpreter.specs.declared.reader.Expected.TheVariants.{NameEnd, Opening, Operand, OperandEnd, OwnName}

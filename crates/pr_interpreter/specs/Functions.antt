@@ -1,9 +1,12 @@
 -- Trusted: the functions of BASIC.
-use Rattle.std.specs.Prelude.{ℕ, ◌+◌, ◌-◌, ◌*◌, ◌/◌, ◌^◌, ◌==◌, ◌&&◌, ◌||◌, Bool, true, false, not, List, [], ◌∷◌, length, take, drop, map, nat_le, nat_lt, if◌then◌else◌, Option, Some, None, Result, Ok, Err}
+use Rattle.std.specs.Prelude.{ℕ, ◌+◌, ◌-◌, ◌^◌, ◌==◌, ◌&&◌, ◌||◌, Bool, true, false, not, List, [], ◌∷◌}
+use Rattle.std.specs.Prelude.{length, take, drop, map, nat_le, nat_lt, if◌then◌else◌, Option, Some, None, Result, Ok}
+use Rattle.std.specs.Prelude.{Err}
 use Rattle.std.specs.List.{filter}
 use Rattle.pr_interpreter.specs.declared.decimals.Decimal.{Decimal}
 use Rattle.pr_interpreter.specs.declared.lexemes.Word.{Word}
-use Rattle.pr_interpreter.specs.declared.lexemes.Word.TheVariants.{Code, Comparison, Constant, Items, Named, Remark, Text}
+use Rattle.pr_interpreter.specs.declared.lexemes.Word.TheVariants.{Code, Comparison, Constant, Items, Named, Remark}
+use Rattle.pr_interpreter.specs.declared.lexemes.Word.TheVariants.{Text}
 use Rattle.pr_interpreter.specs.declared.orders.Order.{Order}
 use Rattle.pr_interpreter.specs.declared.symbols.Stored.TheVariants.{Code as Kept}
 use Rattle.pr_interpreter.specs.declared.symbols.Symbol.{Symbol}

@@ -1,5 +1,6 @@
 -- Trusted: the lexemes of a line: the names, constants and comparisons of its symbols, and each other symbol.
-use Rattle.std.specs.Prelude.{ℕ, zero, suc, ◌+◌, ◌-◌, ◌==◌, ◌||◌, ◌&&◌, Bool, true, false, not, List, [], ◌∷◌, drop, nat_le, nat_lt, if◌then◌else◌, Option, Some, None}
+use Rattle.std.specs.Prelude.{ℕ, zero, suc, ◌+◌, ◌-◌, ◌==◌, ◌||◌, ◌&&◌, Bool, true, false, not, List, [], ◌∷◌, drop}
+use Rattle.std.specs.Prelude.{nat_le, nat_lt, if◌then◌else◌, Option, Some, None}
 use Rattle.std.specs.List.{prefix_len}
 use Rattle.pr_base.specs.Digits.{is_digit}
 use Rattle.pr_interpreter.specs.declared.names.Kind.{Kind}
@@ -9,12 +10,14 @@ use Rattle.pr_interpreter.specs.declared.numerals.Exponent.{Exponent}
 use Rattle.pr_interpreter.specs.declared.numerals.Numeral.{Numeral}
 use Rattle.pr_interpreter.specs.declared.orders.Order.{Order}
 use Rattle.pr_interpreter.specs.declared.symbols.Stored.{Stored}
-use Rattle.pr_interpreter.specs.declared.symbols.Stored.TheVariants.{Code as CodeOf, Items as ItemsOf, Remark as RemarkOf, Text as TextOf}
+use Rattle.pr_interpreter.specs.declared.symbols.Stored.TheVariants.{Code as CodeOf, Items as ItemsOf}
+use Rattle.pr_interpreter.specs.declared.symbols.Stored.TheVariants.{Remark as RemarkOf, Text as TextOf}
 use Rattle.pr_interpreter.specs.declared.symbols.Symbol.{Symbol}
 use Rattle.pr_interpreter.specs.declared.symbols.Writing.{Writing}
 use Rattle.pr_interpreter.specs.declared.lexemes.Lexeme.{Lexeme}
 use Rattle.pr_interpreter.specs.declared.lexemes.Word.{Word}
-use Rattle.pr_interpreter.specs.declared.lexemes.Word.TheVariants.{Code, Comparison, Constant, Items, Named, Remark, Text}
+use Rattle.pr_interpreter.specs.declared.lexemes.Word.TheVariants.{Code, Comparison, Constant, Items, Named, Remark}
+use Rattle.pr_interpreter.specs.declared.lexemes.Word.TheVariants.{Text}
 use Rattle.pr_interpreter.specs.Numerals.{constant_of, exponent_of, no_digits, numeral, numeral_size}
 use Rattle.pr_interpreter.specs.Symbols.{code_of, first_code, symbols}
 

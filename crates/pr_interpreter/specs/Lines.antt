@@ -1,7 +1,8 @@
 -- Trusted: the numbered lines of a program's text.
 -- A text is typed row by row. A row ends at a line feed (10), at a carriage return (13) or at the text's end.
-use Rattle.std.specs.Prelude.{ℕ, ◌+◌, ◌-◌, ◌*◌, ◌≡◌, ◌==◌, ◌⊎◌, ◌||◌, ◌&&◌, Bool, not, List, [], ◌∷◌, length, take, drop, nat_lt, if◌then◌else◌, filter, slice_range, Option, Some, None, Result, Ok, Err}
-use Rattle.std.specs.List.{insert, position_or_len}
+use Rattle.std.specs.Prelude.{ℕ, ◌+◌, ◌-◌, ◌*◌, ◌≡◌, ◌==◌, ◌⊎◌, ◌||◌, ◌&&◌, Bool, not, List, [], ◌∷◌, length, take}
+use Rattle.std.specs.Prelude.{drop, nat_lt, if◌then◌else◌, filter, slice_range, Option, Some, None, Result, Ok, Err}
+use Rattle.std.specs.List.{insert, position_or_len, suffix_len}
 use Rattle.pr_interpreter.specs.declared.lines.Line.{Line}
 use Rattle.pr_interpreter.specs.declared.fault.ProgramFault.{ProgramFault}
 use Rattle.pr_interpreter.specs.declared.fault.ProgramFault.TheVariants.{LargeLineNumber, NoLineNumber, OutOfMemory}
@@ -9,6 +10,14 @@ use Rattle.pr_interpreter.specs.declared.fault.ProgramFault.TheVariants.{LargeLi
 -- the byte ends a row
 abbrev pub ends_row : ℕ → Bool
 ends_row b = b == 10 || b == 13
+
+-- the byte is in a row
+abbrev pub is_in_row : ℕ → Bool
+is_in_row b = not (ends_row b)
+
+-- the column of a place of a text: how many bytes before it are in its row, counted from 1
+unfoldable pub column : List ℕ → ℕ → ℕ
+column text place = suffix_len is_in_row (take place text) + 1
 
 -- a row: the places of its first byte and of the byte after its last
 pub record Row : Type 0 where

@@ -1,6 +1,7 @@
 -- Trusted: the numbers of Commodore 64 BASIC, and what the machine may answer where it calculates.
 -- Magnitudes are counted in units of 2 ^ -256, so that each value of the machine is a whole number.
-use Rattle.std.specs.Prelude.{ℕ, ℤ, pos, negsuc, Bool, true, false, not, unsigned_abs, ◌+ℤ◌, ◌≤ℤ◌, ◌+◌, ◌-◌, ◌*◌, ◌^◌, ◌<◌, ◌≤◌, ◌≡◌, ◌⊎◌}
+use Rattle.std.specs.Prelude.{ℕ, ℤ, pos, negsuc, Bool, true, false, not, unsigned_abs, ◌+ℤ◌, ◌≤ℤ◌, ◌+◌, ◌-◌, ◌*◌, ◌^◌}
+use Rattle.std.specs.Prelude.{◌<◌, ◌≤◌, ◌≡◌, ◌⊎◌}
 
 -- the number 1 is 2 ^ 256 units
 abbrev pub unit_bits : ℕ

@@ -1,21 +1,25 @@
 -- What is certain of calculations: whatever the machine may answer is in the number that is the result.
-use Rattle.std.specs.Prelude.{ℕ, ℤ, pos, neg_ℤ, ◌+◌, ◌*◌, ◌^◌, ◌<◌, ◌≤◌, ◌<ℤ◌, ◌≤ℤ◌, ◌≡◌, Bool, true, false, Ok, Some, unsigned_abs}
+use Rattle.std.specs.Prelude.{ℕ, ℤ, pos, neg_ℤ, ◌+◌, ◌*◌, ◌^◌, ◌<◌, ◌≤◌, ◌<ℤ◌, ◌≤ℤ◌, ◌≡◌, Bool, true, false, Ok, Some}
+use Rattle.std.specs.Prelude.{unsigned_abs}
 use Rattle.pr_interpreter.specs.Machine.{HasForm, MayProduct, MayQuotient, MaySum, unit_bits}
 use Rattle.pr_interpreter.specs.Spans.{IsShort, IsWide, answer}
 use Rattle.pr_interpreter.specs.declared.span.Span.{Span}
-use Rattle.pr_interpreter.specs.Numbers.{Known, Encloses, absolute, floor, negated, order_of, product, quotient, sum, whole_number}
+use Rattle.pr_interpreter.specs.Numbers.{Known, Encloses, absolute, floor, negated, order_of, product, quotient, sum}
+use Rattle.pr_interpreter.specs.Numbers.{whole_number}
 use Rattle.pr_interpreter.specs.declared.whole_numbers.Whole.{Whole}
 use Rattle.pr_interpreter.specs.declared.orders.Order.{Order}
 
 -- a product encloses every answer to a product of values that its factors enclose
 abbrev pub ProductsAreCertain : Type 0
 ProductsAreCertain = (a b n : Known) (x y r : ℤ)
-    → IsShort a.span → IsShort b.span → Encloses a x → Encloses b y → MayProduct x y r → product a b ≡ Ok n → Encloses n r
+    → IsShort a.span → IsShort b.span → Encloses a x → Encloses b y → MayProduct x y r → product a b ≡ Ok n
+    → Encloses n r
 
 -- so does a quotient
 abbrev pub QuotientsAreCertain : Type 0
 QuotientsAreCertain = (a b n : Known) (x y r : ℤ)
-    → IsShort a.span → IsShort b.span → Encloses a x → Encloses b y → MayQuotient x y r → quotient a b ≡ Ok n → Encloses n r
+    → IsShort a.span → IsShort b.span → Encloses a x → Encloses b y → MayQuotient x y r → quotient a b ≡ Ok n
+    → Encloses n r
 
 -- so does a sum
 abbrev pub SumsAreCertain : Type 0
@@ -34,16 +38,20 @@ pub record Allows (o : Order) (x y : ℤ) : Type 0 where
 
 -- whatever values two numbers enclose, their order has what is true of them
 abbrev pub OrdersAreCertain : Type 0
-OrdersAreCertain = (a b : Known) (x y : ℤ) → IsShort a.span → IsShort b.span → Encloses a x → Encloses b y → Allows (order_of a b) x y
+OrdersAreCertain = (a b : Known) (x y : ℤ) → IsShort a.span → IsShort b.span → Encloses a x → Encloses b y
+    → Allows (order_of a b) x y
 
 -- the whole number w is the greatest that is not above the value x
 abbrev pub IsFloorFor : Bool → ℕ → ℤ → Type 0
-IsFloorFor false n x = (pos 0 ≤ℤ x) × (n * 2 ^ unit_bits ≤ unsigned_abs x) × (unsigned_abs x < n * 2 ^ unit_bits + 2 ^ unit_bits)
-IsFloorFor true n x = (x ≤ℤ pos 0) × (unsigned_abs x ≤ n * 2 ^ unit_bits) × (n * 2 ^ unit_bits < unsigned_abs x + 2 ^ unit_bits)
+IsFloorFor false n x = (pos 0 ≤ℤ x) × (n * 2 ^ unit_bits ≤ unsigned_abs x)
+    × (unsigned_abs x < n * 2 ^ unit_bits + 2 ^ unit_bits)
+IsFloorFor true n x = (x ≤ℤ pos 0) × (unsigned_abs x ≤ n * 2 ^ unit_bits)
+    × (n * 2 ^ unit_bits < unsigned_abs x + 2 ^ unit_bits)
 
 -- the whole number of a number is that of each value that it encloses
 abbrev pub WholesAreCertain : Type 0
-WholesAreCertain = (a : Known) (x : ℤ) (w : Whole) → Encloses a x → floor a ≡ Some w → IsFloorFor w.negative w.magnitude x
+WholesAreCertain = (a : Known) (x : ℤ) (w : Whole) → Encloses a x → floor a ≡ Some w
+    → IsFloorFor w.negative w.magnitude x
 
 -- an exact magnitude that has the form is the answer, and nothing else is
 abbrev pub FormsAreKept : Type 0

@@ -1,5 +1,6 @@
 -- Trusted: numbers, as what is known of a value of the machine, and calculations with them.
-use Rattle.std.specs.Prelude.{ℕ, ℤ, pos, ◌+◌, ◌-◌, ◌*◌, ◌/◌, ◌^◌, ◌≤ℤ◌, ◌==◌, ◌||◌, Bool, false, nat_le, nat_lt, max, min, if◌then◌else◌, Result, Ok, Err, Option, Some, None, unsigned_abs}
+use Rattle.std.specs.Prelude.{ℕ, ℤ, pos, ◌+◌, ◌-◌, ◌*◌, ◌/◌, ◌^◌, ◌≤ℤ◌, ◌==◌, ◌||◌, Bool, false, nat_le, nat_lt, max}
+use Rattle.std.specs.Prelude.{min, if◌then◌else◌, Result, Ok, Err, Option, Some, None, unsigned_abs}
 use Rattle.pr_interpreter.specs.declared.span.Span.{Span}
 use Rattle.pr_interpreter.specs.declared.number.Sign.{Sign}
 use Rattle.pr_interpreter.specs.declared.orders.Order.{Order}
@@ -98,7 +99,10 @@ lowered base s = record { low = s.low * 2 ^ (s.scale - base); high = s.high * 2 
 
 -- the first span of a sum, at the scale that both spans can have
 unfoldable pub aligned : Span → Span → Span
-aligned x y = let first = settled y.scale x in let second = settled x.scale y in lowered (min first.scale second.scale) first
+aligned x y =
+    let first = settled y.scale x in
+    let second = settled x.scale y in
+    lowered (min first.scale second.scale) first
 
 -- magnitudes of one sign
 abbrev pub together : Span → Span → Span
@@ -106,7 +110,11 @@ together x y = record { low = x.low + y.low; high = x.high + y.high; scale = x.s
 
 -- magnitudes of two signs
 abbrev pub apart : Span → Span → Span
-apart x y = record { low = x.low - y.high + (y.low - x.high); high = max (x.high - y.low) (y.high - x.low); scale = x.scale }
+apart x y = record {
+  low = x.low - y.high + (y.low - x.high);
+  high = max (x.high - y.low) (y.high - x.low);
+  scale = x.scale;
+}
 
 -- the first is of a sign that is not known
 abbrev pub beside : Span → Span → Span
@@ -177,10 +185,12 @@ whole_of Plus s =
     then Some (record { negative = false; magnitude = floor_of s.low s.scale }) else None
 whole_of Minus s =
     if ceiling_of s.low s.scale == ceiling_of s.high s.scale
-    then Some (record { negative = nat_lt 0 (ceiling_of s.low s.scale); magnitude = ceiling_of s.low s.scale }) else None
+    then Some (record { negative = nat_lt 0 (ceiling_of s.low s.scale); magnitude = ceiling_of s.low s.scale })
+    else None
 whole_of Either s = if s.high == 0 then Some (record { negative = false; magnitude = 0 }) else None
 
--- the greatest whole number that is not above the value: for each value of the number the same, and all are below 2 ^ 40
+-- the greatest whole number that is not above the value: for each value of the number the same, and all are
+-- below 2 ^ 40
 unfoldable pub floor : Known → Option Whole
 floor a = if nat_le (bit_length a.span.high + a.span.scale) (unit_bits + 40) then whole_of a.sign a.span else None
 

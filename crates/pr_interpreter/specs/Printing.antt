@@ -1,5 +1,6 @@
 -- Trusted: how BASIC writes a number.
-use Rattle.std.specs.Prelude.{ℕ, ◌+◌, ◌-◌, ◌/◌, ◌%◌, ◌==◌, ◌||◌, Bool, List, [], ◌∷◌, ◌++◌, take, drop, nat_lt, if◌then◌else◌}
+use Rattle.std.specs.Prelude.{ℕ, ◌+◌, ◌-◌, ◌/◌, ◌%◌, ◌==◌, ◌||◌, Bool, List, [], ◌∷◌, ◌++◌, take, drop, nat_lt}
+use Rattle.std.specs.Prelude.{if◌then◌else◌}
 use Rattle.pr_interpreter.specs.declared.decimals.Digits.{Digits}
 use Rattle.pr_interpreter.specs.declared.decimals.Decimal.{Decimal}
 

@@ -1,5 +1,6 @@
 -- What is certain of printing: a number is printed as each value that it stands for, and whole numbers read back.
-use Rattle.std.specs.Prelude.{ℕ, ℤ, ◌+◌, ◌-◌, ◌*◌, ◌^◌, ◌<◌, ◌≤◌, ◌≡◌, ◌≢◌, Bool, List, [], ◌∷◌, slice_index, unsigned_abs}
+use Rattle.std.specs.Prelude.{ℕ, ℤ, ◌+◌, ◌-◌, ◌*◌, ◌^◌, ◌<◌, ◌≤◌, ◌≡◌, ◌≢◌, Bool, List, [], ◌∷◌, slice_index}
+use Rattle.std.specs.Prelude.{unsigned_abs}
 use Rattle.pr_interpreter.specs.declared.decimals.Decimal.{Decimal}
 use Rattle.pr_interpreter.specs.Numbers.{Known, Encloses, HasSign, whole_number}
 use Rattle.pr_interpreter.specs.Decimals.{HasDigits, IsDecimal, sign_of}

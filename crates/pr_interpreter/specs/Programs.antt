@@ -3,7 +3,7 @@ use Rattle.std.specs.Prelude.{ℕ, List, [], ◌∷◌, ◌++◌, slice_range, R
 use Rattle.pr_interpreter.specs.declared.fault.ProgramFault.{ProgramFault}
 use Rattle.pr_interpreter.specs.declared.lines.Line.{Line}
 use Rattle.pr_interpreter.specs.declared.program.ProgramLine.{ProgramLine}
-use Rattle.pr_interpreter.specs.declared.statements.Statement.{Statement}
+use Rattle.pr_interpreter.specs.declared.statements.PlacedStatement.{PlacedStatement}
 use Rattle.pr_interpreter.specs.declared.symbols.Writing.TheVariants.{Typed}
 use Rattle.pr_interpreter.specs.Lexemes.{line_lexemes}
 use Rattle.pr_interpreter.specs.Lines.{program_lines}
@@ -11,7 +11,7 @@ use Rattle.pr_interpreter.specs.Reading.{Read}
 use Rattle.pr_interpreter.specs.Statements.{statements}
 
 -- a line of a number with what is read of it
-abbrev pub numbered : ℕ → Read (List Statement) → Result ProgramLine ProgramFault
+abbrev pub numbered : ℕ → Read (List PlacedStatement) → Result ProgramLine ProgramFault
 numbered number (Ok r) = Ok (record { number = number; statements = r.0 })
 numbered number (Err fault) = Err fault
 

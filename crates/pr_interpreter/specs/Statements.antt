@@ -1,25 +1,31 @@
 -- Trusted: how the lexemes of a line are its statements.
-use Rattle.std.specs.Prelude.{ℕ, ◌+◌, ◌==◌, ◌||◌, ◌&&◌, Bool, true, false, not, List, [], ◌∷◌, length, drop, nat_le, if◌then◌else◌, Option, Some, None, Result, Ok, Err}
+use Rattle.std.specs.Prelude.{ℕ, ◌+◌, ◌==◌, ◌||◌, ◌&&◌, Bool, true, false, not, List, [], ◌∷◌, length, drop, nat_le}
+use Rattle.std.specs.Prelude.{if◌then◌else◌, Option, Some, None, Ok, Err}
 use Rattle.pr_interpreter.specs.declared.constants.Constant.{Constant}
 use Rattle.pr_interpreter.specs.declared.constants.Tens.{Tens}
 use Rattle.pr_interpreter.specs.declared.constants.Tens.TheVariants.{Over, Times}
 use Rattle.pr_interpreter.specs.declared.expressions.Placed.{Placed}
-use Rattle.pr_interpreter.specs.declared.fault.ProgramFault.{ProgramFault}
 use Rattle.pr_interpreter.specs.declared.fault.ProgramFault.TheVariants.{NoStatement, NotTaken}
 use Rattle.pr_interpreter.specs.declared.lexemes.Lexeme.{Lexeme}
 use Rattle.pr_interpreter.specs.declared.lexemes.Word.{Word}
-use Rattle.pr_interpreter.specs.declared.lexemes.Word.TheVariants.{Code, Comparison, Constant as Digits, Items, Named, Remark, Text}
+use Rattle.pr_interpreter.specs.declared.lexemes.Word.TheVariants.{Code, Comparison, Constant as Digits, Items, Named}
+use Rattle.pr_interpreter.specs.declared.lexemes.Word.TheVariants.{Remark, Text}
 use Rattle.pr_interpreter.specs.declared.names.Name.{Name}
 use Rattle.pr_interpreter.specs.declared.statements.Item.{Item}
 use Rattle.pr_interpreter.specs.declared.statements.Part.{Part}
 use Rattle.pr_interpreter.specs.declared.statements.Part.TheVariants.{Comma, Semicolon, Spaces, Tab, Value}
+use Rattle.pr_interpreter.specs.declared.statements.PlacedStatement.{PlacedStatement}
 use Rattle.pr_interpreter.specs.declared.statements.Statement.{Statement}
-use Rattle.pr_interpreter.specs.declared.statements.Statement.TheVariants.{Clear, Close, Command, Define, Dim, End, For, Go, If, Let, Next, Nothing, On, Open, Poke, Print, PrintFile, Read as Reads, Restore, Return, Stop}
+use Rattle.pr_interpreter.specs.declared.statements.Statement.TheVariants.{Clear, Close, Command, Define, Dim, End, For}
+use Rattle.pr_interpreter.specs.declared.statements.Statement.TheVariants.{Go, If, Let, Next, Nothing, On, Open, Poke}
+use Rattle.pr_interpreter.specs.declared.statements.Statement.TheVariants.{Print, PrintFile, Read as Reads, Restore}
+use Rattle.pr_interpreter.specs.declared.statements.Statement.TheVariants.{Return, Stop}
 use Rattle.pr_interpreter.specs.declared.statements.Target.{Target}
 use Rattle.pr_interpreter.specs.declared.statements.Way.{Way}
 use Rattle.pr_interpreter.specs.declared.statements.Way.TheVariants.{Gosub, Goto}
 use Rattle.pr_interpreter.specs.Expressions.{expression}
-use Rattle.pr_interpreter.specs.Reading.{Read, after, and_then, at_end, front_code, front_place, is_some, list_of, longer, made, no_statement, repeated}
+use Rattle.pr_interpreter.specs.Reading.{Read, after, and_then, at_end, front_code, front_place, is_some, list_of}
+use Rattle.pr_interpreter.specs.Reading.{longer, made, no_statement, repeated}
 
 -- ---- line numbers
 
@@ -285,6 +291,10 @@ next_of_line end ls =
     if front_code ls == 58 then Ok (Nothing, 1)
     else and_then (statement end ls) ls (λ s rest. ended s end rest)
 
+-- the same with its place
+unfoldable pub placed_statement : ℕ → List Lexeme → Read PlacedStatement
+placed_statement end ls = made (next_of_line end ls) (λ s. record { statement = s; place = front_place end ls })
+
 -- the statements of a line that ends at a place
-unfoldable pub statements : ℕ → List Lexeme → Read (List Statement)
-statements end ls = repeated is_some (next_of_line end) [] 0 0 ls
+unfoldable pub statements : ℕ → List Lexeme → Read (List PlacedStatement)
+statements end ls = repeated is_some (placed_statement end) [] 0 0 ls

@@ -1,7 +1,8 @@
 -- Trusted: the symbols of a line: its keywords, strings and other bytes, as the machine keeps them.
 -- A line as typed spells its keywords, and they are found from left to right, at each byte outside strings; a saved
 -- line has one byte for each. Places are counted in the text that the line is of.
-use Rattle.std.specs.Prelude.{ℕ, zero, suc, ◌+◌, ◌-◌, ◌==◌, ◌&&◌, Bool, true, false, not, List, [], ◌∷◌, ◌++◌, length, drop, nat_lt, if◌then◌else◌, Option, Some, None}
+use Rattle.std.specs.Prelude.{ℕ, zero, suc, ◌+◌, ◌-◌, ◌==◌, ◌&&◌, Bool, true, false, not, List, [], ◌∷◌, ◌++◌, length}
+use Rattle.std.specs.Prelude.{drop, nat_lt, if◌then◌else◌, Option, Some, None}
 use Rattle.std.specs.Char.{to_ascii_uppercase}
 use Rattle.std.specs.List.{position_or_len}
 use Rattle.pr_listing.specs.Keywords.{is_token, keyword_of}
@@ -63,7 +64,9 @@ unfoldable pub keyword_front : ℕ → List ℕ → Keyword → Front
 keyword_front place text k =
     if k.token == 143 then stored Remark (length text)
     else if k.token == 131
-    then (let after = k.size + items_size false (drop k.size text) in stored (Items (place + k.size) (place + after)) after)
+    then
+    (let after = k.size + items_size false (drop k.size text) in
+    stored (Items (place + k.size) (place + after)) after)
     else stored (Code k.token) k.size
 
 -- a string whose first quote is at a place: it ends with its last quote, or with the line

@@ -1,18 +1,22 @@
 -- Trusted: values of BASIC, and what operators give of them.
-use Rattle.std.specs.Prelude.{ℕ, ◌+◌, ◌-◌, ◌%◌, ◌||◌, ◌&&◌, Bool, true, false, not, List, [], ◌∷◌, ◌++◌, length, nat_le, nat_lt, bit_and, bit_or, if◌then◌else◌, Option, Some, None, Result, Ok, Err}
+use Rattle.std.specs.Prelude.{ℕ, ◌+◌, ◌-◌, ◌%◌, ◌||◌, ◌&&◌, Bool, true, false, not, List, [], ◌∷◌, ◌++◌, length, nat_le}
+use Rattle.std.specs.Prelude.{nat_lt, bit_and, bit_or, if◌then◌else◌, Option, Some, None, Result, Ok, Err}
 use Rattle.pr_interpreter.specs.declared.expressions.Operator.{Operator}
-use Rattle.pr_interpreter.specs.declared.expressions.Operator.TheVariants.{And, Compare, Minus, Negate, Not, Or, Over, Plus, Power, Times}
+use Rattle.pr_interpreter.specs.declared.expressions.Operator.TheVariants.{And, Compare, Minus, Negate, Not, Or, Over}
+use Rattle.pr_interpreter.specs.declared.expressions.Operator.TheVariants.{Plus, Power, Times}
 use Rattle.pr_interpreter.specs.declared.fault.NumberFault.{NumberFault}
 use Rattle.pr_interpreter.specs.declared.fault.NumberFault.TheVariants.{DivisionByZero, NotCertain, Overflow}
 use Rattle.pr_interpreter.specs.declared.orders.Order.{Order}
-use Rattle.pr_interpreter.specs.declared.values.BasicError.{BasicError}
-use Rattle.pr_interpreter.specs.declared.values.BasicError.TheVariants.{IllegalQuantity, StringTooLong, TypeMismatch, DivisionByZero as DividesByZero, Overflow as Overflows}
+use Rattle.pr_interpreter.specs.declared.values.BasicError.TheVariants.{IllegalQuantity, StringTooLong, TypeMismatch}
+use Rattle.pr_interpreter.specs.declared.values.BasicError.TheVariants.{DivisionByZero as DividesByZero}
+use Rattle.pr_interpreter.specs.declared.values.BasicError.TheVariants.{Overflow as Overflows}
 use Rattle.pr_interpreter.specs.declared.values.Stop.{Stop}
 use Rattle.pr_interpreter.specs.declared.values.Stop.TheVariants.{Error, NotCertain as Uncertain}
 use Rattle.pr_interpreter.specs.declared.values.Value.{Value}
 use Rattle.pr_interpreter.specs.declared.values.Value.TheVariants.{Number, Text}
 use Rattle.pr_interpreter.specs.declared.whole_numbers.Whole.{Whole}
-use Rattle.pr_interpreter.specs.Numbers.{Known, floor, is_zero, negated, order_of, product, quotient, sum, whole_number, zero_number}
+use Rattle.pr_interpreter.specs.Numbers.{Known, floor, is_zero, negated, order_of, product, quotient, sum, whole_number}
+use Rattle.pr_interpreter.specs.Numbers.{zero_number}
 
 -- why there is no result
 abbrev pub stop_of : NumberFault → Stop

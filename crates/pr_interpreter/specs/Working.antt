@@ -1,6 +1,6 @@
 -- Linking words: what an expression is worked out with, for the code's types. No reader needs to believe them.
 use Rattle.std.specs.Prelude.{ℕ, List, Option, Some, None, Ok}
-use Rattle.pr_interpreter.specs.declared.evaluation.Given.{Given}
+use Rattle.pr_interpreter.specs.declared.given.Given.{Given}
 use Rattle.pr_interpreter.specs.declared.evaluation.Work.{Work}
 use Rattle.pr_interpreter.specs.declared.memory.Array.{Array}
 use Rattle.pr_interpreter.specs.declared.memory.Arrays.{Arrays}

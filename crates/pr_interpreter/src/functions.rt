@@ -218,7 +218,7 @@ fn symbols_of(alloc: Global, text: &[u8]) -> Result<Vec<Symbol>, AllocError>
 
 /// Returns the constant at the front of a string, and how many bytes it has.
 #[tactic(auto, unfolding(crate::specs::Functions::constant_in))]
-fn constant_in(alloc: Global, text: &[u8]) -> Result<(Word, usize), AllocError>
+pub fn constant_in(alloc: Global, text: &[u8]) -> Result<(Word, usize), AllocError>
     ensures { IfOk result (λ found. found ≡ constant_in text.now) }
 {
     let symbols = symbols_of(alloc, text)?;
@@ -226,7 +226,7 @@ fn constant_in(alloc: Global, text: &[u8]) -> Result<(Word, usize), AllocError>
 }
 
 /// Returns the number that a constant is.
-fn constant_number(word: Word) -> Result<Number, Stop>
+pub fn constant_number(word: Word) -> Result<Number, Stop>
     ensures { result ≡ constant_number word }
 {
     match word {
@@ -251,7 +251,7 @@ fn negated_if(negative: bool, found: Result<Number, Stop>) -> Result<Number, Sto
 }
 
 /// Returns the first byte; 0 if there is none.
-fn front_byte(text: &[u8]) -> u8
+pub fn front_byte(text: &[u8]) -> u8
     ensures { result ≡ front_byte text.now }
 {
     match text {
@@ -261,7 +261,7 @@ fn front_byte(text: &[u8]) -> u8
 }
 
 /// Returns bytes without the sign at their front.
-fn without_sign(text: &[u8]) -> &[u8]
+pub fn without_sign(text: &[u8]) -> &[u8]
     ensures { result.now ≡ without_sign text.now }
 {
     let first = front_byte(text);
@@ -282,7 +282,7 @@ fn signed_number(alloc: Global, text: &[u8]) -> Result<Result<Number, Stop>, All
 }
 
 /// Returns bytes without the blanks among them.
-fn solid(alloc: Global, text: &[u8]) -> Result<Vec<u8>, AllocError>
+pub fn solid(alloc: Global, text: &[u8]) -> Result<Vec<u8>, AllocError>
     ensures { IfOk result (λ found. found.items ≡ filter is_solid text.now) }
 {
     text.iter().copied().filter(|b| *b != b' ').collect(alloc)

@@ -14,17 +14,18 @@
 //!   `whole_numbers` have their sums, their comparisons and INT. `specs/Numbers.antt` defines them.
 //! - `decimals` has the nine digits that are printed of a number, where they are certain, and `printing` their text;
 //!   `constants` has the value of a decimal constant.
-//! - `lines` has the numbered lines of a program's text, sorted.
+//! - `lines` has the numbered lines of a program's text, sorted, and the column of a place in it.
 //! - `symbols` has the symbols of a line, keywords among them, and `lexemes` its lexemes: `names`, `numerals` with
 //!   constants, and `comparisons`. `specs/Symbols.antt` and `specs/Lexemes.antt` define them.
 //! - `expressions` has the nodes of expressions, and `reader` reads them from lexemes; `specs/Expressions.antt` defines
 //!   how.
 //! - `statements` has the statements of a line, `statement_reader` reads them (with `reading`, `targets` and `printed`),
-//!   and `program` reads the lines of a text with their statements; `specs/Reading.antt`, `specs/Statements.antt` and
-//!   `specs/Programs.antt` define how.
+//!   and `program` reads the lines of a text with their statements, each with its place; `specs/Reading.antt`,
+//!   `specs/Statements.antt` and `specs/Programs.antt` define how.
 //! - `values` has what operators give of two numbers or two strings; `specs/Values.antt` defines it.
-//! - `evaluation` has the value of an expression, with `functions` and `memory`, which has variables, arrays and
-//!   functions of the program; `specs/Evaluation.antt`, `specs/Functions.antt` and `specs/Memory.antt` define it.
+//! - `evaluation` has the value of an expression, with `given` (what its parts give), `calls` (what operators and
+//!   functions give of them), `functions`, and `memory`, which has variables, arrays and functions of the program;
+//!   `specs/Evaluation.antt`, `specs/Functions.antt` and `specs/Memory.antt` define it.
 //! - `laws` has what is proved of the definitions: what the machine may answer to a calculation
 //!   (`specs/Machine.antt`) is in the number that the calculation gives, for all values in its operands; what is
 //!   printed of a number is so for each of its values; the lines of a text are sorted.
@@ -45,6 +46,7 @@
 //! performs the same list, which follows by induction from the laws of numbers here.
 #![tactic(auto)]
 
+mod calls;
 mod comparisons;
 mod constants;
 mod decimals;
@@ -52,6 +54,7 @@ mod evaluation;
 mod expressions;
 mod fault;
 mod functions;
+mod given;
 pub mod laws;
 mod lexemes;
 mod lines;
@@ -79,10 +82,15 @@ pub use decimals::{Decimal, Digits, ONES, decimal_of};
 pub use evaluation::evaluate;
 pub use expressions::{Callee, Node, Operator, Placed};
 pub use fault::{NumberFault, ProgramFault};
-pub use functions::{number_text, whole_to};
+pub use functions::{
+    constant_in, constant_number, front_byte, number_text, solid, whole_to, without_sign,
+};
 pub use lexemes::{Lexeme, Word, lexemes_of};
-pub use lines::{Line, lines_of};
-pub use memory::{Array, Arrays, Function, Scope, Variable};
+pub use lines::{Line, column_of, lines_of};
+pub use memory::{
+    Array, Arrays, Function, Scope, Variable, array_of, element_bytes, is_clock, is_status,
+    place_of, same_name, undimensioned, undimensioned_bytes,
+};
 pub use names::{Kind, Name};
 pub use number::{Number, Sign, product, quotient};
 pub use orders::{Order, order_of};
@@ -91,7 +99,7 @@ pub use program::{ProgramLine, read_program};
 pub use reader::{Expression, read_expression};
 pub use span::{Span, answer};
 pub use statement_reader::read_statements;
-pub use statements::{Item, Nodes, Part, Statement, Target, Way};
+pub use statements::{Item, Nodes, Part, PlacedStatement, Statement, Target, Way};
 pub use sums::sum;
 pub use symbols::Writing;
 pub use values::{BasicError, Halt, Stop, Value, of_numbers, of_texts};

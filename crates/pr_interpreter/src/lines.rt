@@ -1,7 +1,8 @@
 //! The numbered lines of a program's text.
 
 ghost use Rattle.std.specs.Prelude.{◌≡◌, ◌+◌, ◌^◌, ◌<◌, ◌≤◌, length, IfErr, IfOk, IfSome, MatchOption, OnOk, Ok};
-ghost use Rattle.pr_interpreter.specs.Lines.{FaultsAs, LeadsOn, after_rest, after_row, blanks, ends_row, enter, front, is_empty, is_text, line_in, line_number, next_number, others, place_for, program_lines};
+ghost use Rattle.pr_interpreter.specs.LineLaws.{AreWithin};
+ghost use Rattle.pr_interpreter.specs.Lines.{FaultsAs, LeadsOn, after_rest, after_row, blanks, column, ends_row, enter, front, is_empty, is_text, line_in, line_number, next_number, others, place_for, program_lines};
 
 use crate::fault::ProgramFault;
 use std::alloc::{AllocError, Global};
@@ -208,6 +209,7 @@ fn take_byte(
 #[tactic(auto, using(crate::proofs::LineLemmas::from_start, crate::proofs::LineLemmas::last_taken, crate::proofs::LineLemmas::last_refused))]
 pub fn lines_of(alloc: Global, text: &[u8]) -> Result<Vec<Line>, ProgramFault>
     ensures lines { IfOk result (λ lines. program_lines text.now ≡ Ok lines.items) }
+    ensures within { IfOk result (λ lines. AreWithin (length text.now) lines.items) }
     ensures fault { IfErr result (λ fault. FaultsAs fault (program_lines text.now)) }
 {
     let mut lines = Vec::new(alloc);
@@ -219,4 +221,21 @@ pub fn lines_of(alloc: Global, text: &[u8]) -> Result<Vec<Line>, ProgramFault>
         Ok(()) => Ok(lines),
         Err(fault) => Err(fault),
     }
+}
+
+/// Returns the column of a place, the number of bytes before it in a text: the number of bytes before it in its row,
+/// counted from 1. After the end of the text it is the column of the end.
+#[tactic(auto, unfolding(crate::specs::Lines::column))]
+pub fn column_of(text: &[u8], place: usize) -> usize
+    ensures { result ≡ column text.now place }
+{
+    let end = place.min(text.len());
+    let mut start = end;
+    while 0 < start {
+        if ends_row(text[start - 1]) {
+            return end - start + 1;
+        }
+        start -= 1;
+    }
+    end + 1
 }

@@ -168,7 +168,7 @@ pub fn array_of(name: Name, arrays: &[Array]) -> Option<&Array>
 }
 
 /// Returns how many bytes an element has.
-fn element_bytes(kind: Kind) -> usize
+pub fn element_bytes(kind: Kind) -> usize
     ensures { result ≡ element_bytes kind }
 {
     match kind {

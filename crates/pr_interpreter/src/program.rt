@@ -10,7 +10,7 @@ use crate::lexemes::lexemes_of;
 use crate::lines::{Line, lines_of};
 use crate::reading::put;
 use crate::statement_reader::read_statements;
-use crate::statements::Statement;
+use crate::statements::PlacedStatement;
 use crate::symbols::Writing;
 use pr_page::Sequence;
 use std::alloc::Global;
@@ -20,7 +20,8 @@ use std::alloc::Global;
 pub struct ProgramLine {
     /// Its number, at most 63999.
     pub number: u16,
-    pub statements: Sequence<Statement>,
+    /// Its statements in order, each with its place, of which `column_of` makes the column.
+    pub statements: Sequence<PlacedStatement>,
 }
 
 /// Reads the statements of a line of a text as typed.

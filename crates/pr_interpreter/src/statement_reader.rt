@@ -3,17 +3,17 @@
 ghost use Rattle.std.specs.Prelude.{◌≡◌, ◌+◌, ◌<◌, ◌≤◌, length, Ok, IfErr, IfOk};
 ghost use Rattle.pr_interpreter.specs.Faults.{FaultsAs, LeadsOn};
 ghost use Rattle.pr_interpreter.specs.Reading.{after, front_code, is_some};
-ghost use Rattle.pr_interpreter.specs.Statements.{assignment, bare_statement, command, define_of, define_statement, define_value, ended, for_from, for_statement, for_to, four_values, if_statement, is_not_taken, keyword_statement, line_size, line_statement, next_of_line, next_statement, on_lines, on_statement, opens_more, output_statement, poke_statement, print_file, statement, statements, step, then_part, variable, way_of};
+ghost use Rattle.pr_interpreter.specs.Statements.{assignment, bare_statement, command, define_of, define_statement, define_value, ended, for_from, for_statement, for_to, four_values, if_statement, is_not_taken, keyword_statement, line_size, line_statement, next_of_line, next_statement, on_lines, on_statement, opens_more, output_statement, placed_statement, poke_statement, print_file, statement, statements, step, then_part, variable, way_of};
 
 use crate::fault::ProgramFault;
 use crate::lexemes::{Lexeme, Word};
 use crate::names::Name;
 use crate::printed::{file_items, items};
 use crate::reading::{
-    EQUAL, at_end, front_code, front_line, line, no_statement, put, value, value_after, values,
-    variable,
+    EQUAL, at_end, front_code, front_line, front_place, line, no_statement, put, value,
+    value_after, values, variable,
 };
-use crate::statements::{Nodes, Statement, Way};
+use crate::statements::{Nodes, PlacedStatement, Statement, Way};
 use crate::targets::{line_after, line_list, target, targets};
 use pr_page::Sequence;
 use std::alloc::Global;
@@ -596,25 +596,42 @@ fn next_of_line(
     Ok((statement, size + more))
 }
 
-/// Reads a statement with its colon, and adds it. Returns how many lexemes it has.
+/// Reads a statement with its colon and its place.
+#[tactic(auto, unfolding(crate::specs::Statements::placed_statement))]
+fn placed_statement(
+    alloc: Global,
+    lexemes: &[Lexeme],
+    end: usize,
+) -> Result<(PlacedStatement, usize), ProgramFault>
+    ensures ok { IfOk result (λ r. placed_statement end lexemes.now ≡ Ok r) }
+    ensures err { IfErr result (λ fault. FaultsAs fault (placed_statement end lexemes.now)) }
+    ensures some { IfOk result (λ r. 0 < r.1) }
+    ensures within { IfOk result (λ r. r.1 ≤ length lexemes.now) }
+{
+    let place = front_place(lexemes, end);
+    let (statement, size) = next_of_line(alloc, lexemes, end)?;
+    Ok((PlacedStatement { statement, place }, size))
+}
+
+/// Reads a statement with its colon and its place, and adds it. Returns how many lexemes it has.
 fn take_statement(
     alloc: Global,
-    found: &mut Vec<Statement>,
+    found: &mut Vec<PlacedStatement>,
     lexemes: &[Lexeme],
     end: usize,
 ) -> Result<usize, ProgramFault>
     requires { 0 < length lexemes.now }
-    ensures ok { IfOk result (λ n. LeadsOn is_some (next_of_line end) found.old.items found.new.items n lexemes.now) }
-    ensures err { IfErr result (λ fault. FaultsAs fault (next_of_line end lexemes.now)) }
+    ensures ok { IfOk result (λ n. LeadsOn is_some (placed_statement end) found.old.items found.new.items n lexemes.now) }
+    ensures err { IfErr result (λ fault. FaultsAs fault (placed_statement end lexemes.now)) }
     ensures some { IfOk result (λ n. 0 < n) }
     ensures within { IfOk result (λ n. n ≤ length lexemes.now) }
 {
-    let (statement, size) = next_of_line(alloc, lexemes, end)?;
+    let (statement, size) = placed_statement(alloc, lexemes, end)?;
     put(found, statement)?;
     Ok(size)
 }
 
-/// Reads the statements of a line that ends at a place.
+/// Reads the statements of a line that ends at a place, each with its place.
 ///
 /// # Errors
 ///
@@ -625,7 +642,7 @@ pub fn read_statements(
     alloc: Global,
     lexemes: &[Lexeme],
     end: usize,
-) -> Result<Sequence<Statement>, ProgramFault>
+) -> Result<Sequence<PlacedStatement>, ProgramFault>
     ensures ok { IfOk result (λ found. statements end lexemes.now ≡ Ok (found, length lexemes.now)) }
     ensures err { IfErr result (λ fault. FaultsAs fault (statements end lexemes.now)) }
 {

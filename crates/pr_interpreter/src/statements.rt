@@ -130,3 +130,10 @@ pub enum Statement {
     Stop,
     End,
 }
+
+/// A statement, and its place: the number of bytes before it in the text.
+#[derive(Debug, Drop)]
+pub struct PlacedStatement {
+    pub statement: Statement,
+    pub place: usize,
+}

@@ -186,7 +186,7 @@ class Reader:
         return Variable(place, name, self.arguments(1, 255) if self.next.word == "(" else ())
 
     def number_name(self) -> Name:
-        """A variable as FOR and DEF take it: neither an array's element nor one with %."""
+        """A variable as FOR takes it: neither an array's element nor one with %."""
         name = self.name()
         if name.kind == "%" or self.next.word == "(":
             raise Unreadable
@@ -244,10 +244,7 @@ class Reader:
         self.add(For(place, self.line, name, start, limit, self.expression() if self.accept("STEP") else None))
 
     def read_next(self, place: int) -> None:
-        names: list[tuple[int, Optional[Name]]] = [(place, None)]
-        if not self.is_at_end():
-            names = list(self.list_of(lambda: (self.next.place, self.number_name())))
-        self.add(Next(place, self.line, names))
+        self.add(Next(place, self.line, [None] if self.is_at_end() else self.list_of(self.variable)))
 
     def read_read(self, place: int) -> None:
         self.add(Read(place, self.line, self.list_of(self.variable)))
@@ -262,7 +259,7 @@ class Reader:
         self.expect("FN")
         name = self.name()
         self.expect("(")
-        parameter = self.number_name()
+        parameter = self.name()
         self.expect(")")
         self.equals()
         self.add(Define(place, self.line, name, parameter, self.expression()))

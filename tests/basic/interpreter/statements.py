@@ -184,16 +184,18 @@ class For(Statement):
 
 @dataclass(frozen=True)
 class Next(Statement):
-    """NEXT with the places and names of its variables; without one it has the last loop."""
+    """NEXT with its variables; without one it has the last loop. No element and no variable with % has a loop."""
 
-    names: Sequence[tuple[int, Optional[Name]]]
+    variables: Sequence[Optional[Variable]]
 
     def perform(self, run: Run) -> Optional[int]:
-        for place, name in self.names:
-            loop = run.find_loop(name)
+        for it in self.variables:
+            if it:
+                run.target(it)
+            loop = None if it and it.indices else run.find_loop(it.name if it else None)
             if not loop:
                 raise BasicError("NEXT WITHOUT FOR")
-            with used_at(place):
+            with used_at(it.place if it else self.place):
                 value = add(run.variable(loop.name), loop.step)
                 run.variables[loop.name] = value
                 # it ends where the variable is past the limit; with STEP 0 where it is the limit
@@ -236,7 +238,9 @@ class Dim(Statement):
 
     def perform(self, run: Run) -> Optional[int]:
         for it in self.variables:
-            if it.indices:
+            if not it.indices:
+                run.target(it)
+            else:
                 sizes = tuple(run.whole(size, 32767) for size in it.indices)
                 if it.name in run.arrays:
                     raise BasicError("REDIM'D ARRAY")
@@ -264,22 +268,25 @@ class Define(Statement):
     body: Expression
 
     def perform(self, run: Run) -> Optional[int]:
-        if "$" in (self.name.kind, self.parameter.kind):
-            raise BasicError("TYPE MISMATCH")
+        for kind in (self.name.kind, self.parameter.kind):
+            if kind:
+                raise BasicError("SYNTAX" if kind == "%" else "TYPE MISMATCH")
+        run.target(Variable(self.place, self.parameter))
         run.functions[self.name] = self.parameter, self.body
         return None
 
 
 @dataclass(frozen=True)
 class Poke(Statement):
-    """Left out where it cannot change what is printed: in the screen's memory, and in the chips and the colours."""
+    """Left out where it cannot change what is printed: in the screen's memory, in the chips for picture and sound, and
+    in the colours. The chips after them have the lines of the bus."""
 
     address: Expression
     value: Expression
 
     def perform(self, run: Run) -> Optional[int]:
         address, _ = run.whole(self.address, 65535), run.whole(self.value)
-        if not (1024 <= address <= 2023 or 53248 <= address <= 57343):
+        if not (1024 <= address <= 2023 or 53248 <= address <= 56319):
             raise Refused(self.place, f"POKE {address} is not run")
         run.notes.append(f"POKE {address} in {self.line} left out")
         return None
@@ -319,6 +326,7 @@ class Close(Statement):
             raise Refused(self.numbers[3].place, "a file has a name")
         run.say(self.line, f"CLOSE {file}")
         run.files.pop(file, None)
+        run.has_sent = True
         return None
 
 

@@ -1,8 +1,8 @@
-use Rattle.std.proofs.Common.{◌≡◌, ◌==◌, ◌∙◌, true, false, drop, sym, eq-eqb, rules}
+use Rattle.std.proofs.Common.{◌≡◌, ◌∙◌, true, false, drop, sym, eq-eqb, rules}
 use Rattle.std.proofs.lemmas.Bool.{ne_eqb}
 use Rattle.std.proofs.lemmas.List.{take_rest}
 use Rattle.pr_interpreter.specs.Expressions.{expression}
-use Rattle.pr_interpreter.specs.Reading.{after, begins_comma, front_code}
+use Rattle.pr_interpreter.specs.Reading.{after, begins_comma}
 use Rattle.pr_interpreter.proofs.RepeatLemmas.{comma_some, repeated_ends, repeated_faults, repeated_on}
 use Rattle.pr_interpreter.proofs.reading.more_values.Goals as goal
 

@@ -1,4 +1,4 @@
-use Rattle.std.proofs.Common.{◌≡◌, ◌-◌, ◌≤◌, [], drop, length}
+use Rattle.std.proofs.Common.{◌≡◌, ◌-◌, ◌≤◌, drop, length}
 use Rattle.pr_interpreter.specs.Expressions.{expression}
 use Rattle.pr_interpreter.specs.Reading.{after, begins_comma, repeated}
 use Rattle.pr_interpreter.proofs.reading.more_values.Given as goal

@@ -11,7 +11,8 @@ loop-i-init c = refl
 pub returns-then-to_ascii_uppercase-w-clause-test : goal.returns-then-to_ascii_uppercase-w-clause-test
 returns-then-to_ascii_uppercase-w-clause-test c =
     let k : c.loop-i.i < length c.args.text.now = omega arith in
-    sym (begins_fails _ _ c.loop-i.i _ c.loop-i-test.true k c.to_ascii_uppercase.ensures.value c.if-to_ascii_uppercase-w.true)
+    sym (begins_fails _ _ c.loop-i.i _ c.loop-i-test.true k c.to_ascii_uppercase.ensures.value
+    c.if-to_ascii_uppercase-w.true)
     ∙ c.loop-i.invariant
 
 pub loop-i-preserved : goal.loop-i-preserved

@@ -4,7 +4,8 @@ use Rattle.pr_interpreter.proofs.symbols.symbols_of.Given as goal
 
 abbrev pub invariant-loop-passed : goal.invariant-loop-passed
 invariant-loop-passed l = record {
-  found : l.found.items ++ symbols l.writing (l.place + l.passed) 0 (drop l.passed l.line) ≡ symbols l.writing l.place 0 l.line;
+  found : l.found.items ++ symbols l.writing (l.place + l.passed) 0 (drop l.passed l.line)
+      ≡ symbols l.writing l.place 0 l.line;
   within : l.passed ≤ length l.line;
 }
 

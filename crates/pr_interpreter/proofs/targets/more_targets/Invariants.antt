@@ -1,4 +1,4 @@
-use Rattle.std.proofs.Common.{◌≡◌, ◌-◌, ◌≤◌, [], drop, length}
+use Rattle.std.proofs.Common.{◌≡◌, ◌-◌, ◌≤◌, drop, length}
 use Rattle.pr_interpreter.specs.Reading.{after, begins_comma, repeated}
 use Rattle.pr_interpreter.specs.Statements.{target}
 use Rattle.pr_interpreter.proofs.targets.more_targets.Given as goal

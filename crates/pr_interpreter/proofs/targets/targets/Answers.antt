@@ -1,4 +1,4 @@
-use Rattle.std.proofs.Common.{◌≡◌, ◌∙◌, List, [], ◌∷◌, ◌++◌, drop, ap}
+use Rattle.std.proofs.Common.{◌≡◌, ◌∙◌, List, [], ◌∷◌, ◌++◌, ap}
 use Rattle.std.proofs.lemmas.List.{take_rest}
 use Rattle.pr_interpreter.specs.declared.lexemes.Lexeme.{Lexeme}
 use Rattle.pr_interpreter.specs.declared.statements.Target.{Target}

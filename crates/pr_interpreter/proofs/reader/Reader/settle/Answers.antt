@@ -16,7 +16,8 @@ loop-last-preserved c =
 
 pub returns-in-None : goal.returns-in-None
 returns-in-None c =
-    settle_stays c.args.least (seen c.loop-last.self) (seen c.take_last.new.self) _ c.in-Some.last c.in-Some.ensures.nodes
+    settle_stays c.args.least (seen c.loop-last.self) (seen c.take_last.new.self) _ c.in-Some.last
+    c.in-Some.ensures.nodes
     c.in-Some.ensures.waiting c.in-None.ensures c.in_ok-wait-in-None.ensures
     ∙ c.loop-last.invariant
 

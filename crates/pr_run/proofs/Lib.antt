@@ -1,0 +1,10 @@
+pub mod ArrayLemmas
+pub mod CountLemmas
+pub mod DataLemmas
+pub mod ElementLemmas
+pub mod OpenedLemmas
+pub mod PlaceLemmas
+pub mod ReplacedLemmas
+pub mod RunLawLemmas
+pub mod StepLemmas
+pub mod UseLemmas

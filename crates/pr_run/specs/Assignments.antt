@@ -1,0 +1,163 @@
+-- Trusted: what is assigned to: variables, and elements of arrays. DIM and CLR.
+use Rattle.std.specs.Prelude.{ℕ, ◌+◌, ◌-◌, ◌*◌, ◌^◌, ◌==◌, ◌||◌, Bool, false, List, [], ◌∷◌, ◌++◌, length, replicate}
+use Rattle.std.specs.Prelude.{slice_set, if◌then◌else◌, Option, Some, None, Ok, Err}
+use Rattle.pr_interpreter.specs.declared.expressions.Placed.{Placed}
+use Rattle.pr_interpreter.specs.declared.memory.Array.{Array}
+use Rattle.pr_interpreter.specs.declared.memory.Arrays.{Arrays}
+use Rattle.pr_interpreter.specs.declared.memory.Variable.{Variable}
+use Rattle.pr_interpreter.specs.declared.names.Kind.{Kind}
+use Rattle.pr_interpreter.specs.declared.names.Kind.TheVariants.{Number as Numeric, Text as Letters, Whole as Short}
+use Rattle.pr_interpreter.specs.declared.names.Name.{Name}
+use Rattle.pr_interpreter.specs.declared.statements.Target.{Target}
+use Rattle.pr_interpreter.specs.declared.values.BasicError.TheVariants.{BadSubscript, RedimensionedArray, Syntax}
+use Rattle.pr_interpreter.specs.declared.values.Value.{Value}
+use Rattle.pr_interpreter.specs.Memory.{array_of, element_bytes, first_value, is_clock, is_status, place_of, same_name}
+use Rattle.pr_interpreter.specs.Memory.{undimensioned, with_array}
+use Rattle.pr_run.specs.declared.ending.Ending.{Ending}
+use Rattle.pr_run.specs.declared.ending.Ending.TheVariants.{Error, Refused}
+use Rattle.pr_run.specs.declared.ending.Refusal.TheVariants.{FullMemory, NotTaken, OpenFiles}
+use Rattle.pr_run.specs.declared.programs.Program.{Program}
+use Rattle.pr_run.specs.declared.uses.Use.{Use}
+use Rattle.pr_run.specs.States.{State, cleared}
+use Rattle.pr_run.specs.Uses.{Valued, Worked, and_then, kept, statement_use, use_at, use_of, used, whole_of}
+use Rattle.pr_run.specs.Worked.{each, every, then_on, valued, worked}
+
+-- ---- where a value is kept
+
+-- an item takes the place of the first one that is wanted, or comes at the end
+abbrev pub replaced : {A : Type 0} → (A → Bool) → A → List A → List A
+replaced wanted a [] = a ∷ []
+replaced wanted a (x ∷ xs) = if wanted x then a ∷ xs else x ∷ replaced wanted a xs
+
+-- a variable has a value
+unfoldable pub with_variable : Name → Value → List Variable → List Variable
+with_variable name v vs = replaced (λ x. same_name name x.name) (record { name = name; value = v }) vs
+
+-- elements, of which those after the last one have a first value, with another value at a place
+abbrev pub with_element : Value → ℕ → Value → List Value → List Value
+with_element first n v es = slice_set (es ++ replicate (n + 1 - length es) first) n v
+
+abbrev pub array_with : ℕ → Value → Array → Array
+array_with n v a = record a { elements = with_element (first_value a.name.kind) n v a.elements }
+
+-- an element of an array of these has a value
+abbrev pub with_element_of : Name → ℕ → Value → Option Array → List Array → List Array
+with_element_of name n v None list = list
+with_element_of name n v (Some a) list = replaced (λ x. same_name name x.name) (array_with n v a) list
+
+unfoldable pub with_value_at : Name → ℕ → Value → Arrays → Arrays
+with_value_at name n v arrays =
+    record arrays { list = with_element_of name n v (array_of name arrays.list) arrays.list }
+
+-- a value is kept: in a variable, or in an array at a place among its elements
+abbrev pub stored : Name → Option ℕ → Value → State → State
+stored name None v s = record s { variables = with_variable name v s.variables }
+stored name (Some n) v s = record s { arrays = with_value_at name n v s.arrays }
+
+-- ---- elements of arrays
+
+-- an index of an element
+unfoldable pub index : Program → Use → State → List Placed → Worked (Valued ℕ)
+index p u s nodes = then_on (worked p s nodes) (λ v t. valued t (used u (whole_of 32767 v)))
+
+unfoldable pub indices : Program → Use → State → List (List Placed) → Worked (Valued (List ℕ))
+indices p u s is = every (index p u) [] s is
+
+-- one more array, if the machine surely has room for it
+abbrev pub made_array : Use → State → Option Arrays → Worked State
+made_array u s None = Err (Refused FullMemory u.place)
+made_array u s (Some arrays) = Ok (record s { arrays = arrays })
+
+-- an array that is used before DIM
+abbrev pub made_undimensioned : Use → State → Name → ℕ → Worked State
+made_undimensioned u s name count =
+    made_array u s (with_array (undimensioned name count) (element_bytes name.kind * 11 ^ count) s.arrays)
+
+abbrev pub with_its_array : Use → State → Name → ℕ → Option Array → Worked State
+with_its_array u s name count None = made_undimensioned u s name count
+with_its_array u s name count (Some a) = Ok s
+
+abbrev pub place_or : Use → State → Option ℕ → Worked (Valued (Option ℕ))
+place_or u s None = Err (Error BadSubscript u.line)
+place_or u s (Some n) = Ok (record { value = Some n; after = s })
+
+abbrev pub place_in : Use → State → List ℕ → Option Array → Worked (Valued (Option ℕ))
+place_in u s is None = Err (Error BadSubscript u.line)
+place_in u s is (Some a) = place_or u s (place_of 0 a.bounds is)
+
+-- the place of an element in its array, which is made if it is used before DIM
+unfoldable pub element_in : Use → State → Name → List ℕ → Worked (Valued (Option ℕ))
+element_in u s name is =
+    and_then (with_its_array u s name (length is) (array_of name s.arrays.list))
+    (λ t. place_in u t is (array_of name t.arrays.list))
+
+-- where a target's value is kept; none for a variable
+abbrev pub place_for : Program → State → Target → List (List Placed) → Worked (Valued (Option ℕ))
+place_for p s t [] = Ok (record { value = None; after = s })
+place_for p s t (i ∷ is) = let u = use_at p s t.place in
+    then_on (indices p u s (i ∷ is)) (λ found r. element_in u r t.name found)
+
+-- TI and ST cannot be assigned to; TI$ sets the clock, which is not taken
+abbrev pub is_system : Name → List (List Placed) → Bool
+is_system name [] = is_clock name || is_status name
+is_system name (i ∷ is) = false
+
+abbrev pub system_ending : Use → Kind → Ending
+system_ending u Letters = Refused NotTaken u.place
+system_ending u Numeric = Error Syntax u.line
+system_ending u Short = Error Syntax u.line
+
+unfoldable pub target_place : Program → State → Target → Worked (Valued (Option ℕ))
+target_place p s t =
+    if is_system t.name t.indices then Err (system_ending (use_at p s t.place) t.name.kind)
+    else place_for p s t t.indices
+
+-- ---- LET
+
+-- a value is kept as the kind of the name wants it
+abbrev pub assigned : Use → Name → Option ℕ → Value → State → Worked State
+assigned u name at v s = and_then (used u (kept name.kind v)) (λ w. Ok (stored name at w s))
+
+-- LET: where the value is kept is worked out first
+unfoldable pub let_statement : Program → State → Target → List Placed → Worked State
+let_statement p s t nodes =
+    then_on (target_place p s t) (λ at r. then_on (worked p r nodes) (λ v u. assigned (use_of p u nodes) t.name at v u))
+
+-- ---- DIM
+
+-- how many elements there are
+abbrev pub element_count : List ℕ → ℕ
+element_count [] = 1
+element_count (b ∷ bs) = (b + 1) * element_count bs
+
+-- an array is made, if there is none of its name
+abbrev pub dimensioned : Use → State → Name → List ℕ → Option Array → Worked State
+dimensioned u s name bounds (Some a) = Err (Error RedimensionedArray u.line)
+dimensioned u s name bounds None =
+    let a : Array = record { name = name; bounds = bounds; elements = [] } in
+    made_array u s (with_array a (element_bytes name.kind * element_count bounds) s.arrays)
+
+-- a variable is not changed
+abbrev pub dimension_with : Program → State → Target → List (List Placed) → Worked State
+dimension_with p s t [] = Ok s
+dimension_with p s t (i ∷ is) = let u = use_at p s t.place in
+    then_on (indices p u s (i ∷ is)) (λ bounds r. dimensioned u r t.name bounds (array_of t.name r.arrays.list))
+
+unfoldable pub dimension : Program → State → Target → Worked State
+dimension p s t =
+    if is_system t.name t.indices then Err (system_ending (use_at p s t.place) t.name.kind)
+    else dimension_with p s t t.indices
+
+-- DIM
+unfoldable pub dim_statement : Program → State → List Target → Worked State
+dim_statement p s ts = each (dimension p) s ts
+
+-- ---- CLR
+
+-- CLR forgets the variables, and what is open; also files, which no script can do
+abbrev pub clear_if : Use → State → List ℕ → Worked State
+clear_if u s [] = if s.channel == 0 then Ok (cleared s) else Err (Refused OpenFiles u.place)
+clear_if u s (f ∷ fs) = Err (Refused OpenFiles u.place)
+
+unfoldable pub clear_statement : Program → State → Worked State
+clear_statement p s = clear_if (statement_use p s) s s.files

@@ -1,0 +1,16 @@
+pub mod Assignments
+pub mod Data
+pub mod Endings
+pub mod Items
+pub mod Jumps
+pub mod Lists
+pub mod Opened
+pub mod Outputs
+pub mod Places
+pub mod RunLaws
+pub mod Runs
+pub mod Seen
+pub mod States
+pub mod Steps
+pub mod Uses
+pub mod Worked

@@ -1,0 +1,97 @@
+//! A run of a program.
+
+ghost use Rattle.std.specs.Prelude.{◌≡◌, ◌++◌, IfOk, OnOk};
+ghost use Rattle.std.specs.Option.{option_to_list};
+ghost use Rattle.pr_run.specs.Runs.{run};
+ghost use Rattle.pr_run.specs.Endings.{is_memory};
+ghost use Rattle.pr_run.specs.Seen.{LeadsOn};
+
+use crate::ending::Ending;
+use crate::outcome::Outcome;
+use crate::performed::Performed;
+use crate::programs::Program;
+use crate::state::Run;
+use crate::steps::step;
+use crate::worked::line_at;
+use pr_page::Sequence;
+use std::alloc::{AllocError, Global};
+
+/// Adds what a step performed.
+fn put(performed: &mut Vec<Performed>, done: Option<Performed>) -> Result<(), AllocError>
+    ensures { OnOk result (performed.new.items ≡ performed.old.items ++ option_to_list done) }
+{
+    match done {
+        Some(done) => match performed.push(done) {
+            Ok(()) => Ok(()),
+            Err(_) => Err(AllocError),
+        },
+        None => Ok(()),
+    }
+}
+
+/// Returns whether memory ran out.
+fn is_memory(ending: Ending) -> bool
+    ensures { result ≡ is_memory ending }
+{
+    match ending {
+        Ending::OutOfMemory => true,
+        Ending::LastLine
+        | Ending::End(_)
+        | Ending::Break(_)
+        | Ending::Error { .. }
+        | Ending::Refused { .. }
+        | Ending::TooManySteps(_) => false,
+    }
+}
+
+/// Does a step, and adds what it performs. Returns how the run ends, if it does.
+#[tactic(auto, using(crate::proofs::StepLemmas::step_leads, crate::proofs::StepLemmas::step_stops))]
+fn advance(
+    alloc: Global,
+    program: &Program,
+    run: &mut Run,
+    performed: &mut Vec<Performed>,
+) -> Result<Option<Ending>, AllocError>
+    ensures { IfOk result (λ ending. LeadsOn program.now performed.old.items run.old performed.new.items run.new ending) }
+{
+    match step(alloc, program, run) {
+        Ok(done) => {
+            put(performed, done.performed)?;
+            Ok(done.ending)
+        }
+        Err(ending) => {
+            if is_memory(ending) {
+                return Err(AllocError);
+            }
+            Ok(Some(ending))
+        }
+    }
+}
+
+/// Runs a program, for so many steps at most: a step is a statement, or goes from the end of a line to the next one.
+/// Returns what it performs, and how it ends.
+///
+/// # Errors
+///
+/// Memory ran out.
+#[tactic(auto, using(crate::proofs::StepLemmas::runs_on, crate::proofs::StepLemmas::runs_ended, crate::proofs::StepLemmas::runs_out), unfolding(crate::specs::Runs::run))]
+pub fn run_program(alloc: Global, program: &Program, limit: u64) -> Result<Outcome, AllocError>
+    ensures { IfOk result (λ outcome. outcome ≡ run limit program.now) }
+{
+    let mut run = Run::new(alloc);
+    let mut performed = Vec::new(alloc);
+    let mut left = limit;
+    'steps: while 0 < left {
+        left -= 1;
+        if let Some(ending) = advance(alloc, program, &mut run, &mut performed)? {
+            return Ok(Outcome {
+                performed: Sequence::from_vec(performed),
+                ending,
+            });
+        }
+    }
+    Ok(Outcome {
+        performed: Sequence::from_vec(performed),
+        ending: Ending::TooManySteps(line_at(program, &run)),
+    })
+}
