@@ -311,10 +311,10 @@ static void try_pictures(int tells) {
     try_one("picture", few_marks, 0, "--as png", tells);
     /* Marks are refused all the same where memory is: the first allocation, the second, or any. */
     for (index = 0; index < 4; index++) {
-        const long before = live;
+        const long kept = live;
         taken = 0, refused_from = index == 3 ? 1 : (long)index, refused_to = index == 3 ? MOST : (long)index;
         if (print1525_printer_picture(bad_marks, 2, NULL, gather, &to, &details) != PRINT1525_REFUSED ||
-            details.fault != PRINT1525_FAULT_MARK_ABOVE || details.place != 1 || to.length > 0 || live != before)
+            details.fault != PRINT1525_FAULT_MARK_ABOVE || details.place != 1 || to.length > 0 || live != kept)
             is_wrong("a mark above, where memory is refused", (long)index);
     }
     refused_from = refused_to = 0;
