@@ -310,8 +310,10 @@ typedef struct {
 /* Gives how long a printer takes for columns of dots and line feeds, in microseconds: less than 2^53. When a line ends,
  * its device prints until that moment plus this time: print1525_device_busy.
  *
- * Reads: how many columns a line has from the left edge, blank ones too: six for a character, at most 480, as the
- * printer's `x` counts them; how many line feeds; and a speed, or of NULL that of the manual. */
+ * Reads: how many columns a line has from the left edge to where its marks reach, blank ones between them too, of a
+ * printer at most 480: a mark has its `x` and one column of dots, six of a character or twelve of a wide one; how
+ * many line feeds; and a speed, or of NULL that of the manual. (The `x` of a printer is no measure: it may be moved
+ * back, and a byte that ends the line may still have marks in it.) The time is rounded up. */
 uint64_t print1525_printing_time(uint32_t columns, uint16_t feeds, const print1525_speed *speed);
 
 /* -------------------------------------------------------------------------------- printers that are watched -- */
@@ -333,7 +335,8 @@ typedef struct {
     uint64_t y;      /* its row's distance from the top, in 1/126 inch */
     uint16_t x;      /* the dot column at which it begins, 0 to 479, in 1/60 inch */
     uint8_t kind;    /* one of enum print1525_mark_kind */
-    uint8_t value;   /* a cell's code; or the dots of a column, bit 0 at the top */
+    uint8_t value;   /* a cell's code (docs/DEFINITIONS.md has what each prints), or the dots of a column, bit 0 at the
+                      * top */
     uint8_t lower;   /* 1: a cell of the lower/upper case set */
     uint8_t reverse; /* 1: a cell white on black */
     uint8_t wide;    /* 1: a cell of double width */
@@ -345,7 +348,8 @@ typedef struct {
  * is 2^63, and a number that means nothing is 0. Memory of zeros is a printer just begun. */
 typedef struct {
     uint64_t y;           /* the line's distance from the top, in 1/126 inch: its marks have it too */
-    uint16_t x;           /* the dot column to which the next mark goes, at most 480 */
+    uint16_t x;           /* the dot column to which the next mark goes, at most 480; one that does not fit there goes
+                           * to the next line */
     uint8_t graphic;      /* 1: graphic mode */
     uint8_t wide;         /* 1: double width */
     uint8_t reverse;      /* 1: reverse printing */
@@ -371,8 +375,9 @@ int print1525_printer_select(print1525_printer *printer, uint8_t set, print1525_
  * print1525_print makes of the same inputs, row by row in order, and then those of the line that has not ended.
  *
  * Reads: a printer that was begun.
- * Gives: the marks: none, one, or those of a repeat. Capacity and length count marks; PRINT1525_MARKS_OF_A_BYTE have
- * room for those of any byte. Where the line ends, the printer's `y` grows by 21, or 14 in graphic mode.
+ * Gives: the marks: none, one, or those of a repeat, which may be in two lines. Capacity and length count marks;
+ * PRINT1525_MARKS_OF_A_BYTE have room for those of any byte. Where the line ends, the printer's `y` grows by 21, or 14
+ * in graphic mode.
  * Refuses: NULL (80) and OVERLAP (81). Where the buffer is too small (91) the byte is not taken. With all of these the
  * printer is as it was. */
 int print1525_printer_byte(print1525_printer *printer, uint8_t byte, print1525_mark *marks, size_t capacity,
@@ -460,7 +465,8 @@ size_t print1525_characters_size(void);
 
 /* Reads a file of characters, as the program's option --characters does.
  *
- * Reads: the text of the file; an empty one means this project's own characters.
+ * Reads: the text of the file (examples/characters.txt has its form); an empty one means this project's own
+ * characters.
  * Gives: the characters.
  * Refuses, with the characters as they were: NULL (80), OVERLAP (81), and a file by its first bad line (52). */
 int print1525_characters_read(const void *text, size_t length, print1525_characters *characters,

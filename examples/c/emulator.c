@@ -18,6 +18,7 @@ typedef struct {
     print1525_device device;
     print1525_step step;
     print1525_printer printer; /* of a printer: what it keeps between two bytes, and its paper */
+    uint16_t columns;          /* how far the marks of its line reach */
     uint8_t paper[HEIGHT][WIDTH];
 } device;
 
@@ -35,18 +36,30 @@ static int atn = 1, clock_line = 1, data = 1;
 static uint64_t now;
 static FILE *trace;
 
+/* How far a line reaches with more marks, of which some may be in another line. */
+static uint16_t reach(uint16_t columns, const print1525_mark *marks, size_t length, uint64_t line) {
+    for (; length > 0; length--, marks++) {
+        const int end = marks->x + (marks->kind == PRINT1525_DOTS ? 1 : marks->wide ? 12 : 6);
+        if (marks->y == line && end > columns) columns = (uint16_t)end;
+    }
+    return columns;
+}
+
 /* A byte goes to a printer. It keeps a line until its end, and prints it then, 30 characters a second: the computer
- * waits that long. */
+ * waits that long. A feed in graphic mode is two thirds as far. */
 static void print(device *it, uint8_t byte) {
     static const print1525_region sheet = {0, 0, WIDTH, HEIGHT, 0, PRINT1525_GRAY};
     print1525_mark marks[PRINT1525_MARKS_OF_A_BYTE];
     const uint64_t line = it->printer.y;
-    const uint16_t columns = it->printer.x;
+    print1525_speed speed = {0, 0};
     size_t length;
     print1525_printer_byte(&it->printer, byte, marks, PRINT1525_MARKS_OF_A_BYTE, &length, NULL);
     print1525_printer_draw(marks, length, &sheet, it->paper[0], sizeof it->paper, NULL);
-    if (it->printer.y != line)
-        print1525_device_busy(&it->device, now + print1525_printing_time(columns, 1, NULL), NULL);
+    it->columns = reach(it->columns, marks, length, line);
+    if (it->printer.y == line) return;
+    if (it->printer.y - line == 14) speed.feed = 133333;
+    print1525_device_busy(&it->device, now + print1525_printing_time(it->columns, 1, &speed), NULL);
+    it->columns = reach(0, marks, length, it->printer.y);
 }
 
 static void printer_hears(device *it, print1525_received heard) {

@@ -39,15 +39,17 @@ static int write_sheet(const char *prefix, uint64_t sheet, size_t length) {
     file = fopen(name, "wb");
     if (file == NULL) return PRINT1525_FAILED;
     status = print1525_printer_picture(marks, length, &settings, to_file, file, NULL);
-    return fclose(file) == 0 ? status : PRINT1525_FAILED;
+    if (fclose(file) != 0) status = PRINT1525_FAILED;
+    if (status != PRINT1525_DONE) remove(name);
+    return status;
 }
 
-/* Writes a sheet, after which the paper goes on at y, and forgets its marks but those that reach below it. */
+/* Writes a sheet, below which the paper goes on at y, and forgets its marks but those that reach below it. */
 static int end_sheet(const char *prefix, uint64_t sheet, uint64_t y) {
     const print1525_mark no_dots = {y, 0, PRINT1525_DOTS, 0, 0, 0, 0};
     size_t at, kept = 0;
     int status;
-    marks[count] = no_dots; /* a mark further down, without which a sheet at the end without marks would be none */
+    marks[count] = no_dots; /* a mark further down, without which a sheet without marks would be none */
     status = write_sheet(prefix, sheet, count + 1);
     for (at = 0; at < count; at++)
         if (marks[at].y + 13 >= sheet * PRINT1525_SHEET) marks[kept++] = marks[at];
@@ -58,7 +60,7 @@ static int end_sheet(const char *prefix, uint64_t sheet, uint64_t y) {
 int main(int words, char **word) {
     const int is_lower = words == 3 && strcmp(word[2], "lower") == 0;
     print1525_printer printer;
-    uint64_t sheet = 1;
+    uint64_t sheet = 1, line, last = 0; /* the last line that has ended */
     size_t length;
     int byte, status = PRINT1525_DONE;
     if (words != 2 && !is_lower && !(words == 3 && strcmp(word[2], "upper") == 0)) {
@@ -70,14 +72,17 @@ int main(int words, char **word) {
     printer.y = 3 * 21; /* the paper is put in with its first line three lines below the edge */
     while (status == PRINT1525_DONE && (byte = getchar()) != EOF) {
         if (!has_room()) return PRINT1525_FAILED;
+        line = printer.y;
         print1525_printer_byte(&printer, (uint8_t)byte, marks + count, PRINT1525_MARKS_OF_A_BYTE, &length, NULL);
         count += length;
+        if (printer.y != line) last = line;
         for (; status == PRINT1525_DONE && printer.y >= sheet * PRINT1525_SHEET; sheet++)
             status = end_sheet(word[1], sheet, printer.y);
     }
     /* A line that has not ended is not on the paper yet. */
     while (count > 0 && marks[count - 1].y == printer.y) count--;
-    if (status == PRINT1525_DONE && (count > 0 || sheet == 1)) status = write_sheet(word[1], sheet, count);
+    if (status == PRINT1525_DONE && (sheet == 1 || last + 13 >= (sheet - 1) * PRINT1525_SHEET))
+        status = has_room() ? end_sheet(word[1], sheet, sheet * PRINT1525_SHEET) : PRINT1525_FAILED;
     free(marks);
     return status;
 }
