@@ -103,6 +103,11 @@ marks_of_rows marks paper none rows held = record {
   rows = subst (λ l. AreMarked 0 l) (sym rows) (rows_marked 0 0 0 [] marks (omega arith) none);
 }
 
+pub a_paper : (marks : List WireMark) → first_up 0 0 marks ≡ None → (paper : Paper) × HasMarks marks paper
+a_paper marks none =
+    let paper : Paper = record { rows = rows_after 0 [] marks; held = [] } in
+    (paper, marks_of_rows marks paper none refl refl)
+
 -- the rows of a page, each below the one before it
 abbrev AreBelow : (from : ℕ) → List Row → Type 0
 AreBelow from [] = Unit {0}

@@ -61,6 +61,10 @@ MarksHaveTheirPage =
     (inputs : List Input) (page : Paper) (y : ℕ) (marks : List WireMark) → IsPage inputs page → page.held ≡ []
     → map on_paper marks ≡ marks_on page y → HasMarks marks (without_blank page)
 
+-- a law: marks have a paper, where none is above the one before it
+abbrev pub MarksHaveAPaper : Type 0
+MarksHaveAPaper = (marks : List WireMark) → first_up 0 0 marks ≡ None → (paper : Paper) × HasMarks marks paper
+
 -- a law: marks have no more than one paper
 abbrev pub MarksHaveOnePaper : Type 0
 MarksHaveOnePaper =

@@ -1,7 +1,7 @@
 //! Marks on the paper as plain numbers, and the paper that has them.
 
 ghost use Rattle.std.specs.Prelude.{◌≡◌, ◌++◌, [], None, IfOk, OnOk};
-ghost use Rattle.pr_exports.specs.Marks.{HasMarks, MarksHaveOnePaper, MarksHaveTheirPage, first_up, mark_by};
+ghost use Rattle.pr_exports.specs.Marks.{HasMarks, MarksHaveAPaper, MarksHaveOnePaper, MarksHaveTheirPage, first_up, mark_by};
 ghost use Rattle.pr_exports.specs.MarkSteps.{placed_by, row_of, rows_after};
 
 use pr_page::{Mark, NoMemory, Paper, Placed, Row, Sequence};
@@ -108,9 +108,10 @@ pub fn paper_with(alloc: Global, marks: &[WireMark]) -> Result<Paper, NoMemory>
     })
 }
 
-/// A law, with nothing to run: marks of the page of inputs are those of the page without its blank rows, and marks have
-/// no more than one paper.
+/// A law, with nothing to run: marks of the page of inputs are those of the page without its blank rows, and marks of
+/// which none is above the one before it have one paper.
 pub fn marks_have_their_page()
     ensures page { MarksHaveTheirPage }
+    ensures some { MarksHaveAPaper }
     ensures one { MarksHaveOnePaper }
 {}
