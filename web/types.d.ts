@@ -12,7 +12,15 @@ declare const Buffer: {
   allocUnsafe(size: number): Buffer;
   concat(parts: Uint8Array[]): Buffer;
 };
-declare const process: { argv: string[]; env: Record<string, string | undefined>; exitCode?: number; platform: string; stdin: { isTTY?: boolean } };
+declare const process: {
+  argv: string[];
+  env: Record<string, string | undefined>;
+  exitCode?: number;
+  platform: string;
+  stdin: { isTTY?: boolean };
+  stderr: { isTTY?: boolean };
+  umask(): number;
+};
 declare module 'node:fs' {
   export const constants: { O_WRONLY: number };
   export function copyFileSync(name: URL, next: URL): void;
@@ -22,7 +30,7 @@ declare module 'node:fs' {
   export function fstatSync(file: number): { mode: number; isFile(): boolean };
   export function fstatSync(file: number, how: { bigint: true }): { ino: bigint; dev: bigint; isFile(): boolean };
   export function fsyncSync(file: number): void;
-  export function openSync(name: string, flags: string | number): number;
+  export function openSync(name: string, flags: string | number, mode?: number): number;
   export function readFileSync(name: string | URL): Buffer;
   export function readFileSync(name: string | URL, encoding: string): string;
   export function readlinkSync(name: string): string;

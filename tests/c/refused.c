@@ -3,9 +3,10 @@
  * CHARACTERS is a file as of --characters. Every call that takes memory is made over small inputs with its settings in turn. Where an
  * allocation is refused, the call fails with PRINT1525_FAULT_NO_MEMORY and nothing else in the details, or it does without and answers as
  * ever. In both cases all memory is given back, each block once; the inputs and the settings stay as they were, and so does the whole
- * buffer of a call that fails. Calls for edges, words and watched printers take no memory at all. Nothing waits: a call that takes more than MOST
- * allocations, and a test that takes more than SECONDS, is WRONG. Status 0, else 1 and a line for each thing that is WRONG. With `tell` it
- * writes how many allocations each call made. Linked with -Wl,--wrap=malloc,--wrap=realloc,--wrap=free. */
+ * buffer of a call that fails. Calls for edges, words and watched printers take no memory at all. Nothing waits: a call that takes more
+ * than MOST allocations, and a test that takes more than SECONDS (four times as many with FEW, under an emulator), is WRONG. Status 0, else
+ * 1 and a line for each thing that is WRONG. With `tell` it writes how many allocations each call made. Linked with
+ * -Wl,--wrap=malloc,--wrap=realloc,--wrap=free. */
 #define _DEFAULT_SOURCE
 #include "options.h"
 #include <stdio.h>
@@ -492,7 +493,7 @@ int main(int words, char **word) {
     if (file == NULL) return 98;
     characters_length = fread(characters, 1, sizeof characters - 1, file);
     fclose(file);
-    alarm(SECONDS);
+    alarm(getenv("FEW") ? 4 * SECONDS : SECONDS);
     print1525_bus("OPEN 4,4\nPRINT#4,\"A\"\n", 21, &settings, trace, sizeof trace, &trace_length, &details);
     settings.as = PRINT1525_AS_VCD;
     print1525_bus("OPEN 4,4\nPRINT#4,\"A\"\n", 21, &settings, dump, sizeof dump, &dump_length, &details);
