@@ -1,7 +1,8 @@
 /* What a caller of include/print1525.h carries, as the header says: how much stack the calls take, and that they work on a thread with
  * no more; in a child of fork; in a signal handler (the calls for edges, words and watched printers) while the program is within a call; over a malloc
  * that aligns no better than C demands and gives memory full of rubbish; and into buffers full of rubbish. Status 0, else a line for
- * each thing that is WRONG and 1. With a word it writes the stack that each call takes. Linked with
+ * each thing that is WRONG and 1. With a word it writes the stack that each call takes. With PLAIN in the environment the library's
+ * compiler does not optimise, and calls that take no memory may take twice the stack. Linked with
  * -Wl,--wrap=malloc,--wrap=realloc,--wrap=free. */
 #define _GNU_SOURCE
 #include "options.h"
@@ -109,7 +110,10 @@ static const char *const others[] = {"decoder", "receiver and device", "words", 
 static const char *name_of(int call) { return call < TEXTS ? texts[call].name : others[call - TEXTS]; }
 
 /* How much stack a call takes at most. */
-static size_t stack_most(int call) { return call < TEXTS ? PRINT1525_STACK : call == DOTS ? CHARACTERS_STACK : SMALL_STACK; }
+static size_t stack_most(int call) {
+    if (call < TEXTS) return PRINT1525_STACK;
+    return call == DOTS ? CHARACTERS_STACK : getenv("PLAIN") ? 2 * SMALL_STACK : SMALL_STACK;
+}
 
 /* What a call tells: its details, and the length beside them. */
 typedef struct {
