@@ -1,0 +1,5 @@
+pub mod Forms
+pub mod Made
+pub mod ScriptLaws
+pub mod Scripts
+pub mod Seen
