@@ -24,7 +24,7 @@ use Rattle.pr_programs.specs.declared.form.Form.{Form}
 use Rattle.pr_programs.specs.declared.form.Form.TheVariants as form
 use Rattle.pr_programs.specs.declared.made.Made.{Made}
 use Rattle.pr_programs.specs.Forms.{IsRun}
-use Rattle.pr_programs.specs.Made.{made}
+use Rattle.pr_programs.specs.Made.{IsMade, IsUnmade}
 use Rattle.pr_serial.specs.declared.Present.{Present}
 use Rattle.pr_options.specs.declared.command_line.Job.{Job}
 use Rattle.pr_options.specs.declared.command_line.Job.TheVariants.{Pages, Bus, Script, Check, Decode, Raw}
@@ -288,13 +288,13 @@ abbrev pub IsBasicFault : (steps : ℕ) → List ℕ → BasicFault → Type 0
 IsBasicFault steps bytes basic.TooLarge = script_limit < length bytes
 IsBasicFault steps bytes basic.ReadFailed = Unit {0}
 IsBasicFault steps bytes basic.NoMemory = Unit {0}
-IsBasicFault steps bytes fault = (length bytes ≤ script_limit) × (made steps bytes ≡ Err fault)
+IsBasicFault steps bytes fault = (length bytes ≤ script_limit) × IsUnmade steps bytes fault
 
 -- how it ends a job that runs a program for so many steps at most: by the script that comes of it and how the program's run ended; or
 -- no script comes of it, and nothing is written
 abbrev pub EndsProgram : (located : Bool) → Shapes → Job → (steps : ℕ) → List ℕ → Option (List ℕ) → Option (List ℕ) → End → Type 0
 EndsProgram located shapes job steps bytes old new end =
-    ((found : Made) × (ended : End) × (length bytes ≤ script_limit) × (made steps bytes ≡ Ok found)
+    ((found : Made) × (ended : End) × (length bytes ≤ script_limit) × IsMade steps bytes found
     × EndsJob located shapes job found.text old new ended × (end ≡ ended_after found.ran ended))
     ⊎ ((fault : BasicFault) × IsBasicFault steps bytes fault × (new ≡ old) × (end ≡ Basic fault))
 

@@ -110,6 +110,8 @@ struct Reporting<'a> {
     is_quiet: bool,
     /// What is to be noted of the listing of which a script was made.
     note: ListingNote,
+    /// The script came of a program, so its lines are not the user's.
+    is_made: bool,
     /// The input can be read a second time for that: it is a file by name, and no pipe or device. Any other is kept.
     is_file: bool,
     /// How many bytes have come of the input.
@@ -177,6 +179,7 @@ fn open_input(
         is_noted: !around.is_quiet && (around.is_explained || around.terminals.error),
         is_quiet: around.is_quiet,
         note: ListingNote::Nothing,
+        is_made: false,
         is_file: false,
         count: &count,
         is_shown: &is_shown,
@@ -246,6 +249,7 @@ pub fn answer_given(
         is_noted: telling.is_explained && !telling.is_quiet,
         is_quiet: telling.is_quiet,
         note: ListingNote::Nothing,
+        is_made: false,
         is_file: false,
         count: &count,
         is_shown: &is_shown,
@@ -492,6 +496,10 @@ fn run_program<W: Write + Drop>(
     match made_script(rt.alloc(), bytes, steps) {
         Ok(made) => {
             let script = made.text.as_slice();
+            let aside = Reporting {
+                is_made: true,
+                ..aside
+            };
             let (end, writer) = run_job(rt, script, writer, names, None, work, aside);
             let end = end.after(made.ran);
             tell_ran(rt, bytes, made.ran, end, aside.is_explained, aside.is_noted);
@@ -815,6 +823,9 @@ fn tell_bytes(
     }
     note_listing(rt, aside.note);
     let is_whole = aside.is_explained || aside.count.get() <= NOTED;
+    if aside.is_made {
+        return None;
+    }
     tell_notes(rt, bytes, is_whole, subject);
     blank_reason(bytes)
 }

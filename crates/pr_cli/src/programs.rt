@@ -82,6 +82,10 @@ fn reason_hint(reason: Reason) -> &'static str {
         Reason::Statement => {
             "the statement needs a keyboard, a disk, machine code or the program's text, so the program is not run"
         }
+        Reason::Name => {
+            "in a string { begins a name of a key and } ends it, as {DOWN}, {5 SPACES} or {$8E}"
+        }
+        Reason::Byte => "a string has letters, digits and signs of ASCII; other keys have names, as {SHIFT-A}",
         Reason::NotCertain => {
             "numbers are rounded in the C64, and its possible results give different answers here"
         }

@@ -2,4 +2,4 @@ pub mod Forms
 pub mod Made
 pub mod ScriptLaws
 pub mod Scripts
-pub mod Seen
+pub mod Typed

@@ -23,6 +23,12 @@ pub enum Reason {
     /// The statement is not run, as INPUT or SYS.
     #[error("statement not supported")]
     Statement,
+    /// A brace in a string begins no name of a key.
+    #[error("unknown name")]
+    Name,
+    /// A string has a byte that is none of 32 to 126.
+    #[error("bad byte")]
+    Byte,
     /// What the machine would do is not certain: a value, or the screen's column.
     #[error("not certain")]
     NotCertain,
@@ -66,7 +72,7 @@ pub enum BasicFault {
         reason: Reason,
     },
     /// The run has as many steps as it may have, and is in this line of the program.
-    #[error("too many steps in {0}")]
+    #[error("line {0}: too many steps")]
     TooManySteps(u16),
     /// The text has more bytes than the limit.
     #[error("input too large")]

@@ -3,6 +3,7 @@
 ghost use Rattle.std.specs.Prelude.{◌↔◌, IfOk, IsTrue};
 ghost use Rattle.pr_programs.specs.Forms.{IsRun};
 
+use crate::typed::{TypedFault, typed_text};
 use pr_basic::{ScriptFault, read_script};
 use pr_interpreter::ProgramFault;
 use pr_listing::ListingForm;
@@ -36,7 +37,12 @@ pub fn is_run(alloc: Global, text: &[u8]) -> Result<bool, AllocError>
         Err(ScriptFault::NoMemory) => return Err(AllocError),
         Err(_) => {}
     }
-    match program_of(alloc, text) {
+    let typed = match typed_text(alloc, text) {
+        Ok(typed) => typed,
+        Err(TypedFault::At(_, _)) => return Ok(false),
+        Err(TypedFault::NoMemory) => return Err(AllocError),
+    };
+    match program_of(alloc, &typed.text) {
         Ok(_) => Ok(true),
         Err(ProgramFault::OutOfMemory) => Err(AllocError),
         Err(_) => Ok(false),

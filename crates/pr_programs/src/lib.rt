@@ -9,7 +9,7 @@
 //! what a run performs.
 //!
 //! - `scripts` writes the script of what is performed, `lists` the list of a statement.
-//! - `made` runs a program, `places` has the row of a place, `fault` says why there is no script, `errors` has the
+//! - `typed` reads the names of keys in strings, `made` runs a program, `places` has the row of a place, `fault` says why there is no script, `errors` has the
 //!   words of the errors of BASIC.
 //! - `form` has the forms of what a script is made of.
 #![tactic(auto)]
@@ -22,6 +22,7 @@ mod lists;
 mod made;
 mod places;
 mod scripts;
+mod typed;
 
 pub use errors::error_name;
 pub use fault::{BasicFault, Reason};

@@ -1,12 +1,12 @@
 //! What comes of a program.
 
-ghost use Rattle.std.specs.Prelude.{◌≡◌, Ok, IfErr, IfOk};
-ghost use Rattle.pr_programs.specs.Made.{made, made_of, reason_of, refused_at, unread};
-ghost use Rattle.pr_programs.specs.Seen.{FaultsAs};
+ghost use Rattle.std.specs.Prelude.{◌≡◌, ◌⊎◌, IfErr, IfOk};
+ghost use Rattle.pr_programs.specs.Made.{IsMade, IsUnmade, reason_of, refused_at};
 
 use crate::fault::{BasicFault, Reason};
 use crate::places::row_of;
 use crate::scripts::script_text;
+use crate::typed::{Typed, TypedFault, typed_text};
 use pr_interpreter::{BasicError, ProgramFault, column_of};
 use pr_page::Sequence;
 use pr_run::{Ending, Outcome, Refusal, program_of, run_program};
@@ -44,17 +44,16 @@ fn refused_at(text: &[u8], place: usize, reason: Reason) -> BasicFault
 }
 
 /// The fault of a text that is not read as a program.
-fn unread(text: &[u8], fault: ProgramFault) -> BasicFault
-    ensures { result ≡ unread text.now fault }
-{
-    match fault {
-        ProgramFault::OutOfMemory => BasicFault::NoMemory,
-        ProgramFault::NoLineNumber(place) => refused_at(text, place, Reason::NoLineNumber),
-        ProgramFault::LargeLineNumber(place) => refused_at(text, place, Reason::LargeLineNumber),
-        ProgramFault::NoExpression(place) => refused_at(text, place, Reason::NoExpression),
-        ProgramFault::NoStatement(place) => refused_at(text, place, Reason::NoStatement),
-        ProgramFault::NotTaken(place) => refused_at(text, place, Reason::Statement),
-    }
+fn unread(text: &[u8], typed: &Typed, fault: ProgramFault) -> BasicFault {
+    let (place, reason) = match fault {
+        ProgramFault::OutOfMemory => return BasicFault::NoMemory,
+        ProgramFault::NoLineNumber(place) => (place, Reason::NoLineNumber),
+        ProgramFault::LargeLineNumber(place) => (place, Reason::LargeLineNumber),
+        ProgramFault::NoExpression(place) => (place, Reason::NoExpression),
+        ProgramFault::NoStatement(place) => (place, Reason::NoStatement),
+        ProgramFault::NotTaken(place) => (place, Reason::Statement),
+    };
+    refused_at(text, typed.place_of(place), reason)
 }
 
 /// Why a statement is not run.
@@ -76,23 +75,28 @@ fn reason_of(refusal: Refusal) -> Reason
 }
 
 /// How a run ended, if there is a script of it.
-fn ran_so(text: &[u8], ending: Ending) -> Result<Ran, BasicFault> {
+fn ran_so(text: &[u8], typed: &Typed, ending: Ending) -> Result<Ran, BasicFault> {
     match ending {
         Ending::LastLine | Ending::End(_) => Ok(Ran::Ended),
         Ending::Break(line) => Ok(Ran::Break(line)),
         Ending::Error { error, line } => Ok(Ran::Error { error, line }),
-        Ending::Refused { refusal, place } => Err(refused_at(text, place, reason_of(refusal))),
+        Ending::Refused { refusal, place } => {
+            let place = typed.place_of(place);
+            Err(refused_at(text, place, reason_of(refusal)))
+        }
         Ending::TooManySteps(line) => Err(BasicFault::TooManySteps(line)),
         Ending::OutOfMemory => Err(BasicFault::NoMemory),
     }
 }
 
 /// What comes of a run of the program of a text.
-fn made_of(alloc: Global, text: &[u8], outcome: Outcome) -> Result<Made, BasicFault>
-    ensures ok { IfOk result (λ found. made_of text.now outcome ≡ Ok found) }
-    ensures err { IfErr result (λ fault. FaultsAs fault (made_of text.now outcome)) }
-{
-    let ran = ran_so(text, outcome.ending)?;
+fn made_of(
+    alloc: Global,
+    text: &[u8],
+    typed: &Typed,
+    outcome: Outcome,
+) -> Result<Made, BasicFault> {
+    let ran = ran_so(text, typed, outcome.ending)?;
     let script = script_text(alloc, outcome.performed.as_slice())?;
     Ok(Made {
         text: Sequence::from_vec(script),
@@ -110,13 +114,18 @@ fn made_of(alloc: Global, text: &[u8], outcome: Outcome) -> Result<Made, BasicFa
 /// - [`BasicFault::TooManySteps`]: the run does not end within the steps.
 /// - [`BasicFault::NoMemory`]: memory was refused.
 pub fn made_script(alloc: Global, text: &[u8], steps: u64) -> Result<Made, BasicFault>
-    ensures ok { IfOk result (λ found. made steps text.now ≡ Ok found) }
-    ensures err { IfErr result (λ fault. FaultsAs fault (made steps text.now)) }
+    ensures ok { IfOk result (λ found. IsMade steps text.now found) }
+    ensures err { IfErr result (λ fault. (fault ≡ BasicFault.NoMemory) ⊎ IsUnmade steps text.now fault) }
 {
-    let program = match program_of(alloc, text) {
+    let typed = match typed_text(alloc, text) {
+        Ok(typed) => typed,
+        Err(TypedFault::At(place, reason)) => return Err(refused_at(text, place, reason)),
+        Err(TypedFault::NoMemory) => return Err(BasicFault::NoMemory),
+    };
+    let program = match program_of(alloc, &typed.text) {
         Ok(program) => program,
-        Err(fault) => return Err(unread(text, fault)),
+        Err(fault) => return Err(unread(text, &typed, fault)),
     };
     let outcome = run_program(alloc, &program, steps)?;
-    made_of(alloc, text, outcome)
+    made_of(alloc, text, &typed, outcome)
 }
