@@ -25,6 +25,7 @@ use Rattle.pr_programs.specs.declared.form.Form.TheVariants as form
 use Rattle.pr_programs.specs.declared.made.Made.{Made}
 use Rattle.pr_programs.specs.Forms.{IsRun}
 use Rattle.pr_programs.specs.Made.{IsMade, IsUnmade}
+use Rattle.pr_programs.specs.Saved.{IsTextOf, IsUnsaved}
 use Rattle.pr_serial.specs.declared.Present.{Present}
 use Rattle.pr_options.specs.declared.command_line.Job.{Job}
 use Rattle.pr_options.specs.declared.command_line.Job.TheVariants.{Pages, Bus, Script, Check, Decode, Raw}
@@ -283,20 +284,26 @@ EndsListing located shapes job form bytes old new end =
     ((text : List ℕ) × (length bytes ≤ script_limit) × HasText form bytes text × EndsJob located shapes job text old new end)
     ⊎ ((fault : TextFault) × IsTextFault form script_limit bytes fault × (new ≡ old) × (end ≡ Listing fault))
 
--- why no script comes of an input's bytes as a program; or that they were not read
-abbrev pub IsBasicFault : (steps : ℕ) → List ℕ → BasicFault → Type 0
-IsBasicFault steps bytes basic.TooLarge = script_limit < length bytes
-IsBasicFault steps bytes basic.ReadFailed = Unit {0}
-IsBasicFault steps bytes basic.NoMemory = Unit {0}
-IsBasicFault steps bytes fault = (length bytes ≤ script_limit) × IsUnmade steps bytes fault
+-- how it ends a job that runs the program of a text for so many steps at most: by the script that comes of it and how the program's
+-- run ended; or no script comes of it, and nothing is written
+abbrev pub EndsRun : (located : Bool) → Shapes → Job → (steps : ℕ) → List ℕ → Option (List ℕ) → Option (List ℕ) → End → Type 0
+EndsRun located shapes job steps text old new end =
+    ((found : Made) × (ended : End) × IsMade steps text found
+    × EndsJob located shapes job found.text old new ended × (end ≡ ended_after found.ran ended))
+    ⊎ ((fault : BasicFault) × (fault ≡ basic.NoMemory ⊎ IsUnmade steps text fault) × (new ≡ old) × (end ≡ Basic fault))
 
--- how it ends a job that runs a program for so many steps at most: by the script that comes of it and how the program's run ended; or
--- no script comes of it, and nothing is written
+-- why an input has no text of a program; or it was not read
+abbrev pub IsNoProgram : List ℕ → BasicFault → Type 0
+IsNoProgram bytes basic.TooLarge = script_limit < length bytes
+IsNoProgram bytes basic.ReadFailed = Unit {0}
+IsNoProgram bytes basic.NoMemory = Unit {0}
+IsNoProgram bytes fault = (length bytes ≤ script_limit) × IsUnsaved bytes fault
+
+-- the same of an input's bytes, which may be a saved program
 abbrev pub EndsProgram : (located : Bool) → Shapes → Job → (steps : ℕ) → List ℕ → Option (List ℕ) → Option (List ℕ) → End → Type 0
 EndsProgram located shapes job steps bytes old new end =
-    ((found : Made) × (ended : End) × (length bytes ≤ script_limit) × IsMade steps bytes found
-    × EndsJob located shapes job found.text old new ended × (end ≡ ended_after found.ran ended))
-    ⊎ ((fault : BasicFault) × IsBasicFault steps bytes fault × (new ≡ old) × (end ≡ Basic fault))
+    ((text : List ℕ) × (length bytes ≤ script_limit) × IsTextOf bytes text × EndsRun located shapes job steps text old new end)
+    ⊎ ((fault : BasicFault) × IsNoProgram bytes fault × (new ≡ old) × (end ≡ Basic fault))
 
 -- how it ends a job on a text that is run as a program only if it is no script, and reads as one
 abbrev pub EndsEither : (located : Bool) → Shapes → Job → (steps : ℕ) → List ℕ → Option (List ℕ) → Option (List ℕ) → End → Type 0

@@ -117,6 +117,7 @@ text_status listing.NoMemory = 3
 -- 2 when a program is refused, 3 when memory was refused, or a read failed
 abbrev pub basic_status : BasicFault → ℕ
 basic_status (basic.Refused row column reason) = 2
+basic_status (basic.Listing why) = 2
 basic_status (basic.TooManySteps line) = 2
 basic_status basic.TooLarge = 2
 basic_status basic.ReadFailed = 3

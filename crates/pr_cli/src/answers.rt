@@ -5,7 +5,7 @@ ghost use Rattle.std.specs.Io.KnownBytes.{Consumes};
 ghost use Rattle.pr_input.specs.Watched.{wrapped};
 ghost use Rattle.pr_cli.specs.Answered.{EndsTask};
 ghost use Rattle.pr_jobs.specs.Pages.{script_limit};
-ghost use Rattle.pr_cli.specs.Jobs.{EndsEither, EndsInput, EndsJob, EndsListing, EndsProgram, EndsRecording, EndsWork, finds_format, first_bytes, form_of, found_job, started_job, strict_of};
+ghost use Rattle.pr_cli.specs.Jobs.{EndsEither, EndsInput, EndsJob, EndsListing, EndsProgram, EndsRecording, EndsRun, EndsWork, finds_format, first_bytes, form_of, found_job, started_job, strict_of};
 ghost use Rattle.pr_cli.specs.Statuses.{answer_end, fault_status, job_end, status_of, strict_end};
 ghost use Rattle.pr_cli.specs.declared.statuses.End.TheVariants as end;
 
@@ -35,7 +35,7 @@ use pr_jobs::{
 };
 use pr_listing::{ListingForm, TextFault, plain_form, read_text};
 use pr_options::{DecodeOutput, Job, PagesOutput, Task};
-use pr_programs::{BasicFault, Form, is_run, made_script};
+use pr_programs::{BasicFault, Form, is_run, made_script, typed_program};
 use pr_render::Format;
 use pr_serial::Present;
 use std::alloc::Global;
@@ -479,7 +479,7 @@ fn answer_either<W: Write + Drop>(
     }
 }
 
-/// Runs a program, and does a job over the script that comes of it.
+/// Runs a program, which may be a saved one, and does a job over the script that comes of it.
 fn run_program<W: Write + Drop>(
     rt: &(impl Outside + Eprint + AllocGlobal),
     bytes: &[u8],
@@ -491,6 +491,30 @@ fn run_program<W: Write + Drop>(
 ) -> (End, W)
     requires { length bytes.now ≤ script_limit }
     ensures { EndsProgram work.entry.is_located work.entry.shapes.now work.entry.job steps bytes.now
+        (W.contents writer) (W.contents result.1) result.0 }
+{
+    match typed_program(rt.alloc(), bytes) {
+        Ok(Some(text)) => run_text(rt, text.as_slice(), writer, names, steps, work, aside),
+        Ok(None) => run_text(rt, bytes, writer, names, steps, work, aside),
+        Err(fault) => {
+            clear(rt, aside.is_shown);
+            tell_basic(rt, bytes, fault, aside.is_explained);
+            (End::Basic(fault), writer)
+        }
+    }
+}
+
+/// Runs a program that is typed, and does a job over the script that comes of it.
+fn run_text<W: Write + Drop>(
+    rt: &(impl Outside + Eprint + AllocGlobal),
+    bytes: &[u8],
+    writer: W,
+    names: Names<'_>,
+    steps: u64,
+    work: Work<'_>,
+    aside: Reporting<'_>,
+) -> (End, W)
+    ensures { EndsRun work.entry.is_located work.entry.shapes.now work.entry.job steps bytes.now
         (W.contents writer) (W.contents result.1) result.0 }
 {
     match made_script(rt.alloc(), bytes, steps) {

@@ -159,7 +159,10 @@ fn basic_status(fault: BasicFault) -> u8
     ensures { result ≡ basic_status fault }
 {
     match fault {
-        BasicFault::Refused { .. } | BasicFault::TooManySteps(_) | BasicFault::TooLarge => REFUSED,
+        BasicFault::Refused { .. }
+        | BasicFault::Listing(_)
+        | BasicFault::TooManySteps(_)
+        | BasicFault::TooLarge => REFUSED,
         BasicFault::ReadFailed | BasicFault::NoMemory => FAILED,
     }
 }

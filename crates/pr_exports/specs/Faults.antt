@@ -167,6 +167,7 @@ reason_numbers row column reason.FullMemory = (147, row, column)
 -- the fault of a program, with its line and its column
 abbrev pub basic_numbers : BasicFault → ℕ × ℕ × ℕ
 basic_numbers (basic.Refused row column why) = reason_numbers row column why
+basic_numbers (basic.Listing why) = listing_numbers why
 basic_numbers (basic.TooManySteps line) = (148, line, 0)
 basic_numbers basic.TooLarge = (9, 0, 0)
 basic_numbers basic.ReadFailed = (90, 0, 0)

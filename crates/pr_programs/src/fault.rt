@@ -2,6 +2,7 @@
 
 ghost use Rattle.std.specs.Prelude.{◌≡◌};
 
+use pr_listing::ListingFault;
 use std::alloc::AllocError;
 use thiserror::Error;
 
@@ -71,6 +72,9 @@ pub enum BasicFault {
         column: usize,
         reason: Reason,
     },
+    /// The file is no whole saved program.
+    #[error("{0}")]
+    Listing(ListingFault),
     /// The run has as many steps as it may have, and is in this line of the program.
     #[error("line {0}: too many steps")]
     TooManySteps(u16),

@@ -9,6 +9,7 @@
 //! what a run performs.
 //!
 //! - `scripts` writes the script of what is performed, `lists` the list of a statement.
+//! - `saved` has the text of a saved program ([`typed_program`]).
 //! - `typed` reads the names of keys in strings, `made` runs a program, `places` has the row of a place, `fault` says why there is no script, `errors` has the
 //!   words of the errors of BASIC.
 //! - `form` has the forms of what a script is made of.
@@ -21,6 +22,7 @@ pub mod laws;
 mod lists;
 mod made;
 mod places;
+mod saved;
 mod scripts;
 mod typed;
 
@@ -28,4 +30,5 @@ pub use errors::error_name;
 pub use fault::{BasicFault, Reason};
 pub use form::{Form, STEPS, is_run};
 pub use made::{Made, Ran, made_script};
+pub use saved::typed_program;
 pub use scripts::script_text;
