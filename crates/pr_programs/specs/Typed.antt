@@ -4,7 +4,7 @@ use Rattle.std.specs.List.{prefix_len, repeated}
 use Rattle.pr_basic.specs.Grammar.{is_printable}
 use Rattle.pr_listing.specs.Names.{bracketed}
 use Rattle.pr_listing.specs.declared.names.Brackets.TheVariants.{Curly}
-use Rattle.pr_listing.specs.declared.names.Spelling.TheVariants.{Magazine}
+use Rattle.pr_listing.specs.declared.names.Spelling.TheVariants.{Petcat}
 use Rattle.pr_programs.specs.declared.fault.Reason.{Reason}
 use Rattle.pr_programs.specs.declared.fault.Reason.TheVariants.{Byte, Name}
 
@@ -25,7 +25,7 @@ is_kept b = not (b == 0 || ends_row b || b == 34)
 abbrev pub name_size : List ℕ → ℕ
 name_size bs = prefix_len (λ b. not (b == 125)) bs
 
--- what a name in braces says, if it is one of petcat's or of a magazine's, and no line's end or quote
+-- what a name in braces says, if it is one of petcat's, and no line's end or quote
 abbrev pub key_of : Option (ℕ × ℕ) → (size : ℕ) → Result Piece Reason
 key_of None size = Err Name
 key_of (Some (count, b)) size =
@@ -34,7 +34,7 @@ key_of (Some (count, b)) size =
 -- the key after an opening brace
 abbrev pub key : List ℕ → Result Piece Reason
 key bs =
-    if nat_lt (name_size bs) (length bs) then key_of (bracketed Magazine Curly (take (name_size bs) bs)) (name_size bs + 2)
+    if nat_lt (name_size bs) (length bs) then key_of (bracketed Petcat Curly (take (name_size bs) bs)) (name_size bs + 2)
     else Err Name
 
 abbrev pub itself : ℕ → Result Piece Reason

@@ -104,7 +104,7 @@ fn key(bytes: &[u8]) -> Option<(u32, u8, usize)> {
     if size == bytes.len() {
         return None;
     }
-    let (count, b) = bracketed(Spelling::Magazine, Brackets::Curly, &bytes[..size])?;
+    let (count, b) = bracketed(Spelling::Petcat, Brackets::Curly, &bytes[..size])?;
     if !is_kept(b) {
         return None;
     }
@@ -146,8 +146,8 @@ fn add_piece(
     Ok(1)
 }
 
-/// Makes the text of a program whose strings are typed: a name in braces, of petcat's or of a magazine's, is the byte of
-/// its key, and other bytes are themselves.
+/// Makes the text of a program whose strings are typed: a name of petcat's in braces is the byte of its key, and
+/// other bytes are themselves.
 ///
 /// # Errors
 ///
