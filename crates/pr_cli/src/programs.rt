@@ -88,7 +88,8 @@ fn reason_hint(reason: Reason) -> &'static str {
         Reason::Name => {
             "in a string { begins a name of a key and } ends it, as {DOWN}, {5 SPACES} or {$8E}"
         }
-        Reason::Byte => "a string has letters, digits and signs of ASCII; other keys have names, as {SHIFT-A}",
+        Reason::Byte =>
+            "a string has letters, digits and signs of ASCII; other keys have names, as {SHIFT-A}",
         Reason::NotCertain => {
             "numbers are rounded in the C64, and its possible results give different answers here"
         }
@@ -100,7 +101,8 @@ fn reason_hint(reason: Reason) -> &'static str {
         Reason::SecondAddress => "a secondary address is 0 to 15",
         Reason::FileName => "a printer takes no file name",
         Reason::LongList => "a statement prints at most 255 bytes here",
-        Reason::OpenFiles => "CLR forgets the open files, which no script can: leave it out, or CLOSE them before",
+        Reason::OpenFiles =>
+            "CLR forgets the open files, which no script can: leave it out, or CLOSE them before",
         Reason::FullStack => "FOR and GOSUB have room for nine loops or 23 calls for certain",
         Reason::FullMemory => "arrays have 30000 bytes",
     }

@@ -4,8 +4,8 @@ ghost use Rattle.std.specs.Prelude.{◌≡◌, ◌==◌, ◌||◌};
 ghost use Rattle.pr_cli.specs.Statuses.{basic_status, characters_status, ended_after, ending_end, fault_status, refusal_end, run_ended, status_of, text_status};
 
 use pr_channels::Stop;
-use pr_jobs::{CliFault, Ending, RunEnd, ShapesFault};
 use pr_interpreter::BasicError;
+use pr_jobs::{CliFault, Ending, RunEnd, ShapesFault};
 use pr_listing::TextFault;
 use pr_options::JobFault;
 use pr_programs::{BasicFault, Ran};
@@ -25,7 +25,10 @@ pub enum End {
         stop: Stop,
     },
     /// The same of the run of a program that this error of BASIC ended, in this line of it.
-    Broken { error: BasicError, line: u16 },
+    Broken {
+        error: BasicError,
+        line: u16,
+    },
     /// What was asked for is written, and leaves out something of a recording, which was not to be.
     Lacking,
     /// The job has this fault.
