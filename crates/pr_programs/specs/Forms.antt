@@ -1,5 +1,5 @@
 -- Trusted: what a text is where nobody says whether it is a script or a program.
-use Rattle.std.specs.Prelude.{ℕ, ◌×◌, ◌≡◌, List, Ok}
+use Rattle.std.specs.Prelude.{ℕ, ◌≡◌, List, Ok}
 use Rattle.pr_basic.specs.Faults.{IsFirstFault}
 use Rattle.pr_basic.specs.declared.fault.ScriptFault.{ScriptFault}
 use Rattle.pr_programs.specs.Typed.{typed}

@@ -1,9 +1,7 @@
 -- Laws: what follows from the definitions.
 use Rattle.std.specs.Prelude.{ℕ, ◌≡◌, ◌≤◌, List, length, map}
-use Rattle.pr_basic.specs.Grammar.{IsLine, IsScript}
-use Rattle.pr_basic.specs.Limits.{byte_limit, statement_limit, line_number_limit}
-use Rattle.pr_basic.specs.Text.{Text}
-use Rattle.pr_basic.specs.declared.statement.Statement.{Statement}
+use Rattle.pr_basic.specs.Grammar.{IsScript}
+use Rattle.pr_basic.specs.Limits.{statement_limit}
 use Rattle.pr_programs.specs.Scripts.{script_text}
 use Rattle.pr_run.specs.declared.performed.Performed.{Performed}
 use Rattle.pr_run.specs.declared.programs.Program.{Program}
