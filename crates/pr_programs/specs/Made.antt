@@ -35,7 +35,7 @@ row_ends (b ∷ bs) = (if b == 10 || (b == 13 && not (begins_with_feed bs)) then
 unfoldable pub row : List ℕ → ℕ → ℕ
 row text place = row_ends (take place text) + 1
 
--- a place of a typed text, of which the text before it makes so many bytes of the program: the first such place
+-- a place of a typed text, of which the text before it makes so many bytes of the program
 abbrev pub IsPlaceOf : List ℕ → (made place : ℕ) → Type 0
 IsPlaceOf text made place = (front : List ℕ) × (typed (take place text) ≡ Ok front) × (length front ≡ made)
 
