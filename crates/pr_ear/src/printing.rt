@@ -12,7 +12,7 @@ ghost use Rattle.pr_ear.specs.PrintingSteps.{IsPrintedAt};
 
 use crate::printer_numbers::{WireMark, WirePrinter, numbers_of_mark, restore, store};
 use crate::{Answer, plain, refused};
-use pr_page::{Head, Input, Made, heads_make_pages};
+use pr_page::{Head, Input, Made, MarkOnPaper, heads_make_pages};
 
 /// What came of a byte that a printer was given.
 #[derive(Clone, Copy, Debug, PartialEq, Eq)]
@@ -51,6 +51,14 @@ fn put(out: &mut [WireMark], at: usize, made: &Made)
     ensures laid { (marks : List MarkOnPaper) (first : List WireMark) → at ≡ length marks → IsLaid marks first out.old
         → IsLaid (marks ++ marks_made made.now) first out.new }
 {
+    if made.count == 1 && made.next_count == 0 {
+        out[at] = numbers_of_mark(MarkOnPaper {
+            y: made.y,
+            x: made.x,
+            mark: made.mark,
+        });
+        return;
+    }
     for index in 0..made.len() {
         if let Some(mark) = made.get(index) {
             out[at + usize::from(index)] = numbers_of_mark(mark);
