@@ -125,6 +125,7 @@ impl Carriage {
     }
 
     /// Makes a mark at the position, or in the next line if it does not fit.
+    #[inline(always)]
     fn print(&mut self, graphic: bool, mark: Mark, width: u16) -> Made
         requires y { self.old.y ≤ 2 ^ 63 }
         requires position { self.old.position ≤ line_dots }
@@ -182,6 +183,7 @@ impl Carriage {
     }
 
     /// Does what a byte has it do, and returns the marks that this makes.
+    #[inline(always)]
     pub fn perform(&mut self, graphic: bool, work: Work) -> Made
         requires y { self.old.y ≤ 2 ^ 63 }
         requires position { self.old.position ≤ line_dots }

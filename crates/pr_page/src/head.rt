@@ -12,6 +12,7 @@ use crate::carriage::{Carriage, Made};
 use crate::input::Input;
 use crate::pending::Pending;
 use crate::settings::{FIRST_SETTINGS, Settings};
+use crate::state::leaves_settings;
 use crate::work::Work;
 
 /// The greatest distance from the top at which a head takes an input, in 1/126 inch.
@@ -46,7 +47,8 @@ impl Head {
         }
     }
 
-    /// Takes a byte.
+    /// Takes a byte. One that leaves the settings goes straight to the carriage: most bytes do.
+    #[inline(always)]
     fn take_byte(&mut self, b: u8) -> Made
         requires y { self.old.carriage.y ≤ 2 ^ 63 }
         requires position { self.old.carriage.position ≤ line_dots }
@@ -54,6 +56,10 @@ impl Head {
         ensures within { IsWithin self.old.carriage self.new.carriage }
         ensures in_line { IsInLine result }
     {
+        if leaves_settings(b) && matches!(self.pending, Pending::Idle) {
+            let plain = Work::of_plain(self.settings, self.lower, b);
+            return self.carriage.perform(self.settings.graphic, plain);
+        }
         let work = Work::of_byte(self.pending, self.settings, self.lower, b);
         let made = self.carriage.perform(self.settings.graphic, work);
         self.settings = self.settings.after_byte(self.pending, b);
@@ -63,6 +69,7 @@ impl Head {
 
     /// Takes one more input, of any kind, and returns the marks that it makes: at most 255 of a byte, and none of a
     /// selection. A line that ends makes no mark.
+    #[inline(always)]
     #[tactic(auto, using(crate::proofs::Striking::few_marks))]
     pub fn take(&mut self, input: Input) -> Made
         // the caller's part

@@ -30,7 +30,7 @@ pub struct PrinterState {
 /// Whether a code leaves the settings and begins no command.
 #[inline(always)]
 #[tactic(auto, unfolding(crate::specs::Codes::code_of))]
-fn leaves_settings(b: u8) -> bool
+pub(crate) fn leaves_settings(b: u8) -> bool
     ensures begun { IsTrue result → begun_by b ≡ Pending.Idle }
     ensures settings { IsTrue result → (s : Settings) → (code_of b).sets s ≡ s }
     ensures completed { IsTrue result → (lower : Bool) → completed_by lower b ≡ Plain lower b ∷ [] }
