@@ -21,18 +21,16 @@ int print1525_printer_select(print1525_printer *printer, uint8_t set, print1525_
 
 int print1525_printer_byte(print1525_printer *printer, uint8_t byte, print1525_mark *marks, size_t capacity,
                            size_t *length, print1525_details *details) {
-    print1525_printer kept;
     print1525_mark nothing[1];
-    print1525_plain_numbers answer = {2, PRINT1525_FAULT_NULL_POINTER, 0, 0};
-    if (printer != NULL && (marks != NULL || capacity == 0)) {
-        if (overlap(printer, sizeof *printer, marks, room(capacity, sizeof *marks))) {
-            answer.fault = PRINT1525_FAULT_OVERLAP;
-        } else {
-            kept = *printer;
-            print1525_plain_printer_byte(&kept, byte, marks == NULL ? nothing : marks, capacity, &answer);
-            *printer = kept;
-        }
+    print1525_plain_numbers answer;
+    int fault = PRINT1525_FAULT_NONE;
+    if (printer == NULL || (marks == NULL && capacity > 0)) fault = PRINT1525_FAULT_NULL_POINTER;
+    else if (overlap(printer, sizeof *printer, marks, room(capacity, sizeof *marks))) fault = PRINT1525_FAULT_OVERLAP;
+    if (fault != PRINT1525_FAULT_NONE) {
+        tell_length(length, 0);
+        return refuse(details, fault);
     }
+    print1525_plain_printer_byte(printer, byte, marks == NULL ? nothing : marks, capacity, &answer);
     tell_length(length, answer.length);
     return report(details, answer);
 }

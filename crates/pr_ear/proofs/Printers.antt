@@ -1,11 +1,16 @@
 -- A printer comes back from its numbers, and its marks are put into a buffer one after another.
 use Rattle.std.proofs.Common.{◌≡◌, ℕ, inl, inr, ◌+◌, ◌^◌, ◌<◌, ◌≤◌, Bool, true, false, List, [], ◌∷◌, ◌++◌, length, map, take, drop, get_or, add-one, Option, Some, None, refl, sym, ap, ◌∙◌, subst, arith, append_assoc, length-append}
-use Rattle.std.specs.Prelude.{min, slice_get, slice_set}
+use Rattle.std.specs.Prelude.{◌==◌, min, slice_get, slice_set}
 use Rattle.std.proofs.Math.Seq.{set-append_seam, take-suc}
 use Rattle.std.proofs.lemmas.List.{drop_more, length-drop, length-map, length-take-le, map-append}
 use Rattle.std.proofs.lemmas.Option.{get_or_from_slice_get, none-some, slice_get_cases, slice_get_within}
-use Rattle.pr_page.specs.Marks.{marks_on}
+use Rattle.pr_page.specs.Marks.{marks_made, marks_on}
 use Rattle.pr_page.specs.Making.{HasMade, HeadsMakePages, NextRowsAreAtHeads}
+use Rattle.pr_page.specs.Steps.{pending_after, start, state_after, state_after_token, state_after_tokens, step, tokens_by}
+use Rattle.pr_page.specs.Striking.{carriage_of, head_of}
+use Rattle.pr_page.specs.Token.{Plain}
+use Rattle.pr_page.specs.declared.state.PrinterState.{PrinterState}
+use Rattle.pr_page.specs.declared.carriage.Made.{Made}
 use Rattle.pr_page.specs.declared.carriage.MarkOnPaper.{MarkOnPaper}
 use Rattle.pr_page.specs.declared.head.Head.{Head}
 use Rattle.pr_page.specs.declared.input.Input.{Input}
@@ -17,7 +22,7 @@ use Rattle.pr_ear.specs.declared.printer_numbers.WirePrinter.{WirePrinter}
 use Rattle.pr_ear.specs.MarkNumbers.{mark_numbers}
 use Rattle.pr_ear.specs.PrinterNumbers.{head_by, override_by, override_number, parameter_of, pending_by, pending_number, stored}
 use Rattle.pr_ear.specs.Printing.{ArePrinted, HasPrinted, IsLaid, IsPrinted, NextRowsAreAtPrinters, PrintersPrintPages}
-use Rattle.pr_ear.specs.PrintingSteps.{IsPrintedAt}
+use Rattle.pr_ear.specs.PrintingSteps.{IsPrintedAt, LeavesSettings}
 use Rattle.pr_ear.specs.declared.printing.Printed.{Printed}
 use Rattle.pr_ear.specs.declared.printing.Printed.TheVariants.{Marks, TooSmall}
 use Rattle.pr_ear.specs.declared.printing.Run.{Run}
@@ -67,6 +72,70 @@ pub printed-more : (inputs : List Input) (marks : List MarkOnPaper) (input : Inp
 printed-more inputs marks input w w' old new more few h is is' makes =
     record { head = new; made = makes inputs marks (restored inputs marks w old few h is); numbers = is' }
 
+-- what is kept after one more input
+after-push : (s : PrinterState) (inputs : List Input) (input : Input) → state_after s (inputs ++ input ∷ []) ≡ step (state_after s inputs) input
+after-push s [] input = refl
+after-push s (first ∷ inputs) input = after-push (step s first) inputs input
+
+-- nothing is pending where the number says so
+idle-number : (p : Pending) → pending_number p ≡ 0 → p ≡ Idle
+idle-number Idle e = refl
+idle-number ColumnCode e = absurd (omega (arith, e))
+idle-number (ColumnTens tens) e = absurd (omega (arith, e))
+idle-number RepeatCode e = absurd (omega (arith, e))
+idle-number (RepeatCount count) e = absurd (omega (arith, e))
+idle-number EscapeCode e = absurd (omega (arith, e))
+idle-number AddressCode e = absurd (omega (arith, e))
+idle-number (AddressHigh high) e = absurd (omega (arith, e))
+
+-- a byte that leaves the settings moves the carriage alone
+plain-step : (s : PrinterState) (b : ℕ) → s.pending ≡ Idle → LeavesSettings b →
+    head_of (step s (Byte b)) ≡ record (head_of s) { carriage = (head_of (step s (Byte b))).carriage }
+plain-step s b idle plain =
+    let tokens = tokens_by s.pending s.lower b in
+    let t = state_after_tokens s tokens in
+    let one : tokens ≡ Plain s.lower b ∷ [] = ap (λ p. tokens_by p s.lower b) idle ∙ plain.completes s.lower in
+    let after : t ≡ state_after_token s (Plain s.lower b) = ap (state_after_tokens s) one in
+    let settings : t.settings ≡ s.settings = ap (λ (t : PrinterState). t.settings) after ∙ plain.sets s.settings in
+    let lower : t.lower ≡ s.lower = ap (λ (t : PrinterState). t.lower) after in
+    let pending : pending_after s.pending b ≡ s.pending = ap (λ p. pending_after p b) idle ∙ plain.begins ∙ sym idle in
+    let carriage = carriage_of t.sheet in
+    ap (λ settings. record { settings = settings; lower = t.lower; pending = pending_after s.pending b; carriage = carriage }) settings
+    ∙ ap (λ lower. record { settings = s.settings; lower = lower; pending = pending_after s.pending b; carriage = carriage }) lower
+    ∙ ap (λ pending. record { settings = s.settings; lower = s.lower; pending = pending; carriage = carriage }) pending
+
+-- a head whose mode is said again
+abbrev pub in_mode : Head → Bool → Head
+in_mode head graphic = record head { settings = record head.settings { graphic = graphic } }
+
+pub mode-same : (w : WirePrinter) (head : Head) (graphic : Bool) → head ≡ head_by w → graphic ≡ (w.graphic == 1) → in_mode head graphic ≡ head_by w
+mode-same w head graphic is mode = ap (λ head. in_mode head graphic) is ∙ ap (in_mode (head_by w)) mode
+
+-- a byte more that leaves the settings
+pub plain-more : (inputs : List Input) (marks : List MarkOnPaper) (b : ℕ) (w : WirePrinter) (old new : Head) (more : List MarkOnPaper) →
+    length inputs < 2 ^ 58 → HasPrinted inputs marks w → old ≡ head_by w → w.pending ≡ 0 → LeavesSettings b →
+    ((inputs : List Input) (marks : List MarkOnPaper) → HasMade inputs marks old → HasMade (inputs ++ Byte b ∷ []) (marks ++ more) new) →
+    HasPrinted (inputs ++ Byte b ∷ []) (marks ++ more) (record w { y = new.carriage.y; x = new.carriage.position })
+plain-more inputs marks b w old new more few h is none plain makes =
+    let s = state_after start inputs in
+    let before : HasMade inputs marks old = restored inputs marks w old few h is in
+    let after : HasMade (inputs ++ Byte b ∷ []) (marks ++ more) new = makes inputs marks before in
+    let top : h.head.carriage.y ≤ 2 ^ 63 = omega (arith, few, h.made.y) in
+    let same : old ≡ h.head = is ∙ ap head_by h.numbers ∙ head-back h.head top h.made.position in
+    let numbers : w ≡ stored old = h.numbers ∙ ap stored (sym same) in
+    let idle : old.pending ≡ Idle = idle-number old.pending (sym (ap (λ (w : WirePrinter). w.pending) numbers) ∙ none) in
+    let rests : s.pending ≡ Idle = sym (ap (λ (head : Head). head.pending) before.head_is) ∙ idle in
+    let now : new ≡ head_of (step s (Byte b)) = after.head_is ∙ ap head_of (after-push start inputs (Byte b)) in
+    let kept : new ≡ record old { carriage = new.carriage } =
+    now ∙ plain-step s b rests plain
+    ∙ ap (λ (head : Head). record (head_of s) { carriage = head.carriage }) (sym now)
+    ∙ ap (λ (head : Head). record head { carriage = new.carriage }) (sym before.head_is) in
+    record {
+      head = new;
+      made = after;
+      numbers = ap (λ (w : WirePrinter). record w { y = new.carriage.y; x = new.carriage.position }) numbers ∙ sym (ap stored kept);
+    }
+
 -- no marks are at the front of any buffer
 pub laid-none : (first : List WireMark) → IsLaid [] first first
 laid-none first = record { fits = omega arith; buffer = refl }
@@ -98,6 +167,18 @@ laid-length marks first now h =
     let front = length-map marks mark_numbers in
     let back = length-drop (length marks) first in
     omega (arith, whole, parts, front, back, h.fits)
+
+-- the mark of an input that makes one
+pub laid-single : (marks : List MarkOnPaper) (made : Made) (first now : List WireMark) (n : ℕ) (w : WireMark) → made.count ≡ 1 → made.next_count ≡ 0 →
+    n ≡ length marks → n + length (marks_made made) ≤ length now → w ≡ mark_numbers (record { y = made.y; x = made.x; mark = made.mark }) →
+    IsLaid marks first now → IsLaid (marks ++ marks_made made) first (slice_set now n w)
+laid-single marks made first now n w one none at room is h =
+    let m : MarkOnPaper = record { y = made.y; x = made.x; mark = made.mark } in
+    let all : marks_made made ≡ m ∷ [] = rw (one, none) refl in
+    let count : length (marks_made made) ≡ 1 = ap length all in
+    let size = laid-length marks first now h in
+    let fits : length marks < length first = omega (arith, at, room, size, count) in
+    subst (λ more. IsLaid (marks ++ more) first (slice_set now n w)) (sym all) (laid-one marks m first now n w at fits is h)
 
 -- the next mark of those that an input makes
 pub laid-next : (marks made : List MarkOnPaper) (first now : List WireMark) (at i n : ℕ) (m : MarkOnPaper) (w : WireMark) → at ≡ length marks →

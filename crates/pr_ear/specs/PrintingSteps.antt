@@ -1,8 +1,13 @@
 -- Machine steps: marks that are put after others. No reader needs to believe them.
-use Rattle.std.specs.Prelude.{◌≡◌, ℕ, ◌+◌, ◌<◌, ◌≤◌, List, [], ◌∷◌, ◌++◌, length}
+use Rattle.std.specs.Prelude.{◌≡◌, ℕ, ◌+◌, ◌<◌, ◌≤◌, Bool, List, [], ◌∷◌, ◌++◌, length}
+use Rattle.pr_page.specs.Codes.{code_of}
+use Rattle.pr_page.specs.Steps.{begun_by, completed_by}
+use Rattle.pr_page.specs.Token.{Plain}
 use Rattle.pr_page.specs.declared.carriage.MarkOnPaper.{MarkOnPaper}
 use Rattle.pr_page.specs.declared.input.Input.{Input}
 use Rattle.pr_page.specs.declared.input.Input.TheVariants.{Byte}
+use Rattle.pr_page.specs.declared.pending.Pending.TheVariants.{Idle}
+use Rattle.pr_page.specs.declared.settings.Settings.{Settings}
 use Rattle.pr_ear.specs.declared.printer_numbers.WireMark.{WireMark}
 use Rattle.pr_ear.specs.declared.printer_numbers.WirePrinter.{WirePrinter}
 use Rattle.pr_ear.specs.declared.printing.Printed.{Printed}
@@ -19,3 +24,9 @@ IsPrintedAt inputs marks laid first b (Marks n) old new before after =
 IsPrintedAt inputs marks laid first b (TooSmall n) old new before after =
     (made : List MarkOnPaper) × Makes inputs (Byte b ∷ []) marks made × (n ≡ length made)
     × (length before < length laid + n) × (new ≡ old) × (after ≡ before)
+
+-- a byte leaves the settings, and begins no command
+pub record LeavesSettings (b : ℕ) : Type 0 where
+  pub begins : begun_by b ≡ Idle
+  pub completes : (lower : Bool) → completed_by lower b ≡ Plain lower b ∷ []
+  pub sets : (settings : Settings) → (code_of b).sets settings ≡ settings

@@ -1,6 +1,6 @@
 //! A printer that can be watched: the marks that each byte makes, between calls in the caller's memory.
 
-ghost use Rattle.std.specs.Prelude.{◌≡◌, ◌==◌, ◌+◌, ◌<◌, ◌≤◌, ◌^◌, ◌++◌, ◌∷◌, [], List, length};
+ghost use Rattle.std.specs.Prelude.{◌≡◌, ◌==◌, ◌+◌, ◌<◌, ◌≤◌, ◌^◌, ◌++◌, ◌∷◌, [], IsTrue, List, length};
 ghost use Rattle.pr_page.specs.Marks.{marks_made};
 ghost use Rattle.pr_page.specs.Striking.{IsInLine};
 ghost use Rattle.pr_page.specs.declared.carriage.MarkOnPaper.{MarkOnPaper};
@@ -8,11 +8,11 @@ ghost use Rattle.pr_page.specs.declared.input.Input.{Input};
 ghost use Rattle.pr_ear.specs.declared.printing.Printed.{Printed};
 ghost use Rattle.pr_ear.specs.declared.printer_numbers.WireMark.{WireMark};
 ghost use Rattle.pr_ear.specs.Printing.{ArePrinted, HasPrinted, IsAnyPrinted, IsLaid, IsPrinted, NextRowsAreAtPrinters, PrintersPrintPages, printed_answer, set_answer};
-ghost use Rattle.pr_ear.specs.PrintingSteps.{IsPrintedAt};
+ghost use Rattle.pr_ear.specs.PrintingSteps.{IsPrintedAt, LeavesSettings};
 
 use crate::printer_numbers::{WireMark, WirePrinter, numbers_of_mark, restore, store};
 use crate::{Answer, plain, refused};
-use pr_page::{Head, Input, Made, heads_make_pages};
+use pr_page::{Head, Input, Made, MarkOnPaper, heads_make_pages};
 
 /// What came of a byte that a printer was given.
 #[derive(Clone, Copy, Debug, PartialEq, Eq)]
@@ -51,6 +51,14 @@ fn put(out: &mut [WireMark], at: usize, made: &Made)
     ensures laid { (marks : List MarkOnPaper) (first : List WireMark) → at ≡ length marks → IsLaid marks first out.old
         → IsLaid (marks ++ marks_made made.now) first out.new }
 {
+    if made.count == 1 && made.next_count == 0 {
+        out[at] = numbers_of_mark(MarkOnPaper {
+            y: made.y,
+            x: made.x,
+            mark: made.mark,
+        });
+        return;
+    }
     for index in 0..made.len() {
         if let Some(mark) = made.get(index) {
             out[at + usize::from(index)] = numbers_of_mark(mark);
@@ -58,8 +66,44 @@ fn put(out: &mut [WireMark], at: usize, made: &Made)
     }
 }
 
-/// Gives a printer a byte, and puts the marks that it makes after those that the buffer has at its front.
-fn print_at(printer: &mut WirePrinter, byte: u8, out: &mut [WireMark], at: usize) -> Printed
+/// Whether a code leaves the settings and begins no command.
+#[inline(always)]
+#[tactic(auto, unfolding(pr_page::specs::Codes::code_of))]
+fn leaves_settings(byte: u8) -> bool
+    ensures { IsTrue result → LeavesSettings byte }
+{
+    byte >= 160 || byte >= 32 && byte < 128
+}
+
+/// Gives a printer a byte that leaves the settings, where nothing is pending: then only its place changes. `graphic` says
+/// its mode, so that the compiler knows which kind of mark the byte makes.
+#[inline(always)]
+fn print_plain(printer: &mut WirePrinter, graphic: bool, byte: u8, out: &mut [WireMark], at: usize) -> Printed
+    requires room { at ≤ length out.old }
+    requires idle { printer.old.pending ≡ 0 }
+    requires plain { LeavesSettings byte }
+    requires mode { graphic ≡ (printer.old.graphic == 1) }
+    ensures printed { (inputs : List Input) (marks laid : List MarkOnPaper) (first : List WireMark) → length inputs < 2 ^ 58
+        → HasPrinted inputs marks printer.old → at ≡ length laid → IsLaid laid first out.old
+        → IsPrintedAt inputs marks laid first byte result printer.old printer.new out.old out.new }
+    ensures any { IsAnyPrinted at result printer.old printer.new out.old out.new }
+{
+    let mut head = restore(printer);
+    head.settings.graphic = graphic;
+    let made = head.take(Input::Byte(byte));
+    let count = usize::from(made.len());
+    if out.len() - at < count {
+        return Printed::TooSmall(count);
+    }
+    put(out, at, &made);
+    printer.y = head.carriage.y;
+    printer.x = head.carriage.position;
+    Printed::Marks(count)
+}
+
+/// Gives a printer any byte.
+#[inline(never)]
+fn print_any(printer: &mut WirePrinter, byte: u8, out: &mut [WireMark], at: usize) -> Printed
     requires { at ≤ length out.old }
     ensures printed { (inputs : List Input) (marks laid : List MarkOnPaper) (first : List WireMark) → length inputs < 2 ^ 58
         → HasPrinted inputs marks printer.old → at ≡ length laid → IsLaid laid first out.old
@@ -75,6 +119,24 @@ fn print_at(printer: &mut WirePrinter, byte: u8, out: &mut [WireMark], at: usize
     put(out, at, &made);
     *printer = store(&head);
     Printed::Marks(count)
+}
+
+/// Gives a printer a byte, and puts the marks that it makes after those that the buffer has at its front.
+#[inline(always)]
+fn print_at(printer: &mut WirePrinter, byte: u8, out: &mut [WireMark], at: usize) -> Printed
+    requires { at ≤ length out.old }
+    ensures printed { (inputs : List Input) (marks laid : List MarkOnPaper) (first : List WireMark) → length inputs < 2 ^ 58
+        → HasPrinted inputs marks printer.old → at ≡ length laid → IsLaid laid first out.old
+        → IsPrintedAt inputs marks laid first byte result printer.old printer.new out.old out.new }
+    ensures any { IsAnyPrinted at result printer.old printer.new out.old out.new }
+{
+    if printer.pending != 0 || !leaves_settings(byte) {
+        print_any(printer, byte, out, at)
+    } else if printer.graphic == 1 {
+        print_plain(printer, true, byte, out, at)
+    } else {
+        print_plain(printer, false, byte, out, at)
+    }
 }
 
 /// Gives a printer a byte, and puts the marks that it makes at the front of a buffer: at most 255. If they have no room

@@ -1,7 +1,7 @@
 use Rattle.std.proofs.Common.{◌++◌, ◌+◌, ◌<◌, ◌≤◌, length, take, sym, ap, ◌∙◌, subst, arith}
 use Rattle.pr_page.specs.Marks.{marks_made}
 use Rattle.pr_ear.specs.Printing.{IsLaid}
-use Rattle.pr_ear.proofs.Printers.{laid-next, no_mark}
+use Rattle.pr_ear.proofs.Printers.{laid-next, laid-single, no_mark}
 use Rattle.pr_ear.proofs.printing.put.Goals.{in-Some, in_default}
 use Rattle.pr_ear.proofs.printing.put.Goals as goal
 
@@ -16,6 +16,13 @@ loop-index-preserved c =
     elim c.match-get.branch [
       | in-Some w ↦
           subst (λ out. IsLaid (marks ++ take (i + 1) made) first out) (sym w.out-is)
-          (laid-next marks made first _ c.args.at i _ _ _ at room (sym c.get.ensures ∙ w.in-Some.is) (ap (λ n. c.args.at + n) w.from.ensures) w.numbers_of_mark.ensures before)
+          (laid-next marks made first _ c.args.at i _ _ _ at room (sym c.get.ensures ∙ w.in-Some.is) (ap (λ n. c.args.at + n) w.from.ensures) w.numbers_of_mark-in-Some.ensures before)
       | in_default w ↦ absurd (no_mark made i inside (sym c.get.ensures ∙ w.in_default.is))
     ]
+
+pub returns-then-made-eq0 : goal.returns-then-made-eq0
+returns-then-made-eq0 c = record {
+  laid = λ marks first at laid.
+      laid-single marks c.args.made.now first c.args.out.now c.args.at c.numbers_of_mark.result c.if-made-eq1.true c.if-made-eq0.true at c.requires.room
+          c.numbers_of_mark.ensures laid;
+}
