@@ -5,7 +5,7 @@
 /* Reports what a proved call answered that takes the edges of any bus and refuses nothing but their order. */
 static int report_order(print1525_details *details, print1525_plain_numbers answer) {
     if (answer.fault == PRINT1525_FAULT_BAD_ORDER) answer.fault = PRINT1525_FAULT_GOES_BACK;
-    return report(details, answer);
+    return report(details, &answer);
 }
 
 size_t print1525_decoder_size(void) { return sizeof(print1525_decoder); }
@@ -36,7 +36,7 @@ int print1525_decoder_end(const print1525_decoder *decoder, print1525_reading *r
     memset(&cut, 0, sizeof cut);
     print1525_plain_decode_end(decoder, &cut, &answer);
     *reading = cut;
-    return report(details, answer);
+    return report(details, &answer);
 }
 
 size_t print1525_receiver_size(void) { return sizeof(print1525_receiver); }
@@ -45,7 +45,7 @@ int print1525_receiver_begin(print1525_receiver *receiver, uint8_t device, print
     print1525_plain_numbers answer;
     if (receiver == NULL) return refuse(details, PRINT1525_FAULT_NULL_POINTER);
     print1525_plain_receiver_begin(receiver, device, &answer);
-    return report(details, answer);
+    return report(details, &answer);
 }
 
 int print1525_receiver_edge(print1525_receiver *receiver, const print1525_edge *edge, print1525_received *received,

@@ -10,7 +10,7 @@ int print1525_characters_read(const void *text, size_t length, print1525_charact
     print1525_plain_numbers answer;
     if (fault != PRINT1525_FAULT_NONE) return refuse(details, fault);
     print1525_plain_characters_read(text == NULL ? &nothing : (const uint8_t *)text, length, characters, &answer);
-    return report(details, answer);
+    return report(details, &answer);
 }
 
 int print1525_characters_dots(const print1525_characters *characters, const print1525_mark *mark, print1525_mark *dots,
@@ -24,5 +24,5 @@ int print1525_characters_dots(const print1525_characters *characters, const prin
     if (fault == PRINT1525_FAULT_NONE)
         print1525_plain_characters_dots(characters, mark, dots == NULL ? nothing : dots, capacity, &answer);
     tell_length(length, answer.length);
-    return fault == PRINT1525_FAULT_NONE ? report(details, answer) : refuse(details, fault);
+    return fault == PRINT1525_FAULT_NONE ? report(details, &answer) : refuse(details, fault);
 }

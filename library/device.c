@@ -10,7 +10,7 @@ int print1525_device_begin(print1525_device *device, uint8_t address, const prin
     if (device == NULL) return refuse(details, PRINT1525_FAULT_NULL_POINTER);
     if (timing != NULL) read = *timing;
     print1525_plain_device_begin(device, address, &read, &answer);
-    return report(details, answer);
+    return report(details, &answer);
 }
 
 int print1525_device_step(print1525_device *device, const print1525_edge *moment, print1525_step *step,
@@ -23,7 +23,7 @@ int print1525_device_step(print1525_device *device, const print1525_edge *moment
     memset(&does, 0, sizeof does);
     print1525_plain_device_step(device, read.time, read.atn, read.clock, read.data, &does, &answer);
     *step = does;
-    return report(details, answer);
+    return report(details, &answer);
 }
 
 int print1525_device_busy(print1525_device *device, uint64_t until, print1525_details *details) {

@@ -52,13 +52,14 @@ static inline void tell_length(size_t *length, size_t count) {
 }
 
 /* Reports what a proved call answered. */
-static inline int report(print1525_details *details, print1525_plain_numbers answer) {
-    const int fault = (int)answer.fault;
-    const int is_column = fault == PRINT1525_FAULT_UNKNOWN_NAME || fault == PRINT1525_FAULT_BAD_CHARACTER;
-    if (answer.code == 0) return done(details);
-    switch (answer.code) {
-    case 1: return tell(details, PRINT1525_STOPPED, fault, answer.place, 0);
-    case 2: return tell(details, PRINT1525_REFUSED, fault, answer.place, is_column ? answer.length : 0);
+static inline int report(print1525_details *details, const print1525_plain_numbers *answer) {
+    int fault, is_column;
+    if (answer->code == 0) return done(details); /* most calls */
+    fault = (int)answer->fault;
+    is_column = fault == PRINT1525_FAULT_UNKNOWN_NAME || fault == PRINT1525_FAULT_BAD_CHARACTER;
+    switch (answer->code) {
+    case 1: return tell(details, PRINT1525_STOPPED, fault, answer->place, 0);
+    case 2: return tell(details, PRINT1525_REFUSED, fault, answer->place, is_column ? answer->length : 0);
     case 4: return tell(details, PRINT1525_FAILED, PRINT1525_FAULT_TOO_SMALL, 0, 0);
     default: return tell(details, PRINT1525_FAILED, PRINT1525_FAULT_NO_MEMORY, 0, 0);
     }

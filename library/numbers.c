@@ -8,7 +8,7 @@ static int report_length(size_t *length, print1525_details *details, print1525_p
     const int is_column = answer.code == 2 && (answer.fault == PRINT1525_FAULT_UNKNOWN_NAME ||
                                                answer.fault == PRINT1525_FAULT_BAD_CHARACTER);
     tell_length(length, answer.code == 3 || is_column ? 0 : answer.length / unit);
-    return report(details, answer);
+    return report(details, &answer);
 }
 
 /* The numbers of a format and of its settings, as proved calls have them. */
@@ -87,7 +87,7 @@ int print1525_printer_picture(const print1525_mark *marks, size_t length, const 
     status = unpack(&t, PICTURE, marks, length, 1, settings, NULL, 0, details);
     if (status != 0) return status;
     picture = picture_of(&t, &answer);
-    if (picture == NULL) return report(details, answer);
+    if (picture == NULL) return report(details, &answer);
     for (at = 0; at < answer.length && other == 0; at += PRINT1525_PART) {
         const size_t left = answer.length - at;
         other = write(context, picture + at, left < PRINT1525_PART ? left : PRINT1525_PART);

@@ -16,7 +16,7 @@ int print1525_printer_select(print1525_printer *printer, uint8_t set, print1525_
     print1525_plain_numbers answer;
     if (printer == NULL) return refuse(details, PRINT1525_FAULT_NULL_POINTER);
     print1525_plain_printer_select(printer, set, &answer);
-    return report(details, answer);
+    return report(details, &answer);
 }
 
 int print1525_printer_byte(print1525_printer *printer, uint8_t byte, print1525_mark *marks, size_t capacity,
@@ -25,14 +25,15 @@ int print1525_printer_byte(print1525_printer *printer, uint8_t byte, print1525_m
     print1525_plain_numbers answer;
     int fault = PRINT1525_FAULT_NONE;
     if (printer == NULL || (marks == NULL && capacity > 0)) fault = PRINT1525_FAULT_NULL_POINTER;
+    else if (marks == NULL) marks = nothing;
     else if (overlap(printer, sizeof *printer, marks, room(capacity, sizeof *marks))) fault = PRINT1525_FAULT_OVERLAP;
     if (fault != PRINT1525_FAULT_NONE) {
         tell_length(length, 0);
         return refuse(details, fault);
     }
-    print1525_plain_printer_byte(printer, byte, marks == NULL ? nothing : marks, capacity, &answer);
+    print1525_plain_printer_byte(printer, byte, marks, capacity, &answer);
     tell_length(length, answer.length);
-    return report(details, answer);
+    return report(details, &answer);
 }
 
 int print1525_printer_bytes(print1525_printer *printer, const void *bytes, size_t *taken, print1525_mark *marks,
@@ -194,7 +195,7 @@ static int draw_all(int is_over, const print1525_mark *marks, size_t length, con
             print1525_plain_printer_draw(marks, length, &packed, (uint8_t *)pixels, size, &answer);
         else
             print1525_plain_printer_page(marks, length, &packed, (uint8_t *)pixels, size, &answer);
-        return report(details, answer);
+        return report(details, &answer);
     }
     if (!is_over) clear(&read, (uint8_t *)pixels);
     for (index = 0; index < length; index++) draw(&marks[index], &read, (uint8_t *)pixels);

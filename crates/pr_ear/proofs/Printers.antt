@@ -2,7 +2,7 @@
 use Rattle.std.proofs.Common.{◌≡◌, ℕ, inl, inr, ◌+◌, ◌^◌, ◌<◌, ◌≤◌, Bool, true, false, List, [], ◌∷◌, ◌++◌, length, map, take, drop, get_or, add-one, Option, Some, None, refl, sym, ap, ◌∙◌, subst, arith, append_assoc, length-append}
 use Rattle.std.specs.Prelude.{◌==◌, min, slice_get, slice_set}
 use Rattle.std.proofs.Math.Seq.{set-append_seam, take-suc}
-use Rattle.std.proofs.lemmas.List.{drop_more, length-drop, length-map, length-take-le, map-append}
+use Rattle.std.proofs.lemmas.List.{append-nil, drop_more, length-drop, length-map, length-take-le, map-append}
 use Rattle.std.proofs.lemmas.Option.{get_or_from_slice_get, none-some, slice_get_cases, slice_get_within}
 use Rattle.pr_page.specs.Marks.{marks_made, marks_on}
 use Rattle.pr_page.specs.Making.{HasMade, HeadsMakePages, NextRowsAreAtHeads}
@@ -167,6 +167,11 @@ laid-length marks first now h =
     let front = length-map marks mark_numbers in
     let back = length-drop (length marks) first in
     omega (arith, whole, parts, front, back, h.fits)
+
+-- an input that makes no mark
+pub laid-nothing : (marks made : List MarkOnPaper) (first now : List WireMark) → length made ≡ 0 → IsLaid marks first now → IsLaid (marks ++ made) first now
+laid-nothing marks [] first now none h = subst (λ marks. IsLaid marks first now) (sym (append-nil marks)) h
+laid-nothing marks (m ∷ made) first now none h = absurd (omega (arith, none))
 
 -- the mark of an input that makes one
 pub laid-single : (marks : List MarkOnPaper) (made : Made) (first now : List WireMark) (n : ℕ) (w : WireMark) → made.count ≡ 1 → made.next_count ≡ 0 →

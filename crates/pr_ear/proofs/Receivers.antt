@@ -10,7 +10,7 @@ use Rattle.pr_page.specs.Before.{with_before}
 use Rattle.pr_page.specs.declared.input.Input.{Input}
 use Rattle.pr_page.specs.declared.input.Input.TheVariants as input
 use Rattle.pr_wire.specs.declared.Frame.{Frame}
-use Rattle.pr_receiver.specs.Heard.{heard_of, input_of, is_called, is_command, is_listen, is_listening, is_unlisten}
+use Rattle.pr_receiver.specs.Heard.{heard_of, input_of, is_called, is_listening}
 use Rattle.pr_receiver.specs.Kept.{kept_of}
 use Rattle.pr_receiver.specs.declared.listener.Listener.{Listener}
 use Rattle.pr_decode.specs.declared.decoder.GoesBack.{GoesBack}

@@ -1,7 +1,7 @@
 -- Linking words: how a decoder is held in numbers, and which edges it has taken. No reader needs to believe them; that a decoder comes back
 -- from its numbers is proved (`DecodersComeBack`). All numbers are those of some decoder: more turns than four are four, a level or a flag
 -- that is not its one number is the other.
-use Rattle.std.specs.Prelude.{◌≡◌, ℕ, Bool, ◌==◌, if◌then◌else◌, List, [], map, Option, Some, None}
+use Rattle.std.specs.Prelude.{◌≡◌, ℕ, Bool, ◌==◌, if◌then◌else◌, List, map, Option, Some, None}
 use Rattle.pr_wire.specs.declared.Edge.{Edge}
 use Rattle.pr_decode.specs.declared.decoder.Decoder.{Decoder}
 use Rattle.pr_decode.specs.declared.reading.Pulse.{Pulse}

@@ -1,5 +1,5 @@
 -- Machine steps: marks that are put after others. No reader needs to believe them.
-use Rattle.std.specs.Prelude.{◌≡◌, ℕ, ◌+◌, ◌<◌, ◌≤◌, Bool, List, [], ◌∷◌, ◌++◌, length}
+use Rattle.std.specs.Prelude.{◌≡◌, ℕ, ◌+◌, ◌<◌, Bool, List, [], ◌∷◌, ◌++◌, length}
 use Rattle.pr_page.specs.Codes.{code_of}
 use Rattle.pr_page.specs.Steps.{begun_by, completed_by}
 use Rattle.pr_page.specs.Token.{Plain}

@@ -51,6 +51,9 @@ fn put(out: &mut [WireMark], at: usize, made: &Made)
     ensures laid { (marks : List MarkOnPaper) (first : List WireMark) → at ≡ length marks → IsLaid marks first out.old
         → IsLaid (marks ++ marks_made made.now) first out.new }
 {
+    if made.len() == 0 {
+        return;
+    }
     if made.count == 1 && made.next_count == 0 {
         out[at] = numbers_of_mark(MarkOnPaper {
             y: made.y,
@@ -75,10 +78,18 @@ fn leaves_settings(byte: u8) -> bool
     byte >= 160 || byte >= 32 && byte < 128
 }
 
-/// Gives a printer a byte that leaves the settings, where nothing is pending: then only its place changes. `graphic` says
-/// its mode, so that the compiler knows which kind of mark the byte makes.
+/// Whether a byte leaves the settings and begins no command, and nothing is pending. Most bytes do.
 #[inline(always)]
-fn print_plain(printer: &mut WirePrinter, graphic: bool, byte: u8, out: &mut [WireMark], at: usize) -> Printed
+fn is_plain(printer: &WirePrinter, byte: u8) -> bool
+    ensures idle { IsTrue result → printer.now.pending ≡ 0 }
+    ensures plain { IsTrue result → LeavesSettings byte }
+{
+    printer.pending == 0 && leaves_settings(byte)
+}
+
+/// Gives a printer such a byte in graphic mode, or not: then only its place changes.
+#[inline(always)]
+fn print_in_mode(printer: &mut WirePrinter, graphic: bool, byte: u8, out: &mut [WireMark], at: usize) -> Printed
     requires room { at ≤ length out.old }
     requires idle { printer.old.pending ≡ 0 }
     requires plain { LeavesSettings byte }
@@ -99,6 +110,24 @@ fn print_plain(printer: &mut WirePrinter, graphic: bool, byte: u8, out: &mut [Wi
     printer.y = head.carriage.y;
     printer.x = head.carriage.position;
     Printed::Marks(count)
+}
+
+/// Gives a printer such a byte. In each mode the compiler knows which kind of mark the byte makes.
+#[inline(always)]
+fn print_plain(printer: &mut WirePrinter, byte: u8, out: &mut [WireMark], at: usize) -> Printed
+    requires room { at ≤ length out.old }
+    requires idle { printer.old.pending ≡ 0 }
+    requires plain { LeavesSettings byte }
+    ensures printed { (inputs : List Input) (marks laid : List MarkOnPaper) (first : List WireMark) → length inputs < 2 ^ 58
+        → HasPrinted inputs marks printer.old → at ≡ length laid → IsLaid laid first out.old
+        → IsPrintedAt inputs marks laid first byte result printer.old printer.new out.old out.new }
+    ensures any { IsAnyPrinted at result printer.old printer.new out.old out.new }
+{
+    if printer.graphic == 1 {
+        print_in_mode(printer, true, byte, out, at)
+    } else {
+        print_in_mode(printer, false, byte, out, at)
+    }
 }
 
 /// Gives a printer any byte.
@@ -130,17 +159,16 @@ fn print_at(printer: &mut WirePrinter, byte: u8, out: &mut [WireMark], at: usize
         → IsPrintedAt inputs marks laid first byte result printer.old printer.new out.old out.new }
     ensures any { IsAnyPrinted at result printer.old printer.new out.old out.new }
 {
-    if printer.pending != 0 || !leaves_settings(byte) {
-        print_any(printer, byte, out, at)
-    } else if printer.graphic == 1 {
-        print_plain(printer, true, byte, out, at)
+    if is_plain(printer, byte) {
+        print_plain(printer, byte, out, at)
     } else {
-        print_plain(printer, false, byte, out, at)
+        print_any(printer, byte, out, at)
     }
 }
 
 /// Gives a printer a byte, and puts the marks that it makes at the front of a buffer: at most 255. If they have no room
 /// there, the byte is not taken, and all is as it was. It takes no memory.
+#[inline(always)]
 pub fn print_byte(printer: &mut WirePrinter, byte: u8, out: &mut [WireMark]) -> Printed
     ensures printed { (inputs : List Input) (marks : List MarkOnPaper) → length inputs < 2 ^ 58
         → HasPrinted inputs marks printer.old → IsPrinted inputs marks byte result printer.old printer.new out.old out.new }
@@ -214,6 +242,18 @@ pub extern "C" fn print1525_printer_select(printer: &mut WirePrinter, set: u8, a
     }
 }
 
+/// Gives a printer any byte, and answers.
+#[inline(never)]
+fn answer_any(printer: &mut WirePrinter, byte: u8, out: &mut [WireMark], answer: &mut Answer)
+    ensures printed { (inputs : List Input) (marks : List MarkOnPaper) → length inputs < 2 ^ 58 → HasPrinted inputs marks printer.old
+        → (printed : Printed) × IsPrinted inputs marks byte printed printer.old printer.new out.old out.new
+        × (answer.new ≡ printed_answer printed) }
+    ensures any { (printed : Printed) × IsAnyPrinted 0 printed printer.old printer.new out.old out.new
+        × (answer.new ≡ printed_answer printed) }
+{
+    *answer = printed_answer(print_any(printer, byte, out, 0));
+}
+
 /// Gives a printer a byte, and puts the marks that it makes at the front of a buffer. The answer is that of
 /// [`print_byte`], in plain numbers. Whatever numbers the printer has, they mean some printer. It takes no memory.
 #[unsafe(no_mangle)]
@@ -229,7 +269,11 @@ pub extern "C" fn print1525_printer_byte(
     ensures any { (printed : Printed) × IsAnyPrinted 0 printed printer.old printer.new out.old out.new
         × (answer.new ≡ printed_answer printed) }
 {
-    *answer = printed_answer(print_byte(printer, byte, out));
+    if is_plain(printer, byte) {
+        *answer = printed_answer(print_byte(printer, byte, out));
+    } else {
+        answer_any(printer, byte, out, answer);
+    }
 }
 
 /// Gives a printer bytes, and puts the marks that they make at the front of a buffer, until those of one more byte have

@@ -1,7 +1,7 @@
 use Rattle.std.proofs.Common.{◌++◌, ◌+◌, ◌<◌, ◌≤◌, length, take, sym, ap, ◌∙◌, subst, arith}
 use Rattle.pr_page.specs.Marks.{marks_made}
 use Rattle.pr_ear.specs.Printing.{IsLaid}
-use Rattle.pr_ear.proofs.Printers.{laid-next, laid-single, no_mark}
+use Rattle.pr_ear.proofs.Printers.{laid-next, laid-nothing, laid-single, no_mark}
 use Rattle.pr_ear.proofs.printing.put.Goals.{in-Some, in_default}
 use Rattle.pr_ear.proofs.printing.put.Goals as goal
 
@@ -25,4 +25,9 @@ returns-then-made-eq0 c = record {
   laid = λ marks first at laid.
       laid-single marks c.args.made.now first c.args.out.now c.args.at c.numbers_of_mark.result c.if-made-eq1.true c.if-made-eq0.true at c.requires.room
           c.numbers_of_mark.ensures laid;
+}
+
+pub returns-then-len-eq0 : goal.returns-then-len-eq0
+returns-then-len-eq0 c = record {
+  laid = λ marks first at laid. laid-nothing marks (marks_made c.args.made.now) first c.args.out.now (sym c.len.ensures ∙ c.if-len-eq0.true) laid;
 }

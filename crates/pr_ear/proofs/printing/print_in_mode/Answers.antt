@@ -3,7 +3,7 @@ use Rattle.pr_page.specs.Marks.{marks_made}
 use Rattle.pr_page.specs.declared.input.Input.TheVariants.{Byte}
 use Rattle.pr_ear.specs.PrinterNumbers.{stored}
 use Rattle.pr_ear.proofs.Printers.{in_mode, mode-same, plain-more, printed-more}
-use Rattle.pr_ear.proofs.printing.print_plain.Goals as goal
+use Rattle.pr_ear.proofs.printing.print_in_mode.Goals as goal
 
 pub returns-then-out-at-clause-printed : goal.returns-then-out-at-clause-printed
 returns-then-out-at-clause-printed c =
