@@ -89,7 +89,13 @@ fn is_plain(printer: &WirePrinter, byte: u8) -> bool
 
 /// Gives a printer such a byte in graphic mode, or not: then only its place changes.
 #[inline(always)]
-fn print_in_mode(printer: &mut WirePrinter, graphic: bool, byte: u8, out: &mut [WireMark], at: usize) -> Printed
+fn print_in_mode(
+    printer: &mut WirePrinter,
+    graphic: bool,
+    byte: u8,
+    out: &mut [WireMark],
+    at: usize,
+) -> Printed
     requires room { at ≤ length out.old }
     requires idle { printer.old.pending ≡ 0 }
     requires plain { LeavesSettings byte }

@@ -24,7 +24,7 @@ pub returns-then-made-eq0 : goal.returns-then-made-eq0
 returns-then-made-eq0 c = record {
   laid = λ marks first at laid.
       laid-single marks c.args.made.now first c.args.out.now c.args.at c.numbers_of_mark.result c.if-made-eq1.true c.if-made-eq0.true at c.requires.room
-          c.numbers_of_mark.ensures laid;
+      c.numbers_of_mark.ensures laid;
 }
 
 pub returns-then-len-eq0 : goal.returns-then-len-eq0
