@@ -8,7 +8,9 @@ ghost use Rattle.pr_interpreter.specs.Statements.{element, further_target, index
 use crate::fault::ProgramFault;
 use crate::lexemes::Lexeme;
 use crate::names::Name;
-use crate::reading::{front_code, front_name, front_place, line, no_statement, not_taken, put, values, variable};
+use crate::reading::{
+    front_code, front_name, front_place, line, no_statement, not_taken, put, values, variable,
+};
 use crate::statements::Target;
 use pr_page::Sequence;
 use std::alloc::Global;
