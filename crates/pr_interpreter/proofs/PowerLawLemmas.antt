@@ -1,12 +1,12 @@
-use Rattle.std.proofs.Common.{◌≡◌, ℕ, zero, suc, ◌+◌, ◌-◌, ◌*◌, ◌^◌, ◌<◌, ◌≤◌, ◌==◌, ◌⊎◌, ℤ, pos, negsuc, neg_ℤ}
+use Rattle.std.proofs.Common.{◌≡◌, ℕ, zero, suc, ◌+◌, ◌-◌, ◌*◌, ◌^◌, ◌<◌, ◌≤◌, ◌⊎◌, ℤ, pos, negsuc}
 use Rattle.std.proofs.Common.{◌<ℤ◌, Bool, true, false, not, ◌&&◌, nat_lt, if◌then◌else◌, arith, sym, subst, refl, inl, inr}
 use Rattle.std.proofs.Common.{unsigned_abs, Option, Some, None, Result, Ok, Err}
 use Rattle.std.proofs.Math.Nat.{mul-pos, pow-succ'}
-use Rattle.std.proofs.lemmas.Bool.{and_parts, cases_lt, ltb-false, ltb-true, true≢false}
+use Rattle.std.proofs.lemmas.Bool.{and_parts, cases_lt, ltb-false, ltb-true}
 use Rattle.std.proofs.lemmas.Int.{ints}
 use Rattle.std.proofs.lemmas.Nat.{pow_pos}
 use Rattle.pr_interpreter.specs.Functions.{is_plus, square_root}
-use Rattle.pr_interpreter.specs.Machine.{MayBeNear, MayPower, MayRoot, SignedAs, is_negative, is_odd, unit_bits}
+use Rattle.pr_interpreter.specs.Machine.{MayBeNear, MayPower, SignedAs, is_negative, is_odd, unit_bits}
 use Rattle.pr_interpreter.specs.NumberLaws.{Allows, PowersAreCertain, RootsAreCertain, whole_value}
 use Rattle.pr_interpreter.specs.Numbers.{Encloses, HasSign, Known, floor, is_zero, order_of, signed, whole_number}
 use Rattle.pr_interpreter.specs.Numbers.{zero_number}

@@ -1,7 +1,7 @@
-use Rattle.std.proofs.Common.{◌≡◌, ℕ, zero, suc, ◌+◌, ◌-◌, ◌*◌, ◌/◌, ◌%◌, ◌^◌, ◌<◌, ◌≤◌, ◌==◌, ◌⊎◌, ℤ, pos, neg_ℤ}
-use Rattle.std.proofs.Common.{Bool, true, false, ◌&&◌, nat_le, if◌then◌else◌, arith, ap, sym, subst, refl, ◌∙◌, inl, inr}
-use Rattle.std.proofs.Common.{unsigned_abs, Result, Ok, Err, IfOk}
-use Rattle.std.proofs.Math.Nat.{div-le_self, div-mul-le_self, le_of_mul-le-mul_right, mul-le-mul, mul-le-mul_left}
+use Rattle.std.proofs.Common.{◌≡◌, ℕ, zero, suc, ◌+◌, ◌-◌, ◌*◌, ◌/◌, ◌^◌, ◌<◌, ◌≤◌, ◌==◌}
+use Rattle.std.proofs.Common.{true, false, nat_le, if◌then◌else◌, arith, ap, sym, subst, refl, ◌∙◌, inl, inr}
+use Rattle.std.proofs.Common.{Result, Ok, Err, IfOk}
+use Rattle.std.proofs.Math.Nat.{div-le_self, div-mul-le_self, mul-le-mul}
 use Rattle.std.proofs.Math.Nat.{mul-le-mul_right, mul-pos, pow-succ', pow-zero}
 use Rattle.std.proofs.lemmas.Bool.{eqb-false, leb-true}
 use Rattle.std.proofs.lemmas.Nat.{pow_pos}

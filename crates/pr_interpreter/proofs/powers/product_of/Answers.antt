@@ -1,5 +1,5 @@
-use Rattle.std.proofs.Common.{◌≡◌, ◌∙◌, ◌<◌, sym, arith}
-use Rattle.pr_interpreter.proofs.PowerLemmas.{factors_done, factors_on, factors_refused, short_part}
+use Rattle.std.proofs.Common.{◌<◌, sym, arith}
+use Rattle.pr_interpreter.proofs.PowerLemmas.{factors_done, factors_on, factors_refused}
 use Rattle.pr_interpreter.proofs.powers.product_of.Goals as goal
 
 pub more-preserved : goal.more-preserved

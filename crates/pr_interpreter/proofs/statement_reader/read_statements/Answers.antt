@@ -1,4 +1,4 @@
-use Rattle.std.proofs.Common.{◌≡◌, ◌∙◌, ℕ, ◌<◌, List, length, drop, sym, ap, arith, rules, length-drop}
+use Rattle.std.proofs.Common.{◌∙◌, ◌<◌, List, length, drop, sym, ap, arith, rules, length-drop}
 use Rattle.std.proofs.lemmas.List.{take_rest}
 use Rattle.pr_interpreter.specs.declared.statements.PlacedStatement.{PlacedStatement}
 use Rattle.pr_interpreter.proofs.FurtherLemmas.{further_done, further_faults, further_on, statements_read}
