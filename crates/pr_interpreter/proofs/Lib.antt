@@ -6,6 +6,7 @@ pub mod DecimalOfLemmas
 pub mod EvaluationLemmas
 pub mod ExactLemmas
 pub mod ExpressionLawLemmas
+pub mod FurtherLemmas
 pub mod KeywordLemmas
 pub mod LexemeLemmas
 pub mod LineLawLemmas
@@ -15,12 +16,15 @@ pub mod MemoryLemmas
 pub mod NumberLemmas
 pub mod NumeralLemmas
 pub mod OrderLemmas
+pub mod PowerLawLemmas
+pub mod PowerLemmas
 pub mod PrintingLawLemmas
 pub mod PrintingLemmas
 pub mod ProgramLemmas
 pub mod RangeLemmas
 pub mod ReaderLemmas
 pub mod RepeatLemmas
+pub mod RootLemmas
 pub mod SignLemmas
 pub mod SizeLemmas
 pub mod SpanLemmas

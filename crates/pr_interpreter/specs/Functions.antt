@@ -7,6 +7,8 @@ use Rattle.pr_interpreter.specs.declared.decimals.Decimal.{Decimal}
 use Rattle.pr_interpreter.specs.declared.lexemes.Word.{Word}
 use Rattle.pr_interpreter.specs.declared.lexemes.Word.TheVariants.{Code, Comparison, Constant, Items, Named, Remark}
 use Rattle.pr_interpreter.specs.declared.lexemes.Word.TheVariants.{Text}
+use Rattle.pr_interpreter.specs.declared.number.Sign.{Sign}
+use Rattle.pr_interpreter.specs.declared.number.Sign.TheVariants.{Either, Minus, Plus}
 use Rattle.pr_interpreter.specs.declared.orders.Order.{Order}
 use Rattle.pr_interpreter.specs.declared.symbols.Stored.TheVariants.{Code as Kept}
 use Rattle.pr_interpreter.specs.declared.symbols.Symbol.{Symbol}
@@ -18,9 +20,10 @@ use Rattle.pr_interpreter.specs.Constants.{value_of}
 use Rattle.pr_interpreter.specs.Decimals.{decimal_of}
 use Rattle.pr_interpreter.specs.Lexemes.{constant_front}
 use Rattle.pr_interpreter.specs.Numbers.{Known, floor, is_zero, negated, order_of, whole_number, zero_number}
+use Rattle.pr_interpreter.specs.Powers.{root_of}
 use Rattle.pr_interpreter.specs.Printing.{decimal_text}
 use Rattle.pr_interpreter.specs.Spans.{bit_length}
-use Rattle.pr_interpreter.specs.Values.{calculated}
+use Rattle.pr_interpreter.specs.Values.{calculated, is_below}
 
 -- ---- whole numbers
 
@@ -31,15 +34,11 @@ whole_within greatest (Some w) =
     if w.negative then Err Uncertain
     else if nat_le w.magnitude greatest then Ok w.magnitude else Err (Error IllegalQuantity)
 
--- every value is below 0
-abbrev pub is_negative : Order → Bool
-is_negative o = o.less && not o.equal && not o.greater
-
 -- The whole number from 0 to a greatest one that a number gives, as an index, a column or a character's code: it is the
 -- same for all values; if all are below 0, or too large, ILLEGAL QUANTITY.
 unfoldable pub whole_to : ℕ → Known → Result ℕ Stop
 whole_to greatest n =
-    if is_negative (order_of n zero_number) || not (order_of n (whole_number false (greatest + 1))).less
+    if is_below (order_of n zero_number) || not (order_of n (whole_number false (greatest + 1))).less
     then Err (Error IllegalQuantity) else whole_within greatest (floor n)
 
 abbrev pub with_whole : {A : Type 0} → Result ℕ Stop → (ℕ → Result A Stop) → Result A Stop
@@ -67,11 +66,17 @@ is_large n = n.span.low == n.span.high && nat_lt 288 (bit_length n.span.high + n
 unfoldable pub integer_part : Known → Result Known Stop
 integer_part n = if is_large n then Ok n else whole_or (floor n)
 
+abbrev pub is_plus : Sign → Bool
+is_plus Plus = true
+is_plus Minus = false
+is_plus Either = false
+
 -- SQR: of 0 it is 0; other roots are not exact
 unfoldable pub square_root : Known → Result Known Stop
 square_root n =
     if is_zero n then Ok zero_number
-    else if is_negative (order_of n zero_number) then Err (Error IllegalQuantity) else Err Uncertain
+    else if is_below (order_of n zero_number) then Err (Error IllegalQuantity)
+    else if is_plus n.sign then calculated (root_of n) else Err Uncertain
 
 -- ---- functions of a number that give a string
 

@@ -14,6 +14,7 @@ pub mod Memory
 pub mod NumberLaws
 pub mod Numbers
 pub mod Numerals
+pub mod Powers
 pub mod Printing
 pub mod PrintingLaws
 pub mod Programs

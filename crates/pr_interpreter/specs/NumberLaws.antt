@@ -1,11 +1,13 @@
 -- What is certain of calculations: whatever the machine may answer is in the number that is the result.
 use Rattle.std.specs.Prelude.{ℕ, ℤ, pos, neg_ℤ, ◌+◌, ◌*◌, ◌^◌, ◌<◌, ◌≤◌, ◌<ℤ◌, ◌≤ℤ◌, ◌≡◌, Bool, true, false, Ok, Some}
 use Rattle.std.specs.Prelude.{unsigned_abs}
-use Rattle.pr_interpreter.specs.Machine.{HasForm, MayProduct, MayQuotient, MaySum, unit_bits}
+use Rattle.pr_interpreter.specs.Functions.{square_root}
+use Rattle.pr_interpreter.specs.Machine.{HasForm, MayPower, MayProduct, MayQuotient, MayRoot, MaySum, unit_bits}
 use Rattle.pr_interpreter.specs.Spans.{IsShort, IsWide, answer}
 use Rattle.pr_interpreter.specs.declared.span.Span.{Span}
 use Rattle.pr_interpreter.specs.Numbers.{Known, Encloses, absolute, floor, negated, order_of, product, quotient, sum}
 use Rattle.pr_interpreter.specs.Numbers.{whole_number}
+use Rattle.pr_interpreter.specs.Values.{power}
 use Rattle.pr_interpreter.specs.declared.whole_numbers.Whole.{Whole}
 use Rattle.pr_interpreter.specs.declared.orders.Order.{Order}
 
@@ -25,6 +27,16 @@ QuotientsAreCertain = (a b n : Known) (x y r : ℤ)
 abbrev pub SumsAreCertain : Type 0
 SumsAreCertain = (a b n : Known) (x y r : ℤ)
     → IsShort a.span → IsShort b.span → Encloses a x → Encloses b y → MaySum x y r → sum a b ≡ Ok n → Encloses n r
+
+-- so does a square root
+abbrev pub RootsAreCertain : Type 0
+RootsAreCertain = (a n : Known) (x r : ℤ)
+    → IsShort a.span → Encloses a x → MayRoot x r → square_root a ≡ Ok n → Encloses n r
+
+-- so does a power
+abbrev pub PowersAreCertain : Type 0
+PowersAreCertain = (a b n : Known) (x y r : ℤ)
+    → IsShort a.span → IsShort b.span → Encloses a x → Encloses b y → MayPower x y r → power a b ≡ Ok n → Encloses n r
 
 -- a value with the other sign is in the number with the other sign
 abbrev pub NegationIsCertain : Type 0

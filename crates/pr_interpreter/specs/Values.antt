@@ -17,6 +17,7 @@ use Rattle.pr_interpreter.specs.declared.values.Value.TheVariants.{Number, Text}
 use Rattle.pr_interpreter.specs.declared.whole_numbers.Whole.{Whole}
 use Rattle.pr_interpreter.specs.Numbers.{Known, floor, is_zero, negated, order_of, product, quotient, sum, whole_number}
 use Rattle.pr_interpreter.specs.Numbers.{zero_number}
+use Rattle.pr_interpreter.specs.Powers.{whole_power}
 
 -- why there is no result
 abbrev pub stop_of : NumberFault → Stop
@@ -70,12 +71,31 @@ with_word (Err stop) more = Err stop
 abbrev pub is_equal_alone : Order → Bool
 is_equal_alone o = o.equal && not o.less && not o.greater
 
--- x ^ 0 is 1 and x ^ 1 is x; the machine's others are not exact
+-- every value is below
+abbrev pub is_below : Order → Bool
+is_below o = o.less && not o.equal && not o.greater
+
+-- every value is above
+abbrev pub is_above : Order → Bool
+is_above o = o.greater && not o.less && not o.equal
+
+-- A power of which this is the whole part of the exponent: it is certain where that is the exponent, from -255 to 255.
+-- What is below 0 has no power with an exponent that is not whole.
+abbrev pub powered : Known → Known → Option Whole → Result Known Stop
+powered a b None = Err Uncertain
+powered a b (Some w) =
+    let o = order_of b (whole_number w.negative w.magnitude) in
+    if nat_lt 255 w.magnitude then Err Uncertain
+    else if is_equal_alone o && nat_lt 0 w.magnitude then calculated (whole_power a w.negative w.magnitude)
+    else if is_below (order_of a zero_number) && not o.equal then Err (Error IllegalQuantity)
+    else Err Uncertain
+
+-- x ^ 0 is 1, and 0 ^ x is 0 for x above 0
 unfoldable pub power : Known → Known → Result Known Stop
 power a b =
     if is_zero b then Ok (whole_number false 1)
-    else if is_equal_alone (order_of b (whole_number false 1)) then Ok a
-    else Err Uncertain
+    else if is_zero a then (if is_above (order_of b zero_number) then Ok zero_number else Err Uncertain)
+    else powered a b (floor b)
 
 -- ---- numbers
 

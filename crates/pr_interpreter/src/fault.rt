@@ -22,8 +22,10 @@ pub enum ProgramFault {
     LargeLineNumber(usize),
     /// At this place is what no expression can have there: the machine reports `?SYNTAX ERROR`.
     NoExpression(usize),
-    /// At this place is what no statement has there: the machine reports `?SYNTAX ERROR`.
+    /// At this place is what no statement has there: the machine reports `?SYNTAX ERROR`. `read_program` reports it as a
+    /// statement of the line instead.
     NoStatement(usize),
-    /// At this place is the keyword of a statement that a run does not take, as INPUT or SYS.
+    /// At this place is the keyword of a statement that a run does not take, as INPUT or SYS, or what may be a syntax
+    /// error. `read_program` reports it as a statement of the line instead.
     NotTaken(usize),
 }

@@ -2,17 +2,18 @@
 
 ghost use Rattle.std.specs.Prelude.{◌≡◌, ◌≤◌, ◌∷◌, [], map, IfOk};
 ghost use Rattle.std.specs.List.{filter};
-ghost use Rattle.pr_interpreter.specs.Functions.{character, constant_in, constant_number, first_byte, front_byte, integer_part, is_large, is_negative, is_solid, length_of, middle, negated_if, number_at_front, number_text, part_of, sign_number, signed_number, square_root, symbol_of, whole_or, whole_to, whole_within, without_sign};
+ghost use Rattle.pr_interpreter.specs.Functions.{character, constant_in, constant_number, first_byte, front_byte, integer_part, is_large, is_plus, is_solid, length_of, middle, negated_if, number_at_front, number_text, part_of, sign_number, signed_number, square_root, symbol_of, whole_or, whole_to, whole_within, without_sign};
 
 use crate::constants::value_of;
 use crate::decimals::decimal_of;
 use crate::lexemes::{Word, constant_at};
-use crate::number::Number;
+use crate::number::{Number, Sign};
 use crate::orders::{Order, order_of};
+use crate::powers::root_of;
 use crate::printing::text_of;
 use crate::span::bit_length;
 use crate::symbols::{Stored, Symbol};
-use crate::values::{BasicError, Stop, calculated};
+use crate::values::{BasicError, Stop, calculated, is_below};
 use crate::whole_numbers::{Whole, floor};
 use pr_page::Sequence;
 use std::alloc::{AllocError, Global};
@@ -44,13 +45,6 @@ fn whole_within(greatest: u16, whole: Option<Whole>) -> Result<u16, Stop>
     }
 }
 
-/// Returns whether every value is below 0, by how it compares with 0.
-fn is_negative(order: Order) -> bool
-    ensures { result ≡ is_negative order }
-{
-    order.less && !order.equal && !order.greater
-}
-
 /// Returns the whole number from 0 to a greatest one that a number gives, as an index, a column or the code of a
 /// character.
 ///
@@ -63,7 +57,7 @@ pub fn whole_to(greatest: u16, number: Number) -> Result<u16, Stop>
     ensures within { IfOk result (λ k. k ≤ greatest) }
 {
     let above = Number::whole(false, u32::from(greatest) + 1);
-    if is_negative(order_of(number, Number::zero())) || !order_of(number, above).less {
+    if is_below(order_of(number, Number::zero())) || !order_of(number, above).less {
         return Err(ILLEGAL);
     }
     whole_within(greatest, floor(number))
@@ -122,6 +116,16 @@ pub fn integer_part(number: Number) -> Result<Number, Stop>
     whole_or(floor(number))
 }
 
+/// Returns whether no value is below 0.
+fn is_plus(sign: Sign) -> bool
+    ensures { result ≡ is_plus sign }
+{
+    match sign {
+        Sign::Plus => true,
+        Sign::Minus | Sign::Either => false,
+    }
+}
+
 /// Returns the square root of a number, as SQR.
 #[tactic(auto, unfolding(crate::specs::Functions::square_root))]
 pub fn square_root(number: Number) -> Result<Number, Stop>
@@ -130,8 +134,11 @@ pub fn square_root(number: Number) -> Result<Number, Stop>
     if number.is_zero() {
         return Ok(Number::zero());
     }
-    if is_negative(order_of(number, Number::zero())) {
+    if is_below(order_of(number, Number::zero())) {
         return Err(ILLEGAL);
+    }
+    if is_plus(number.sign()) {
+        return calculated(root_of(number));
     }
     Err(Stop::NotCertain)
 }

@@ -1,20 +1,22 @@
 //! Laws of the definitions, with nothing to run.
 
-ghost use Rattle.pr_interpreter.specs.NumberLaws.{FormsAreKept, MagnitudesAreCertain, NegationIsCertain, OrdersAreCertain, ProductsAreCertain, QuotientsAreCertain, SumsAreCertain, WholeNumbersAreExact, WholesAreCertain};
+ghost use Rattle.pr_interpreter.specs.NumberLaws.{FormsAreKept, MagnitudesAreCertain, NegationIsCertain, OrdersAreCertain, PowersAreCertain, ProductsAreCertain, QuotientsAreCertain, RootsAreCertain, SumsAreCertain, WholeNumbersAreExact, WholesAreCertain};
 ghost use Rattle.pr_interpreter.specs.Constants.{ConstantsAreCertain};
 ghost use Rattle.pr_interpreter.specs.ExpressionLaws.{ExpressionsAreWhole};
 ghost use Rattle.pr_interpreter.specs.LexemeLaws.{KeywordsAreFound};
 ghost use Rattle.pr_interpreter.specs.LineLaws.{LinesAscend, TypedLinesCount};
 ghost use Rattle.pr_interpreter.specs.PrintingLaws.{DigitsAreCertain, WholeNumbersReadBack};
 
-/// A law: whatever the machine may answer to a sum, a product or a quotient of values that two numbers
-/// enclose is in the number that is their sum, product or quotient; their order has what is true of the
+/// A law: whatever the machine may answer to a sum, a product, a quotient, a power or a square root of values that
+/// numbers enclose is in the number that is their sum, product, quotient, power or root; their order has what is true of the
 /// values, a whole number is that of each value, and
 /// an exact result that has the form of the machine's values is kept as it is.
 pub fn calculations_are_certain()
     ensures sums { SumsAreCertain }
     ensures products { ProductsAreCertain }
     ensures quotients { QuotientsAreCertain }
+    ensures roots { RootsAreCertain }
+    ensures powers { PowersAreCertain }
     ensures negation { NegationIsCertain }
     ensures magnitudes { MagnitudesAreCertain }
     ensures exact { WholeNumbersAreExact }

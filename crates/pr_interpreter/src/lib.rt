@@ -11,7 +11,8 @@
 //! - `span` has the magnitudes that a value may have, and the span of what the machine may answer
 //!   ([`answer`]); `specs/Spans.antt` defines both.
 //! - `number` has numbers, a sign and a span, and their products and quotients; `sums`, `orders` and
-//!   `whole_numbers` have their sums, their comparisons and INT. `specs/Numbers.antt` defines them.
+//!   `whole_numbers` have their sums, their comparisons and INT. `specs/Numbers.antt` defines them. `powers` has square
+//!   roots and powers; `specs/Powers.antt` defines them.
 //! - `decimals` has the nine digits that are printed of a number, where they are certain, and `printing` their text;
 //!   `constants` has the value of a decimal constant.
 //! - `lines` has the numbered lines of a program's text, sorted, and the column of a place in it.
@@ -63,6 +64,7 @@ mod names;
 mod number;
 mod numerals;
 mod orders;
+mod powers;
 mod printed;
 mod printing;
 mod program;

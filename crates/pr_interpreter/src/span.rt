@@ -6,7 +6,7 @@ ghost use Rattle.pr_interpreter.specs.Spans.{IsShort, IsWide, answer, around, bi
 use crate::fault::NumberFault;
 
 /// How many binary digits the ends of an answer have.
-const END_DIGITS: u32 = 40;
+pub const END_DIGITS: u32 = 40;
 
 /// The magnitudes from `low` to `high`, counted in 2 ^ `scale` units of 2 ^ -256.
 #[derive(Clone, Copy, Debug)]
@@ -62,7 +62,7 @@ pub fn drop_digits(span: Span, count: u32) -> Span
 
 /// Rounds both ends outward to `digits` binary digits.
 #[tactic(auto, unfolding(crate::specs::Spans::shorten), using(crate::proofs::BitLemmas::excess_within))]
-fn shorten(span: Span, digits: u32) -> Span
+pub fn shorten(span: Span, digits: u32) -> Span
     requires { IsWide span }
     ensures { result ≡ shorten digits span }
 {
@@ -105,7 +105,7 @@ fn is_too_large(span: &Span) -> bool
 
 /// Returns the span if the machine can hold it.
 #[tactic(auto, unfolding(crate::specs::Spans::in_range))]
-fn in_range(span: Span) -> Result<Span, NumberFault>
+pub fn in_range(span: Span) -> Result<Span, NumberFault>
     ensures { result ≡ in_range span }
 {
     if is_in_range(&span) {
@@ -119,7 +119,7 @@ fn in_range(span: Span) -> Result<Span, NumberFault>
 
 /// Returns what may be answered near the magnitudes of a span.
 #[tactic(auto, unfolding(crate::specs::Spans::around), using(crate::proofs::BitLemmas::widened_wide))]
-fn around(span: Span, error: u16) -> Result<Span, NumberFault>
+pub fn around(span: Span, error: u16) -> Result<Span, NumberFault>
     requires error { error ≤ 32 }
     requires ordered { span.low ≤ span.high }
     requires short { span.high ≤ 2 ^ 40 }

@@ -1,12 +1,13 @@
 //! Values of BASIC, and what operators give of them.
 
 ghost use Rattle.std.specs.Prelude.{◌≡◌, ◌++◌, ◌⊎◌, IfErr, IfOk, Ok, Err};
-ghost use Rattle.pr_interpreter.specs.Values.{calculated, from_word, hits, is_equal_alone, joined, misses, of_numbers, of_texts, power, stop_of, text_order, truth, word_in, word_of};
+ghost use Rattle.pr_interpreter.specs.Values.{calculated, from_word, hits, is_above, is_below, is_equal_alone, joined, misses, of_numbers, of_texts, power, powered, stop_of, text_order, truth, word_in, word_of};
 
 use crate::expressions::Operator;
 use crate::fault::NumberFault;
 use crate::number::{Number, product, quotient};
 use crate::orders::{Order, order_of};
+use crate::powers::whole_power;
 use crate::sums::sum;
 use crate::whole_numbers::{Whole, floor};
 use pr_page::Sequence;
@@ -161,7 +162,42 @@ fn is_equal_alone(order: Order) -> bool
     order.equal && !order.less && !order.greater
 }
 
-/// Returns a power: only those to 0 and to 1 are certain.
+/// Returns whether every value is below what it is compared with.
+pub fn is_below(order: Order) -> bool
+    ensures { result ≡ is_below order }
+{
+    order.less && !order.equal && !order.greater
+}
+
+/// Returns whether every value is above what it is compared with.
+fn is_above(order: Order) -> bool
+    ensures { result ≡ is_above order }
+{
+    order.greater && !order.less && !order.equal
+}
+
+/// Returns a power of which this is the whole part of the exponent.
+fn powered(a: Number, b: Number, whole: Option<Whole>) -> Result<Number, Stop>
+    ensures { result ≡ powered a b whole }
+{
+    let Some(whole) = whole else {
+        return Err(Stop::NotCertain);
+    };
+    if 255 < whole.magnitude {
+        return Err(Stop::NotCertain);
+    }
+    let exponent = whole.magnitude as u8;
+    let order = order_of(b, Number::whole(whole.negative, u32::from(exponent)));
+    if is_equal_alone(order) && 0 < exponent {
+        return calculated(whole_power(a, whole.negative, exponent));
+    }
+    if is_below(order_of(a, Number::zero())) && !order.equal {
+        return Err(Stop::Error(BasicError::IllegalQuantity));
+    }
+    Err(Stop::NotCertain)
+}
+
+/// Returns a power: those with whole exponents from -255 to 255 are certain, but not exact.
 #[tactic(auto, unfolding(crate::specs::Values::power))]
 fn power(a: Number, b: Number) -> Result<Number, Stop>
     ensures { result ≡ power a b }
@@ -169,8 +205,11 @@ fn power(a: Number, b: Number) -> Result<Number, Stop>
     if b.is_zero() {
         return Ok(Number::whole(false, 1));
     }
-    if is_equal_alone(order_of(b, Number::whole(false, 1))) {
-        return Ok(a);
+    if !a.is_zero() {
+        return powered(a, b, floor(b));
+    }
+    if is_above(order_of(b, Number::zero())) {
+        return Ok(Number::zero());
     }
     Err(Stop::NotCertain)
 }
