@@ -1,8 +1,8 @@
 use Rattle.std.proofs.Common.{◌≡◌, inl, inr, ℕ, ◌+◌, ◌-◌, ◌<◌, ◌≤◌, false, arith, List, [], ◌++◌, refl, sym, ap, ◌∙◌}
 use Rattle.std.proofs.Common.{add-one, append_assoc, append-nil, Option, Some, None}
+use Rattle.std.specs.List.{slice_get}
 use Rattle.std.specs.Option.{option_to_list}
 use Rattle.pr_run.specs.declared.ending.Ending.{Ending}
-use Rattle.pr_run.specs.declared.ending.Ending.TheVariants.{TooManySteps}
 use Rattle.pr_run.specs.declared.outcome.Outcome.{Outcome}
 use Rattle.pr_run.specs.declared.performed.Performed.{Performed}
 use Rattle.pr_run.specs.declared.programs.Program.{Program}
@@ -10,10 +10,9 @@ use Rattle.pr_run.specs.declared.state.Run.{Run}
 use Rattle.pr_run.specs.declared.steps.Done.{Done}
 use Rattle.pr_run.specs.Endings.{is_memory}
 use Rattle.pr_run.specs.RunLaws.{outcome}
-use Rattle.pr_run.specs.Runs.{after_turn, run_from}
+use Rattle.pr_run.specs.Runs.{after_turn, ending_in, run_from}
 use Rattle.pr_run.specs.Seen.{LeadsOn, TurnEndsAs, joined, rest_of, state_of, turned, turned_by}
 use Rattle.pr_run.specs.Steps.{Ends, step}
-use Rattle.pr_run.specs.Uses.{line_at}
 
 -- what was performed before joins what a turn leads to
 turn_joins : (p : Program) (n : ℕ) (before done : List Performed) (ending : Option Ending) (r : Run)
@@ -66,10 +65,10 @@ runs_ended p left before after old new ending whole h leads all =
 -- no step is left
 pub runs_out : (p : Program) (left : ℕ) (before : List Performed) (r : Run) (whole : Outcome) → left ≤ 0
     → joined before (run_from p left (state_of r)) ≡ whole
-    → outcome before (TooManySteps (line_at p (state_of r))) ≡ whole
+    → outcome before (ending_in (slice_get p.lines r.place.line)) ≡ whole
 unfolding run_from
 runs_out p left before r whole h all =
     let none : left ≡ 0 = omega arith in
     let last : joined before (run_from p 0 (state_of r)) ≡ whole =
     ap (λ (n : ℕ). joined before (run_from p n (state_of r))) (sym none) ∙ all in
-    sym (ap (λ (ps : List Performed). outcome ps (TooManySteps (line_at p (state_of r)))) (append-nil before)) ∙ last
+    sym (ap (λ (ps : List Performed). outcome ps (ending_in (slice_get p.lines r.place.line))) (append-nil before)) ∙ last

@@ -1,17 +1,18 @@
 -- Trusted: a run of a program: its steps, as far as a limit.
-use Rattle.std.specs.Prelude.{ℕ, zero, suc, ◌≡◌, ◌⊎◌, List, [], ◌++◌, Result, Ok}
+use Rattle.std.specs.Prelude.{ℕ, zero, suc, ◌≡◌, ◌⊎◌, List, [], ◌++◌, Option, Some, None, Result, Ok}
+use Rattle.std.specs.List.{slice_get}
 use Rattle.pr_interpreter.specs.declared.fault.ProgramFault.{ProgramFault}
+use Rattle.pr_interpreter.specs.declared.program.ProgramLine.{ProgramLine}
 use Rattle.pr_interpreter.specs.Lines.{program_lines}
 use Rattle.pr_interpreter.specs.Programs.{or_stop, program}
 use Rattle.pr_run.specs.declared.ending.Ending.{Ending}
-use Rattle.pr_run.specs.declared.ending.Ending.TheVariants.{TooManySteps}
+use Rattle.pr_run.specs.declared.ending.Ending.TheVariants.{LastLine, TooManySteps}
 use Rattle.pr_run.specs.declared.outcome.Outcome.{Outcome}
 use Rattle.pr_run.specs.declared.performed.Performed.{Performed}
 use Rattle.pr_run.specs.Data.{data_of}
 use Rattle.pr_run.specs.declared.programs.Program.{Program}
 use Rattle.pr_run.specs.States.{State, first_state}
 use Rattle.pr_run.specs.Steps.{Ends, Goes, Steps, Stops, Turn, step}
-use Rattle.pr_run.specs.Uses.{line_at}
 
 -- the program that a text is
 unfoldable pub program_of : List ℕ → Result Program ProgramFault
@@ -24,9 +25,14 @@ abbrev pub after_turn : Turn → (State → Outcome) → Outcome
 after_turn (Ends performed ending) more = record { performed = performed; ending = ending }
 after_turn (Goes s performed) more = let rest = more s in record rest { performed = performed ++ rest.performed }
 
+-- how a run ends that has no step left: in a line the limit is used up; after the last line the run is over
+abbrev pub ending_in : Option ProgramLine → Ending
+ending_in (Some l) = TooManySteps l.number
+ending_in None = LastLine
+
 -- a run from a state on, of at most so many steps
 unfoldable pub run_from : Program → ℕ → State → Outcome
-run_from p zero s = record { performed = []; ending = TooManySteps (line_at p s) }
+run_from p zero s = record { performed = []; ending = ending_in (slice_get p.lines s.place.line) }
 run_from p (suc n) s = after_turn (step p s) (λ t. run_from p n t)
 
 -- a run of a program, of at most so many steps
@@ -37,7 +43,7 @@ run limit p = run_from p limit first_state
 
 -- the steps from a state on, at most so many, perform these statements in order, and then the run ends so
 abbrev pub Runs : Program → ℕ → State → List Performed → Ending → Type 0
-Runs p zero s performed ending = (performed ≡ []) × (ending ≡ TooManySteps (line_at p s))
+Runs p zero s performed ending = (performed ≡ []) × (ending ≡ ending_in (slice_get p.lines s.place.line))
 Runs p (suc n) s performed ending =
     Stops p s performed ending
     ⊎ ((t : State) × (done : List Performed) × (rest : List Performed)

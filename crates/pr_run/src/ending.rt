@@ -40,7 +40,7 @@ pub enum Ending {
     Error { error: BasicError, line: u16 },
     /// Something is not run, at a place: the number of bytes before it in the text.
     Refused { refusal: Refusal, place: usize },
-    /// After so many steps, in a line.
+    /// After so many steps, in a line; a run that has come past the last line is over.
     TooManySteps(u16),
     /// Memory ran out.
     OutOfMemory,
