@@ -20,10 +20,14 @@ program_of text =
     or_stop (program text) (λ lines. or_stop (program_lines text)
     (λ rows. Ok (record { text = text; lines = lines; items = data_of text rows })))
 
--- what comes after a turn
-abbrev pub after_turn : Turn → (State → Outcome) → Outcome
-after_turn (Ends performed ending) more = record { performed = performed; ending = ending }
-after_turn (Goes s performed) more = let rest = more s in record rest { performed = performed ++ rest.performed }
+-- what a run performs, how it ends, and the line of the first POKE that it leaves out
+abbrev pub outcome : List Performed → Ending → Option ℕ → Outcome
+outcome performed ending skipped = record { performed = performed; ending = ending; skipped_poke = skipped }
+
+-- what comes after a turn in a state
+abbrev pub after_turn : State → Turn → (State → Outcome) → Outcome
+after_turn s (Ends performed ending) more = outcome performed ending s.skipped_poke
+after_turn s (Goes t performed) more = let rest = more t in record rest { performed = performed ++ rest.performed }
 
 -- how a run ends that has no step left: in a line the limit is used up; after the last line the run is over
 abbrev pub ending_in : Option ProgramLine → Ending
@@ -32,8 +36,8 @@ ending_in None = LastLine
 
 -- a run from a state on, of at most so many steps
 unfoldable pub run_from : Program → ℕ → State → Outcome
-run_from p zero s = record { performed = []; ending = ending_in (slice_get p.lines s.place.line) }
-run_from p (suc n) s = after_turn (step p s) (λ t. run_from p n t)
+run_from p zero s = outcome [] (ending_in (slice_get p.lines s.place.line)) s.skipped_poke
+run_from p (suc n) s = after_turn s (step p s) (λ t. run_from p n t)
 
 -- a run of a program, of at most so many steps
 unfoldable pub run : ℕ → Program → Outcome

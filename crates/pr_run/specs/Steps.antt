@@ -26,7 +26,8 @@ use Rattle.pr_run.specs.Places.{Found, Doing, LineEnd, ProgramEnd, after_stateme
 use Rattle.pr_run.specs.declared.programs.Program.{Program}
 use Rattle.pr_run.specs.States.{State, next_line}
 use Rattle.pr_run.specs.Assignments.{clear_statement, dim_statement, is_system, let_statement, replaced}
-use Rattle.pr_run.specs.Uses.{Worked, line_at, statement_place}
+use Rattle.pr_run.specs.declared.uses.Use.{Use}
+use Rattle.pr_run.specs.Uses.{Worked, line_at, statement_use}
 use Rattle.pr_run.specs.Worked.{then_on, whole}
 
 -- ---- DEF FN and POKE
@@ -65,13 +66,21 @@ define_statement p s name variable nodes =
 abbrev pub is_harmless : ℕ → Bool
 is_harmless a = (nat_le 1024 a && nat_le a 2023) || (nat_le 53248 a && nat_le a 56319)
 
-abbrev pub poke_at : ℕ → ℕ → State → Worked State
-poke_at place a s = if is_harmless a then Ok s else Err (Refused (Poked a) place)
+abbrev pub or_else : Option ℕ → ℕ → Option ℕ
+or_else (Some first) n = Some first
+or_else None n = Some n
+
+-- a POKE of a line is left out: the line of the first one is kept
+abbrev pub poke_skipped : ℕ → State → State
+poke_skipped line s = record s { skipped_poke = or_else s.skipped_poke line }
+
+abbrev pub poke_at : Use → ℕ → State → Worked State
+poke_at u a s = if is_harmless a then Ok (poke_skipped u.line s) else Err (Refused (Poked a) u.place)
 
 -- POKE is left out where it cannot change what is printed
 unfoldable pub poke_statement : Program → State → List Placed → List Placed → Worked State
 poke_statement p s address value =
-    then_on (whole 65535 p s address) (λ a t. then_on (whole 255 p t value) (λ b u. poke_at (statement_place p u) a u))
+    then_on (whole 65535 p s address) (λ a t. then_on (whole 255 p t value) (λ b u. poke_at (statement_use p u) a u))
 
 -- ---- steps
 

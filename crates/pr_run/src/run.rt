@@ -79,7 +79,7 @@ fn without_steps(program: &Program, run: &Run) -> Ending
 }
 
 /// Runs a program, for so many steps at most: a step is a statement, or goes from the end of a line to the next one.
-/// Returns what it performs, and how it ends.
+/// Returns what it performs, how it ends, and the line of the first POKE that it leaves out.
 ///
 /// # Errors
 ///
@@ -93,15 +93,18 @@ pub fn run_program(alloc: Global, program: &Program, limit: u64) -> Result<Outco
     let mut left = limit;
     'steps: while 0 < left {
         left -= 1;
+        let skipped_poke = run.skipped_poke;
         if let Some(ending) = advance(alloc, program, &mut run, &mut performed)? {
             return Ok(Outcome {
                 performed: Sequence::from_vec(performed),
                 ending,
+                skipped_poke,
             });
         }
     }
     Ok(Outcome {
         performed: Sequence::from_vec(performed),
         ending: without_steps(program, &run),
+        skipped_poke: run.skipped_poke,
     })
 }

@@ -4,7 +4,7 @@ ghost use Rattle.std.specs.Prelude.{◌≡◌, ◌<◌, ◌-◌, ◌^◌, IfErr,
 ghost use Rattle.std.specs.List.{position_or_len};
 ghost use Rattle.pr_interpreter.specs.Memory.{same_name};
 ghost use Rattle.pr_run.specs.Seen.{EndsAs, TurnEndsAs, ended, nothing, output_done, state_of, turned};
-ghost use Rattle.pr_run.specs.Steps.{define_error, define_statement, kind_error, is_harmless, poke_statement, step, turn, with_function};
+ghost use Rattle.pr_run.specs.Steps.{define_error, define_statement, kind_error, is_harmless, poke_skipped, poke_statement, step, turn, with_function};
 
 use crate::assignments::{clear_statement, dim_statement, is_system, let_statement};
 use crate::ending::{Ending, Refusal};
@@ -20,7 +20,7 @@ use crate::outputs::{
 use crate::performed::Performed;
 use crate::programs::Program;
 use crate::state::Run;
-use crate::worked::{line_at, statement_place, whole};
+use crate::worked::{line_at, statement_use, whole};
 use pr_interpreter::{BasicError, Function, Kind, Name, Placed, Statement, same_name};
 use pr_page::Sequence;
 use std::alloc::Global;
@@ -123,6 +123,15 @@ fn is_harmless(address: u16) -> bool
     1024 <= address && address <= 2023 || 53248 <= address && address <= 56319
 }
 
+/// Keeps the line of the first POKE that is left out.
+fn note_poke(line: u16, run: &mut Run)
+    ensures { state_of run.new ≡ poke_skipped line (state_of run.old) }
+{
+    if run.skipped_poke.is_none() {
+        run.skipped_poke = Some(line);
+    }
+}
+
 /// Performs POKE: it is left out where it cannot change what is printed.
 #[tactic(auto, unfolding(crate::specs::Steps::poke_statement))]
 fn poke_statement(
@@ -137,12 +146,14 @@ fn poke_statement(
 {
     let to = whole(alloc, 65535, program, run, address)?;
     let _byte = whole(alloc, 255, program, run, value)?;
+    let at = statement_use(program, run);
     if is_harmless(to) {
+        note_poke(at.line, run);
         return Ok(());
     }
     Err(Ending::Refused {
         refusal: Refusal::Poke(to),
-        place: statement_place(program, run),
+        place: at.place,
     })
 }
 
