@@ -129,6 +129,11 @@ pub enum Statement {
     Clear,
     Stop,
     End,
+    /// What is no statement: the machine reports `?SYNTAX ERROR` when a run comes to it.
+    NoStatement,
+    /// What a run does not take, as INPUT or SYS, or what is not certain to be a syntax error: refused at its place when
+    /// a run comes to it.
+    NotTaken,
 }
 
 /// A statement, and its place: the number of bytes before it in the text.
