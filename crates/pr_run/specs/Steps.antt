@@ -8,7 +8,8 @@ use Rattle.pr_interpreter.specs.declared.names.Kind.TheVariants.{Number as Numer
 use Rattle.pr_interpreter.specs.declared.names.Name.{Name}
 use Rattle.pr_interpreter.specs.declared.statements.Statement.{Statement}
 use Rattle.pr_interpreter.specs.declared.statements.Statement.TheVariants.{Clear, Close, Command, Define, Dim, End, For}
-use Rattle.pr_interpreter.specs.declared.statements.Statement.TheVariants.{Go, If, Let, Next, Nothing, On, Open, Poke}
+use Rattle.pr_interpreter.specs.declared.statements.Statement.TheVariants.{Go, If, Let, Next, NoStatement, Nothing}
+use Rattle.pr_interpreter.specs.declared.statements.Statement.TheVariants.{NotTaken, On, Open, Poke}
 use Rattle.pr_interpreter.specs.declared.statements.Statement.TheVariants.{Print, PrintFile, Read, Restore, Return}
 use Rattle.pr_interpreter.specs.declared.statements.Statement.TheVariants.{Stop}
 use Rattle.pr_interpreter.specs.declared.values.BasicError.{BasicError}
@@ -16,7 +17,7 @@ use Rattle.pr_interpreter.specs.declared.values.BasicError.TheVariants.{Syntax, 
 use Rattle.pr_interpreter.specs.Memory.{same_name}
 use Rattle.pr_run.specs.declared.ending.Ending.{Ending}
 use Rattle.pr_run.specs.declared.ending.Ending.TheVariants.{Break, End as Ended, Error, LastLine, Refused}
-use Rattle.pr_run.specs.declared.ending.Refusal.TheVariants.{Poke as Poked}
+use Rattle.pr_run.specs.declared.ending.Refusal.TheVariants.{NotTaken as Unknown, Poke as Poked}
 use Rattle.pr_run.specs.declared.performed.Performed.{Performed}
 use Rattle.pr_run.specs.Items.{read_statement, restore_statement}
 use Rattle.pr_run.specs.Jumps.{for_statement, if_statement, jump, next_statement, on_statement, return_statement}
@@ -27,7 +28,7 @@ use Rattle.pr_run.specs.declared.programs.Program.{Program}
 use Rattle.pr_run.specs.States.{State, next_line}
 use Rattle.pr_run.specs.Assignments.{clear_statement, dim_statement, is_system, let_statement, replaced}
 use Rattle.pr_run.specs.declared.uses.Use.{Use}
-use Rattle.pr_run.specs.Uses.{Worked, line_at, statement_use}
+use Rattle.pr_run.specs.Uses.{Worked, line_at, statement_place, statement_use}
 use Rattle.pr_run.specs.Worked.{then_on, whole}
 
 -- ---- DEF FN and POKE
@@ -126,6 +127,8 @@ turn p s (Poke address value) = quiet (poke_statement p s address value)
 turn p s Clear = quiet (clear_statement p s)
 turn p s Stop = Ends [] (Break (line_at p s))
 turn p s End = Ends [] (Ended (line_at p s))
+turn p s NoStatement = Ends [] (Error Syntax (line_at p s))
+turn p s NotTaken = Ends [] (Refused Unknown (statement_place p s))
 
 abbrev pub turn_at : Program → State → Found → Turn
 turn_at p s (Doing statement) = turn p (record s { place = after_statement s.place }) statement

@@ -7,7 +7,7 @@ use pr_interpreter::BasicError;
 pub enum Refusal {
     /// What the machine would do is not certain: a value, or the screen's column.
     NotCertain,
-    /// A function or a variable is not known, as RND or TI.
+    /// A function, a variable or a statement is not known, as RND, TI or INPUT.
     NotTaken,
     /// POKE to this address may change what is printed.
     Poke(u16),

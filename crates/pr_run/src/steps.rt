@@ -20,7 +20,7 @@ use crate::outputs::{
 use crate::performed::Performed;
 use crate::programs::Program;
 use crate::state::Run;
-use crate::worked::{line_at, statement_use, whole};
+use crate::worked::{line_at, statement_place, statement_use, whole};
 use pr_interpreter::{BasicError, Function, Kind, Name, Placed, Statement, same_name};
 use pr_page::Sequence;
 use std::alloc::Global;
@@ -274,6 +274,14 @@ fn turn(
         }
         Statement::Stop => Ok(ended(Ending::Break(line))),
         Statement::End => Ok(ended(Ending::End(line))),
+        Statement::NoStatement => Err(Ending::Error {
+            error: BasicError::Syntax,
+            line,
+        }),
+        Statement::NotTaken => Err(Ending::Refused {
+            refusal: Refusal::NotTaken,
+            place: statement_place(program, run),
+        }),
         Statement::Print { items } => {
             let put = print_statement(alloc, program, run, items.as_slice())?;
             Ok(put_out(line, put))
