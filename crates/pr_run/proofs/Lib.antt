@@ -3,7 +3,9 @@ pub mod CountLemmas
 pub mod DataLemmas
 pub mod ElementLemmas
 pub mod OpenedLemmas
+pub mod OriginLemmas
 pub mod PlaceLemmas
+pub mod PlainLemmas
 pub mod ReplacedLemmas
 pub mod RunLawLemmas
 pub mod StepLemmas

@@ -7,6 +7,7 @@ pub mod Lists
 pub mod Opened
 pub mod Outputs
 pub mod Places
+pub mod Plain
 pub mod RunLaws
 pub mod Runs
 pub mod Seen

@@ -1,5 +1,5 @@
 -- Trusted: a run of a program: its steps, as far as a limit.
-use Rattle.std.specs.Prelude.{ℕ, zero, suc, ◌≡◌, ◌⊎◌, List, [], ◌++◌, Option, Some, None, Result, Ok}
+use Rattle.std.specs.Prelude.{ℕ, zero, suc, List, [], ◌++◌, Option, Some, None, Result, Ok}
 use Rattle.std.specs.List.{slice_get}
 use Rattle.pr_interpreter.specs.declared.fault.ProgramFault.{ProgramFault}
 use Rattle.pr_interpreter.specs.declared.program.ProgramLine.{ProgramLine}
@@ -12,7 +12,7 @@ use Rattle.pr_run.specs.declared.performed.Performed.{Performed}
 use Rattle.pr_run.specs.Data.{data_of}
 use Rattle.pr_run.specs.declared.programs.Program.{Program}
 use Rattle.pr_run.specs.States.{State, first_state}
-use Rattle.pr_run.specs.Steps.{Ends, Goes, Steps, Stops, Turn, step}
+use Rattle.pr_run.specs.Steps.{Ends, Goes, Turn, step}
 
 -- the program that a text is
 unfoldable pub program_of : List ℕ → Result Program ProgramFault
@@ -42,13 +42,3 @@ run_from p (suc n) s = after_turn s (step p s) (λ t. run_from p n t)
 -- a run of a program, of at most so many steps
 unfoldable pub run : ℕ → Program → Outcome
 run limit p = run_from p limit first_state
-
--- ---- the same, as a relation
-
--- the steps from a state on, at most so many, perform these statements in order, and then the run ends so
-abbrev pub Runs : Program → ℕ → State → List Performed → Ending → Type 0
-Runs p zero s performed ending = (performed ≡ []) × (ending ≡ ending_in (slice_get p.lines s.place.line))
-Runs p (suc n) s performed ending =
-    Stops p s performed ending
-    ⊎ ((t : State) × (done : List Performed) × (rest : List Performed)
-    × Steps p s done t × Runs p n t rest ending × (performed ≡ done ++ rest))

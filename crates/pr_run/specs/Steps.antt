@@ -1,5 +1,5 @@
 -- Trusted: one step of a run.
-use Rattle.std.specs.Prelude.{ℕ, ◌≡◌, ◌||◌, ◌&&◌, Bool, List, [], ◌∷◌, nat_le, if◌then◌else◌, Option, Some, None, Ok}
+use Rattle.std.specs.Prelude.{ℕ, ◌||◌, ◌&&◌, Bool, List, [], ◌∷◌, nat_le, if◌then◌else◌, Option, Some, None, Ok}
 use Rattle.std.specs.Prelude.{Err}
 use Rattle.pr_interpreter.specs.declared.expressions.Placed.{Placed}
 use Rattle.pr_interpreter.specs.declared.memory.Function.{Function}
@@ -138,11 +138,3 @@ turn_at p s ProgramEnd = Ends [] LastLine
 -- a step: a statement, or from the end of a line to the next one
 unfoldable pub step : Program → State → Turn
 step p s = turn_at p s (found_at p.lines s.place)
-
--- a step leads from a state to another one, and performs these statements: one, or none
-abbrev pub Steps : Program → State → List Performed → State → Type 0
-Steps p s performed t = step p s ≡ Goes t performed
-
--- a run ends in a state, after it performs these statements
-abbrev pub Stops : Program → State → List Performed → Ending → Type 0
-Stops p s performed ending = step p s ≡ Ends performed ending
