@@ -2,6 +2,7 @@ pub mod ArrayLemmas
 pub mod CountLemmas
 pub mod DataLemmas
 pub mod ElementLemmas
+pub mod LiteralLemmas
 pub mod OpenedLemmas
 pub mod OriginLemmas
 pub mod PlaceLemmas

@@ -1,6 +1,7 @@
 -- Trusted: plain programs: OPEN, CMD, PRINT, PRINT#, CLOSE and REM alone, with constants. They are what scripts can say:
 -- here is which output statements they are, and what is performed of them.
-use Rattle.std.specs.Prelude.{ℕ, ◌≡◌, ◌⊎◌, ◌+◌, ◌==◌, ◌≤◌, List, [], ◌∷◌, ◌++◌, length, map, not, if◌then◌else◌, Option}
+use Rattle.std.specs.Prelude.{ℕ, ◌≡◌, ◌⊎◌, ◌+◌, ◌-◌, ◌==◌, ◌≤◌, Bool, true, false, List, [], ◌∷◌, ◌++◌}
+use Rattle.std.specs.Prelude.{length, map, not, slice_range, Option}
 use Rattle.std.specs.Prelude.{Some, None, Ok}
 use Rattle.std.specs.List.{filter}
 use Rattle.pr_basic.specs.Limits.{byte_limit}
@@ -8,7 +9,9 @@ use Rattle.pr_basic.specs.Text.{Text as Line}
 use Rattle.pr_basic.specs.declared.statement.Statement.{Statement as Output}
 use Rattle.pr_basic.specs.declared.statement.Statement.TheVariants.{CloseFile, Cmd, OpenFile, Print as Printed, PrintTo}
 use Rattle.pr_basic.specs.declared.statement.Statement.TheVariants.{Rem}
-use Rattle.pr_interpreter.specs.declared.constants.Constant.{Constant as Digits}
+use Rattle.pr_interpreter.specs.declared.constants.Tens.TheVariants.{Times}
+use Rattle.pr_interpreter.specs.declared.expressions.Callee.TheVariants.{Function}
+use Rattle.pr_interpreter.specs.declared.expressions.Node.TheVariants.{Call, Number as Digits, Text as Quoted}
 use Rattle.pr_interpreter.specs.declared.expressions.Placed.{Placed}
 use Rattle.pr_interpreter.specs.declared.memory.Arrays.{Arrays}
 use Rattle.pr_interpreter.specs.declared.program.ProgramLine.{ProgramLine}
@@ -42,6 +45,27 @@ IsConstant text nodes v = (s : Scope) (arrays : Arrays) → s.text ≡ text
 -- it is this whole number, of at most 255
 abbrev pub IsNumber : List ℕ → List Placed → ℕ → Type 0
 IsNumber text nodes n = (v : Value) × IsConstant text nodes v × (whole_of 255 v ≡ Ok n)
+
+-- digits, as a program's text has them
+abbrev pub digits : ℕ → ℕ → Placed
+digits place n = record {
+  node = Digits (record { digits = n; more = false; tens = Times 0; roundings = 0; plain = true });
+  place = place;
+}
+
+-- digits are the number that they write
+abbrev pub DigitsAreNumbers : Type 0
+DigitsAreNumbers = (text : List ℕ) (place n : ℕ) → n ≤ 255 → IsNumber text (digits place n ∷ []) n
+
+-- a string between quotes is its bytes
+abbrev pub StringsAreConstant : Type 0
+StringsAreConstant = (text : List ℕ) (place start end : ℕ) → start ≤ end → end ≤ length text → end - start ≤ 255
+    → IsConstant text (record { node = Quoted start end; place = place } ∷ []) (Text (slice_range text start end))
+
+-- CHR$ of digits is the byte of that number
+abbrev pub CharactersAreConstant : Type 0
+CharactersAreConstant = (text : List ℕ) (place at n : ℕ) → n ≤ 255
+    → IsConstant text (digits place n ∷ record { node = Call (Function 199) 1; place = at } ∷ []) (Text (n ∷ []))
 
 -- ---- which output statements the statements of a program are
 

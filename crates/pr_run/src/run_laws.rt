@@ -1,6 +1,6 @@
 //! Laws of the definitions, with nothing to run.
 
-ghost use Rattle.pr_run.specs.Plain.{PlainRuns};
+ghost use Rattle.pr_run.specs.Plain.{CharactersAreConstant, DigitsAreNumbers, PlainRuns, StringsAreConstant};
 ghost use Rattle.pr_run.specs.RunLaws.{AllComeFrom, LimitsAgree, LimitsGoOn};
 
 /// A law: a greater limit of steps changes no run that does not use up a smaller one, and what is performed within a
@@ -13,6 +13,13 @@ pub fn limits_agree()
 /// A law: each output statement that a run performs comes from a statement of its kind, in the line of its number.
 pub fn statements_come_from_their_lines()
     ensures { AllComeFrom }
+{}
+
+/// A law: digits of at most 255, a string between quotes, and CHR$ of such digits are constants.
+pub fn literals_are_constant()
+    ensures digits { DigitsAreNumbers }
+    ensures strings { StringsAreConstant }
+    ensures characters { CharactersAreConstant }
 {}
 
 /// A law: a program of OPEN, CMD, PRINT, PRINT#, CLOSE and REM alone, with constants, performs these statements in
