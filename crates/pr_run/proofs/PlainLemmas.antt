@@ -277,6 +277,10 @@ number_here : (p : Program) (place : Place) (l : ProgramLine) → slice_get p.li
 unfolding number_at
 number_here p place l e = rw e refl
 
+turn_nothing : (p : Program) (s : State) (st : Statement) → st ≡ Nothing → turn p s st ≡ Goes s []
+unfolding turn
+turn_nothing p s st e = rw e refl
+
 line_runs : (p : Program) (ss : List PlacedStatement) (l : ProgramLine) (ls : List ProgramLine) (os : List Output)
     (more : List Performed) (s : State) (limit : ℕ)
     → slice_get p.lines s.place.line ≡ Some l → drop s.place.statement l.statements ≡ ss → s.skipped_poke ≡ None
@@ -294,7 +298,7 @@ line_runs p (x ∷ xs) l ls os more s (suc m) e f none (inl quiet) rest h =
     let t : State = record s { place = after_statement s.place } in
     let next : drop t.place.statement l.statements ≡ xs = rw add-one (drop_tail s.place.statement l.statements xs x f) in
     let few : length xs + 1 + step_count ls ≤ m = omega (arith, h) in
-    rw (e, here, quiet.0) (line_runs p xs l ls os more t m e next none quiet.1 rest few)
+    rw (e, here, turn_nothing p t x.statement quiet.0) (line_runs p xs l ls os more t m e next none quiet.1 rest few)
 line_runs p (x ∷ xs) l ls os more s (suc m) e f none (inr says) rest h =
     let here = drop_head s.place.statement l.statements xs x f in
     let t : State = record s { place = after_statement s.place } in
