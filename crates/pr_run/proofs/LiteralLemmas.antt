@@ -7,7 +7,7 @@ use Rattle.pr_interpreter.specs.declared.memory.Arrays.{Arrays}
 use Rattle.pr_interpreter.specs.declared.values.Stop.{Stop}
 use Rattle.pr_interpreter.specs.declared.values.Value.TheVariants.{Number}
 use Rattle.pr_interpreter.specs.Constants.{error_after, value_of}
-use Rattle.pr_interpreter.specs.Evaluation.{Scope, after, called, evaluation, give, literal, of_one_argument, string_of_number}
+use Rattle.pr_interpreter.specs.Evaluation.{after, called, evaluation, give, literal, of_one_argument, string_of_number}
 use Rattle.pr_interpreter.specs.Evaluation.{without}
 use Rattle.pr_interpreter.specs.Functions.{character, whole_to}
 use Rattle.pr_interpreter.specs.Numbers.{Known, aligned, floor, floor_of, order_of}
@@ -36,7 +36,8 @@ always n = true
 
 -- each number of a byte is read as itself
 all_are_read : agree_below is_read always 256 ≡ true
-unfolding value_of error_after answer has_form bit_length in_range is_in_range shorten drop_digits whole_to order_of aligned floor floor_of
+unfolding value_of error_after answer has_form bit_length in_range is_in_range shorten drop_digits whole_to order_of
+    aligned floor floor_of lib.Count.count_leading_zeros
 all_are_read = refl
 
 from_whole : (n : ℕ) (r : Result ℕ Stop) → is_whole n r ≡ true → r ≡ Ok n
@@ -48,7 +49,9 @@ from_read n (Ok k) e = (k, refl, from_whole n (whole_to 255 k) e)
 from_read n (Err stop) e = absurd (cc)
 
 read_at : (n : ℕ) → n ≤ 255 → (k : Known) × (calculated (value_of (constant n)) ≡ Ok k) × (whole_to 255 k ≡ Ok n)
-read_at n h = from_read n (calculated (value_of (constant n))) (agree_below_at is_read always 256 n all_are_read (omega (arith, h)))
+read_at n h =
+    from_read n (calculated (value_of (constant n)))
+    (agree_below_at is_read always 256 n all_are_read (omega (arith, h)))
 
 pub digits_number : DigitsAreNumbers
 unfolding evaluation after give

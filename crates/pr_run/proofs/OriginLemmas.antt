@@ -23,7 +23,8 @@ use Rattle.pr_run.specs.Jumps.{for_statement, if_statement, jump, next_statement
 use Rattle.pr_run.specs.Lists.{printed}
 use Rattle.pr_run.specs.Outputs.{Output as Result, close_statement, close_with, command_statement, command_to, directed}
 use Rattle.pr_run.specs.Outputs.{done, failed, no_line}
-use Rattle.pr_run.specs.Outputs.{file_numbers, is_open, on_bus, open_error, open_file, open_statement, open_with, opened_or}
+use Rattle.pr_run.specs.Outputs.{file_numbers, is_open, on_bus, open_error, open_file, open_statement, open_with}
+use Rattle.pr_run.specs.Outputs.{opened_or}
 use Rattle.pr_run.specs.Outputs.{print_file_statement, print_statement, print_to, value_place, with_second, undirected}
 use Rattle.pr_run.specs.Places.{Doing, Found, LineEnd, ProgramEnd, after_statement, found_at, number_at}
 use Rattle.pr_run.specs.RunLaws.{ComesFrom, is_kind}
@@ -57,7 +58,7 @@ if_kind s false x y hx hy = hy
 
 print_kind : (p : Program) (s : State) (is : List Item) → IsKind (Print is) (print_statement p s is)
 unfolding print_statement
-print_kind p s is = then_kind (Print is) (printed p s is) (λ line t. Ok (done (Printed line) t)) (λ line t. tt)
+print_kind p s is = then_kind (Print is) (printed p s is) (λ line t. Ok (done (Printed line) t)) (λ line t. refl)
 
 print_file_kind : (p : Program) (s : State) (f : List Placed) (is : List Item)
     → IsKind (PrintFile f is) (print_file_statement p s f is)
@@ -67,7 +68,7 @@ print_file_kind p s f is = then_kind (PrintFile f is) (whole 255 p s f) (λ n t.
     (then_on (printed p (directed n t) is) (λ line u. Ok (done (PrintTo n line) (undirected u))))
     (Ok (failed FileNotOpen (PrintTo n no_line) t))
     (then_kind (PrintFile f is) (printed p (directed n t) is) (λ line u. Ok (done (PrintTo n line) (undirected u)))
-    (λ line u. tt)) tt)
+    (λ line u. refl)) refl)
 
 command_kind : (p : Program) (s : State) (f : List Placed) (is : List Item)
     → IsKind (Command f is) (command_statement p s f is)
@@ -77,12 +78,12 @@ command_kind p s f is = then_kind (Command f is) (whole 255 p s f) (λ n t. comm
     (then_on (printed p (directed n t) is) (λ line u. Ok (done (Cmd n line) u)))
     (Ok (failed FileNotOpen (Cmd n no_line) t))
     (then_kind (Command f is) (printed p (directed n t) is) (λ line u. Ok (done (Cmd n line) u))
-    (λ line u. tt)) tt)
+    (λ line u. refl)) refl)
 
 close_with_kind : (place : ℕ) (is : List (List Placed)) (found : List ℕ) (s : State)
     → IsKind (Close is) (close_with place found s)
 close_with_kind place is [] s = tt
-close_with_kind place is (file ∷ more) s = tt
+close_with_kind place is (file ∷ more) s = refl
 
 close_kind : (p : Program) (s : State) (is : List (List Placed)) → IsKind (Close is) (close_statement p s is)
 unfolding close_statement
@@ -91,8 +92,8 @@ close_kind p s is = then_kind (Close is) (file_numbers p s is) (λ found t. clos
 
 opened_kind : (is : List (List Placed)) (error : Option BasicError) (file device : ℕ) (second : Option ℕ) (s : State)
     → IsTrue (is_kind (Open is) (opened_or error file (OpenFile file device second) s).statement)
-opened_kind is None file device second s = tt
-opened_kind is (Some e) file device second s = tt
+opened_kind is None file device second s = refl
+opened_kind is (Some e) file device second s = refl
 
 open_file_kind : (is : List (List Placed)) (file device : ℕ) (second : Option ℕ) (s : State)
     → IsTrue (is_kind (Open is) (open_file file device second s).statement)

@@ -1,7 +1,7 @@
-use Rattle.std.proofs.Common.{◌≡◌, ◌⊎◌, inl, inr, ℕ, zero, suc, ◌+◌, ◌≤◌, ◌==◌, ◌||◌, ◌∷◌, Bool, true, false, not, List, []}
+use Rattle.std.proofs.Common.{◌≡◌, ◌⊎◌, inl, inr, ℕ, zero, suc, ◌+◌, ◌≤◌, ◌==◌, ◌||◌, ◌∷◌, Bool, true, false, not, List}
 use Rattle.std.proofs.Common.{◌++◌, map, length, drop, refl, sym, ap, ◌∙◌, arith, Option, Some, None, Result, Ok, Err}
-use Rattle.std.proofs.Common.{append_assoc, append-nil, add-one, le-leb, le-ltb, length-append, nat_le, nat_lt, slice_get}
-use Rattle.std.proofs.Common.{if◌then◌else◌, filter}
+use Rattle.std.proofs.Common.{append_assoc, append-nil, add-one, le-leb, le-ltb, length-append, nat_le, nat_lt}
+use Rattle.std.proofs.Common.{if◌then◌else◌, [], filter, slice_get}
 use Rattle.pr_basic.specs.Limits.{byte_limit}
 use Rattle.pr_basic.specs.Text.{Text as Line}
 use Rattle.pr_basic.specs.declared.statement.Statement.{Statement as Output}
@@ -14,7 +14,8 @@ use Rattle.pr_interpreter.specs.declared.statements.Part.{Part}
 use Rattle.pr_interpreter.specs.declared.statements.Part.TheVariants.{Comma, Semicolon, Spaces, Tab, Value as Shows}
 use Rattle.pr_interpreter.specs.declared.statements.PlacedStatement.{PlacedStatement}
 use Rattle.pr_interpreter.specs.declared.statements.Statement.{Statement}
-use Rattle.pr_interpreter.specs.declared.statements.Statement.TheVariants.{Close, Command, Nothing, Open, Print, PrintFile}
+use Rattle.pr_interpreter.specs.declared.statements.Statement.TheVariants.{Close, Command, Nothing, Open, Print}
+use Rattle.pr_interpreter.specs.declared.statements.Statement.TheVariants.{PrintFile}
 use Rattle.pr_interpreter.specs.declared.values.BasicError.{BasicError}
 use Rattle.pr_interpreter.specs.declared.values.BasicError.TheVariants.{FileNotOpen}
 use Rattle.pr_interpreter.specs.declared.values.Stop.{Stop}
@@ -27,13 +28,14 @@ use Rattle.pr_run.specs.declared.performed.Performed.{Performed}
 use Rattle.pr_run.specs.declared.place.Place.{Place}
 use Rattle.pr_run.specs.declared.programs.Program.{Program}
 use Rattle.pr_run.specs.declared.uses.Use.{Use}
-use Rattle.pr_run.specs.Lists.{at_left_after, ends_after, fitting, part_bytes, printed, shown, value_bytes, with_part, with_parts}
+use Rattle.pr_run.specs.Lists.{at_left_after, ends_after, fitting, part_bytes, printed, shown, value_bytes, with_part}
+use Rattle.pr_run.specs.Lists.{with_parts}
 use Rattle.pr_run.specs.Outputs.{Output as Put, close_statement, command_statement, command_to, directed, done, is_open}
-use Rattle.pr_run.specs.Outputs.{numbers, open_error, open_statement, opened_or, print_file_statement, print_statement, print_to}
-use Rattle.pr_run.specs.Outputs.{undirected}
+use Rattle.pr_run.specs.Outputs.{numbers, open_error, open_statement, opened_or, print_file_statement, print_statement}
+use Rattle.pr_run.specs.Outputs.{print_to, undirected}
 use Rattle.pr_run.specs.Places.{after_line, after_statement, found_at, number_at}
-use Rattle.pr_run.specs.Plain.{AreParts, IsConstant, IsList, IsNumber, IsPart, LineSays, LinesSay, PlainRuns, Says, error_of}
-use Rattle.pr_run.specs.Plain.{error_unless, failing, files_after, in_line, in_order, performed_by, step_count}
+use Rattle.pr_run.specs.Plain.{AreParts, IsConstant, IsList, IsNumber, IsPart, LineSays, LinesSay, PlainRuns, Says}
+use Rattle.pr_run.specs.Plain.{error_of, error_unless, failing, files_after, in_line, in_order, performed_by, step_count}
 use Rattle.pr_run.specs.Runs.{after_turn, outcome, run, run_from}
 use Rattle.pr_run.specs.States.{State, first_state, next_line}
 use Rattle.pr_run.specs.Steps.{Ends, Goes, Turn, output, step, turn}
@@ -94,10 +96,13 @@ items_are p (i ∷ is) before s bytes c h =
     let all : length (before ++ (c.0 ++ c.1)) ≤ byte_limit = rw c.4 at h in
     let more : length ((before ++ c.0) ++ c.1) ≤ byte_limit = rw (append_assoc before c.0 c.1) all in
     let fits : length (before ++ c.0) ≤ byte_limit = omega (arith, more, length-append (before ++ c.0) c.1) in
-    let r = items_are p is (before ++ c.0) (shown c.0 s) c.1 c.3 more in (
+    let first = item_is p before s i c.0 c.2 fits in
+    let r = items_are p is (before ++ c.0) (shown c.0 s) c.1 c.3 more in
+    let joined : (before ++ c.0) ++ c.1 ≡ before ++ bytes =
+    append_assoc before c.0 c.1 ∙ ap (λ (bs : List ℕ). before ++ bs) (sym c.4) in (
       r.0,
-      ap (λ (w : Worked (Valued (List ℕ))). then_on w (λ bs t. with_parts p bs t is)) (item_is p before s i c.0 c.2 fits)
-          ∙ r.1 ∙ ap (λ (bs : List ℕ). gives_bytes bs (with_left r.0 s)) (append_assoc before c.0 c.1 ∙ ap (λ (bs : List ℕ). before ++ bs) (sym c.4)),
+      ap (λ (w : Worked (Valued (List ℕ))). then_on w (λ bs t. with_parts p bs t is)) first
+          ∙ (r.1 ∙ ap (λ (bs : List ℕ). gives_bytes bs (with_left r.0 s)) joined),
     )
 
 abbrev prints : Line → State → Worked (Valued Line)
@@ -123,7 +128,7 @@ list_is p s is line c =
 pub record Keeps (s t : State) (files : List ℕ) : Type 0 where
   pub place : t.place ≡ s.place
   pub skipped : t.skipped_poke ≡ s.skipped_poke
-  pub files : t.files ≡ files
+  pub opened : t.files ≡ files
 
 -- the turn of an output statement of a line, which leaves a state if it has no error
 abbrev turn_for : ℕ → Option BasicError → Output → State → Turn
@@ -131,22 +136,27 @@ turn_for line None o t = Goes t (record { line = line; statement = o } ∷ [])
 turn_for line (Some e) o t = Ends (record { line = line; statement = failing o } ∷ []) (Error e line)
 
 abbrev Turns : ℕ → State → Output → Turn → Type 0
-Turns line s o found = (t : State) × Keeps s t (files_after s.files o) × (found ≡ turn_for line (error_of s.files o) o t)
+Turns line s o found = (t : State) × Keeps s t (files_after s.files o)
+    × (found ≡ turn_for line (error_of s.files o) o t)
 
 print_turns : (p : Program) (s : State) (is : List Item) (line : Line) → IsList p.text is line
     → Turns (line_at p s) s (Printed line) (turn p s (Print is))
 unfolding turn print_statement
 print_turns p s is line c =
     let r = list_is p s is line c in
-    (with_left r.0 s, record { place = refl; skipped = refl; files = refl }, rw r.1 refl)
+    (with_left r.0 s, record { place = refl; skipped = refl; opened = refl }, rw r.1 refl)
 
 print_to_turns : (p : Program) (s : State) (is : List Item) (file : ℕ) (line : Line) (number : ℕ) (opened : Bool)
     → is_open file s.files ≡ opened → IsList p.text is line
     → Turns number s (PrintTo file line) (output number (print_to p is file s))
 print_to_turns p s is file line number true e c =
-    let r = list_is p (directed file s) is line c in
-    (undirected (with_left r.0 (directed file s)), record { place = refl; skipped = refl; files = refl }, rw (e, r.1) refl)
-print_to_turns p s is file line number false e c = (s, record { place = refl; skipped = refl; files = refl }, rw e refl)
+    let r = list_is p (directed file s) is line c in (
+      undirected (with_left r.0 (directed file s)),
+      record { place = refl; skipped = refl; opened = refl },
+      rw (e, r.1) refl,
+    )
+print_to_turns p s is file line number false e c =
+    (s, record { place = refl; skipped = refl; opened = refl }, rw e refl)
 
 print_file_turns : (p : Program) (s : State) (f : List Placed) (is : List Item) (file : ℕ) (line : Line)
     → IsNumber p.text f file → IsList p.text is line
@@ -160,8 +170,9 @@ command_to_turns : (p : Program) (s : State) (is : List Item) (file : ℕ) (line
     → Turns number s (Cmd file line) (output number (command_to p is file s))
 command_to_turns p s is file line number true e c =
     let r = list_is p (directed file s) is line c in
-    (with_left r.0 (directed file s), record { place = refl; skipped = refl; files = refl }, rw (e, r.1) refl)
-command_to_turns p s is file line number false e c = (s, record { place = refl; skipped = refl; files = refl }, rw e refl)
+    (with_left r.0 (directed file s), record { place = refl; skipped = refl; opened = refl }, rw (e, r.1) refl)
+command_to_turns p s is file line number false e c =
+    (s, record { place = refl; skipped = refl; opened = refl }, rw e refl)
 
 command_turns : (p : Program) (s : State) (f : List Placed) (is : List Item) (file : ℕ) (line : Line)
     → IsNumber p.text f file → IsList p.text is line → Turns (line_at p s) s (Cmd file line) (turn p s (Command f is))
@@ -174,7 +185,7 @@ close_turns : (p : Program) (s : State) (f : List Placed) (file : ℕ) → IsNum
 unfolding turn close_statement numbers
 close_turns p s f file n =
     let t : State = record s { files = filter (λ x. not (x == file)) s.files; has_sent = true } in
-    (t, record { place = refl; skipped = refl; files = refl }, rw (number_worked p s f file n) refl)
+    (t, record { place = refl; skipped = refl; opened = refl }, rw (number_worked p s f file n) refl)
 
 abbrev opens : ℕ → State → State
 opens file s = record s { files = s.files ++ file ∷ [] }
@@ -193,7 +204,7 @@ open_turns p s f d file device nf nd low high =
     let above : nat_lt device 4 ≡ false = le-ltb device 4 low in
     let below : nat_lt 30 device ≡ false = le-ltb 30 device high in (
       opens file s,
-      record { place = refl; skipped = refl; files = refl },
+      record { place = refl; skipped = refl; opened = refl },
       rw (number_worked p s f file nf, number_worked p s d device nd, above, below)
           (opened_turn (line_at p s) file device None (open_error file s.files) s),
     )
@@ -208,8 +219,15 @@ open_with_second_turns p s f d a file device second nf nd na low high most =
     let below : nat_lt 30 device ≡ false = le-ltb 30 device high in
     let small : nat_lt 15 second ≡ false = le-ltb 15 second most in (
       opens file s,
-      record { place = refl; skipped = refl; files = refl },
-      rw (number_worked p s f file nf, number_worked p s d device nd, number_worked p s a second na, above, below, small)
+      record { place = refl; skipped = refl; opened = refl },
+      rw (
+        number_worked p s f file nf,
+        number_worked p s d device nd,
+        number_worked p s a second na,
+        above,
+        below,
+        small,
+      )
           (opened_turn (line_at p s) file device (Some second) (open_error file s.files) s),
     )
 
@@ -268,7 +286,8 @@ said_runs : (p : Program) (s t u : State) (limit number : ℕ) (st : Statement) 
     → s.skipped_poke ≡ None → line_at p t ≡ number
     → turn p t st ≡ turn_for (line_at p t) (error_of s.files o) o u
     → run_from p limit u ≡ in_order (files_after s.files o) rest
-    → after_turn s (turn p t st) (λ v. run_from p limit v) ≡ in_order s.files (record { line = number; statement = o } ∷ rest)
+    → after_turn s (turn p t st) (λ v. run_from p limit v)
+    ≡ in_order s.files (record { line = number; statement = o } ∷ rest)
 said_runs p s t u limit number st o rest none here turns runs =
     rw (turns, here) (put_on p limit s u number (error_of s.files o) o rest (files_after s.files o) none runs)
 
@@ -296,13 +315,15 @@ line_runs p [] l ls os more s (suc m) e f none says rest h =
 line_runs p (x ∷ xs) l ls os more s (suc m) e f none (inl quiet) rest h =
     let here = drop_head s.place.statement l.statements xs x f in
     let t : State = record s { place = after_statement s.place } in
-    let next : drop t.place.statement l.statements ≡ xs = rw add-one (drop_tail s.place.statement l.statements xs x f) in
+    let next : drop t.place.statement l.statements ≡ xs =
+    rw add-one (drop_tail s.place.statement l.statements xs x f) in
     let few : length xs + 1 + step_count ls ≤ m = omega (arith, h) in
     rw (e, here, turn_nothing p t x.statement quiet.0) (line_runs p xs l ls os more t m e next none quiet.1 rest few)
 line_runs p (x ∷ xs) l ls os more s (suc m) e f none (inr says) rest h =
     let here = drop_head s.place.statement l.statements xs x f in
     let t : State = record s { place = after_statement s.place } in
-    let next : drop t.place.statement l.statements ≡ xs = rw add-one (drop_tail s.place.statement l.statements xs x f) in
+    let next : drop t.place.statement l.statements ≡ xs =
+    rw add-one (drop_tail s.place.statement l.statements xs x f) in
     let few : length xs + 1 + step_count ls ≤ m = omega (arith, h) in
     let r = says_turns p t x.statement says.0 says.2 in
     let u = r.0 in
@@ -311,9 +332,10 @@ line_runs p (x ∷ xs) l ls os more s (suc m) e f none (inr says) rest h =
     let left : drop u.place.statement l.statements ≡ xs = rw k.place next in
     let after : Finishes p (u.place.line + 1) ls more = rw k.place rest in
     let runs = line_runs p xs l ls says.1 more u m at left (k.skipped ∙ none) says.3 after few in
-    let all = runs ∙ ap (λ (fs : List ℕ). in_order fs (in_line l.number says.1 ++ more)) k.files in
+    let all = runs ∙ ap (λ (fs : List ℕ). in_order fs (in_line l.number says.1 ++ more)) k.opened in
     rw (e, here, says.4)
-    (said_runs p s t u m l.number x.statement says.0 (in_line l.number says.1 ++ more) none (number_here p t.place l e) r.2 all)
+    (said_runs p s t u m l.number x.statement says.0 (in_line l.number says.1 ++ more) none (number_here p t.place l e)
+    r.2 all)
 
 lines_run : (p : Program) (ls : List ProgramLine) (said : List Performed) (at : ℕ) → drop at p.lines ≡ ls
     → LinesSay p.text ls said → Finishes p at ls said

@@ -1,7 +1,5 @@
-use Rattle.std.proofs.Common.{◌≡◌, ℕ, zero, suc, ◌+◌, Bool, true, false, IsTrue, List, [], ◌∷◌, ◌++◌, All, refl, sym, ap}
-use Rattle.std.proofs.Common.{◌∙◌, append_assoc, append-nil, suc-add, Option, Some, None, Ok, Err, slice_get, if◌then◌else◌}
-use Rattle.std.proofs.lemmas.List.Elements.{All-append, All-cons, All-nil}
-use Rattle.pr_basic.specs.declared.statement.Statement.{Statement as Output}
+use Rattle.std.proofs.Common.{◌≡◌, ℕ, zero, suc, ◌+◌, Bool, true, false, IsTrue, List, [], ◌∷◌, ◌++◌, refl, sym, ap}
+use Rattle.std.proofs.Common.{◌∙◌, append_assoc, append-nil, suc-add, Option, Some, None, slice_get}
 use Rattle.pr_interpreter.specs.declared.program.ProgramLine.{ProgramLine}
 use Rattle.pr_run.specs.declared.ending.Ending.TheVariants.{LastLine}
 use Rattle.pr_run.specs.declared.outcome.Outcome.{Outcome}

@@ -19,7 +19,8 @@ turn_joins : (p : Program) (n : ℕ) (before done : List Performed) (ending : Op
     ≡ rest_of p n old (before ++ done) ending new
 turn_joins p n before done None old new =
     let rest = run_from p n (state_of new) in
-    sym (ap (λ (ps : List Performed). outcome ps rest.ending rest.skipped_poke) (append_assoc before done rest.performed))
+    sym (ap (λ (ps : List Performed). outcome ps rest.ending rest.skipped_poke)
+    (append_assoc before done rest.performed))
 turn_joins p n before done (Some e) old new = refl
 
 -- a step leads on

@@ -1,8 +1,7 @@
--- Trusted: plain programs: OPEN, CMD, PRINT, PRINT#, CLOSE and REM alone, with constants. They are what scripts can say:
--- here is which output statements they are, and what is performed of them.
+-- Trusted: plain programs, of OPEN, CMD, PRINT, PRINT#, CLOSE and REM alone, with constants, as scripts are: which
+-- output statements they say, and what is performed of them.
 use Rattle.std.specs.Prelude.{ℕ, ◌≡◌, ◌⊎◌, ◌+◌, ◌-◌, ◌==◌, ◌≤◌, Bool, true, false, List, [], ◌∷◌, ◌++◌}
-use Rattle.std.specs.Prelude.{length, map, not, slice_range, Option}
-use Rattle.std.specs.Prelude.{Some, None, Ok}
+use Rattle.std.specs.Prelude.{length, map, not, slice_range, Option, Some, None, Ok}
 use Rattle.std.specs.List.{filter}
 use Rattle.pr_basic.specs.Limits.{byte_limit}
 use Rattle.pr_basic.specs.Text.{Text as Line}
@@ -20,7 +19,8 @@ use Rattle.pr_interpreter.specs.declared.statements.Part.{Part}
 use Rattle.pr_interpreter.specs.declared.statements.Part.TheVariants.{Comma, Semicolon, Spaces, Tab, Value as Shows}
 use Rattle.pr_interpreter.specs.declared.statements.PlacedStatement.{PlacedStatement}
 use Rattle.pr_interpreter.specs.declared.statements.Statement.{Statement}
-use Rattle.pr_interpreter.specs.declared.statements.Statement.TheVariants.{Close, Command, Nothing, Open, Print, PrintFile}
+use Rattle.pr_interpreter.specs.declared.statements.Statement.TheVariants.{Close, Command, Nothing, Open, Print}
+use Rattle.pr_interpreter.specs.declared.statements.Statement.TheVariants.{PrintFile}
 use Rattle.pr_interpreter.specs.declared.values.BasicError.{BasicError}
 use Rattle.pr_interpreter.specs.declared.values.BasicError.TheVariants.{FileNotOpen}
 use Rattle.pr_interpreter.specs.declared.values.Value.{Value}

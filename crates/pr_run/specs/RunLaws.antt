@@ -28,7 +28,8 @@ is_limit OutOfMemory = false
 
 -- a run that does not use up its limit is the same within each greater limit
 abbrev pub LimitsAgree : Type 0
-LimitsAgree = (p : Program) (limit more : ℕ) → is_limit (run limit p).ending ≡ false → run (limit + more) p ≡ run limit p
+LimitsAgree = (p : Program) (limit more : ℕ) → is_limit (run limit p).ending ≡ false
+    → run (limit + more) p ≡ run limit p
 
 -- within a greater limit a run performs the same, and then perhaps more
 abbrev pub LimitsGoOn : Type 0
