@@ -1,5 +1,5 @@
 -- Trusted: the items of the DATA statements of a program, in the order of its lines.
-use Rattle.std.specs.Prelude.{ℕ, zero, suc, ◌+◌, ◌==◌, ◌||◌, Bool, true, List, [], ◌∷◌, ◌++◌, length, drop, nat_lt}
+use Rattle.std.specs.Prelude.{ℕ, zero, suc, ◌+◌, ◌==◌, ◌||◌, Bool, true, false, List, [], ◌∷◌, ◌++◌, length, drop, nat_lt}
 use Rattle.std.specs.Prelude.{slice_range, if◌then◌else◌}
 use Rattle.std.specs.List.{position_or_len}
 use Rattle.pr_interpreter.specs.declared.lexemes.Lexeme.{Lexeme}
@@ -62,11 +62,34 @@ word_items text line (Named name) = []
 word_items text line (Text start end) = []
 word_items text line Remark = []
 
+-- where the last of items ends; for none it is the first argument
+abbrev pub last_end : ℕ → List DataItem → ℕ
+last_end place [] = place
+last_end place (i ∷ is) = last_end i.end is
+
+-- the items of a DATA statement end before it does
+unfoldable pub is_cut : ℕ → ℕ → List ℕ → Bool
+is_cut line place bytes = nat_lt (last_end place (items line place bytes)) (place + length bytes)
+
+-- So do those of a word: at a colon in quotes that begin in mid-item. The machine looks for DATA from that colon on,
+-- where quotes count the other way, and finds none in the rest of the line.
+abbrev pub word_cut : List ℕ → ℕ → Word → Bool
+word_cut text line (Items start end) = is_cut line start (slice_range text start end)
+word_cut text line (Code c) = false
+word_cut text line (Comparison o) = false
+word_cut text line (Constant c) = false
+word_cut text line (Named name) = false
+word_cut text line (Text start end) = false
+word_cut text line Remark = false
+
 -- the items of lexemes: those of a DATA that begins a statement
 abbrev pub lexeme_items : List ℕ → ℕ → Bool → List Lexeme → List DataItem
 lexeme_items text line begins [] = []
 lexeme_items text line begins (l ∷ ls) =
-    (if begins then word_items text line l.word else []) ++ lexeme_items text line (word_code l.word == 58) ls
+    if begins
+    then word_items text line l.word
+    ++ (if word_cut text line l.word then [] else lexeme_items text line (word_code l.word == 58) ls)
+    else lexeme_items text line (word_code l.word == 58) ls
 
 -- the items of a line
 unfoldable pub line_items : List ℕ → Line → List DataItem

@@ -3,7 +3,7 @@
 ghost use Rattle.std.specs.Prelude.{◌≡◌, ◌++◌, ◌+◌, ◌<◌, ◌≤◌, ◌==◌, ◌^◌, IfOk, OnOk, length, slice_range, true};
 ghost use Rattle.pr_interpreter.specs.Lines.{blanks};
 ghost use Rattle.pr_interpreter.specs.Reading.{word_code};
-ghost use Rattle.pr_run.specs.Data.{data_of, front_item, front_size, item_size, items, lexeme_items, line_items, plain_size, string_size, word_items};
+ghost use Rattle.pr_run.specs.Data.{data_of, front_item, front_size, is_cut, item_size, items, lexeme_items, line_items, plain_size, string_size, word_cut, word_items};
 
 use pr_interpreter::{Lexeme, Line, Word, Writing, lexemes_of};
 use std::alloc::{AllocError, Global};
@@ -110,16 +110,17 @@ fn front_item(line: u16, place: usize, bytes: &[u8]) -> DataItem
     }
 }
 
-/// Adds the items of a DATA statement, whose first byte is at a place.
+/// Adds the items of a DATA statement, whose first byte is at a place. Returns whether they end before it does.
 #[tactic(auto, unfolding(crate::specs::Data::items))]
 fn put_items(
     found: &mut Vec<DataItem>,
     line: u16,
     place: usize,
     bytes: &[u8],
-) -> Result<(), AllocError>
+) -> Result<bool, AllocError>
     requires { place + length bytes.now < 2 ^ 64 }
-    ensures { OnOk result (found.new.items ≡ found.old.items ++ items line place bytes.now) }
+    ensures items { OnOk result (found.new.items ≡ found.old.items ++ items line place bytes.now) }
+    ensures cut { IfOk result (λ cut. cut ≡ is_cut line place bytes.now) }
 {
     found.push(front_item(line, place, bytes))?;
     let mut taken = front_size(bytes);
@@ -128,12 +129,18 @@ fn put_items(
         found.push(front_item(line, place + taken, &bytes[taken..]))?;
         taken += front_size(&bytes[taken..]);
     }
-    Ok(())
+    Ok(taken < bytes.len())
 }
 
-/// Adds the items of a word of a line.
-fn put_word(found: &mut Vec<DataItem>, text: &[u8], line: u16, word: Word) -> Result<(), AllocError>
-    ensures { OnOk result (found.new.items ≡ found.old.items ++ word_items text.now line word) }
+/// Adds the items of a word of a line. Returns whether they end before the word does.
+fn put_word(
+    found: &mut Vec<DataItem>,
+    text: &[u8],
+    line: u16,
+    word: Word,
+) -> Result<bool, AllocError>
+    ensures items { OnOk result (found.new.items ≡ found.old.items ++ word_items text.now line word) }
+    ensures cut { IfOk result (λ cut. cut ≡ word_cut text.now line word) }
 {
     match word {
         Word::Items { start, end } => put_items(found, line, start, slice_of(text, start, end)),
@@ -142,7 +149,7 @@ fn put_word(found: &mut Vec<DataItem>, text: &[u8], line: u16, word: Word) -> Re
         | Word::Constant(_)
         | Word::Named(_)
         | Word::Text { .. }
-        | Word::Remark => Ok(()),
+        | Word::Remark => Ok(false),
     }
 }
 
@@ -172,8 +179,8 @@ fn put_lexemes(
 {
     let mut begins = true;
     'each: for lexeme in lexemes {
-        if begins {
-            put_word(found, text, line, lexeme.word)?;
+        if begins && put_word(found, text, line, lexeme.word)? {
+            return Ok(());
         }
         begins = is_colon(lexeme.word);
     }
