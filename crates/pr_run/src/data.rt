@@ -3,7 +3,7 @@
 ghost use Rattle.std.specs.Prelude.{◌≡◌, ◌++◌, ◌+◌, ◌<◌, ◌≤◌, ◌==◌, ◌^◌, IfOk, OnOk, length, slice_range, true};
 ghost use Rattle.pr_interpreter.specs.Lines.{blanks};
 ghost use Rattle.pr_interpreter.specs.Reading.{word_code};
-ghost use Rattle.pr_run.specs.Data.{data_of, front_item, front_size, is_cut, item_size, items, lexeme_items, line_items, plain_size, string_size, word_cut, word_items};
+ghost use Rattle.pr_run.specs.Data.{data_of, front_item, front_size, item_size, items, last_end, lexeme_items, line_items, plain_size, string_size, word_cut, word_items};
 
 use pr_interpreter::{Lexeme, Line, Word, Writing, lexemes_of};
 use std::alloc::{AllocError, Global};
@@ -110,17 +110,16 @@ fn front_item(line: u16, place: usize, bytes: &[u8]) -> DataItem
     }
 }
 
-/// Adds the items of a DATA statement, whose first byte is at a place. Returns whether they end before it does.
+/// Adds the items of a DATA statement, whose first byte is at a place.
 #[tactic(auto, unfolding(crate::specs::Data::items))]
 fn put_items(
     found: &mut Vec<DataItem>,
     line: u16,
     place: usize,
     bytes: &[u8],
-) -> Result<bool, AllocError>
+) -> Result<(), AllocError>
     requires { place + length bytes.now < 2 ^ 64 }
-    ensures items { OnOk result (found.new.items ≡ found.old.items ++ items line place bytes.now) }
-    ensures cut { IfOk result (λ cut. cut ≡ is_cut line place bytes.now) }
+    ensures { OnOk result (found.new.items ≡ found.old.items ++ items line place bytes.now) }
 {
     found.push(front_item(line, place, bytes))?;
     let mut taken = front_size(bytes);
@@ -129,10 +128,21 @@ fn put_items(
         found.push(front_item(line, place + taken, &bytes[taken..]))?;
         taken += front_size(&bytes[taken..]);
     }
-    Ok(taken < bytes.len())
+    Ok(())
+}
+
+/// Returns where the last of items ends.
+fn last_end(items: &[DataItem]) -> usize
+    ensures { result ≡ last_end items.now }
+{
+    match items.last() {
+        Some(item) => item.end,
+        None => 0,
+    }
 }
 
 /// Adds the items of a word of a line. Returns whether they end before the word does.
+#[tactic(auto, using(crate::proofs::DataLemmas::last_joined))]
 fn put_word(
     found: &mut Vec<DataItem>,
     text: &[u8],
@@ -143,7 +153,11 @@ fn put_word(
     ensures cut { IfOk result (λ cut. cut ≡ word_cut text.now line word) }
 {
     match word {
-        Word::Items { start, end } => put_items(found, line, start, slice_of(text, start, end)),
+        Word::Items { start, end } => {
+            let bytes = slice_of(text, start, end);
+            put_items(found, line, start, bytes)?;
+            Ok(last_end(found.as_slice()) < start + bytes.len())
+        }
         Word::Code(_)
         | Word::Comparison(_)
         | Word::Constant(_)
