@@ -6,6 +6,7 @@ pub mod DecimalOfLemmas
 pub mod EvaluationLemmas
 pub mod ExactLemmas
 pub mod ExpressionLawLemmas
+pub mod FurtherLemmas
 pub mod KeywordLemmas
 pub mod LexemeLemmas
 pub mod LineLawLemmas

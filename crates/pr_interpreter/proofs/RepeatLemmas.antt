@@ -3,11 +3,10 @@ use Rattle.std.proofs.Common.{◌++◌, length, drop, arith, sym, refl, ap, ◌�
 use Rattle.std.proofs.lemmas.Bool.{false≢true}
 use Rattle.std.proofs.lemmas.List.{drop-drop, drop_all}
 use Rattle.pr_interpreter.specs.Faults.{FaultsAs}
-use Rattle.pr_interpreter.specs.Reading.{Read, begins_comma, is_some, repeated}
+use Rattle.pr_interpreter.specs.Reading.{Read, begins_comma, repeated}
 use Rattle.pr_interpreter.specs.Statements.{has_item}
 use Rattle.pr_interpreter.specs.declared.fault.ProgramFault.{ProgramFault}
 use Rattle.pr_interpreter.specs.declared.lexemes.Lexeme.{Lexeme}
-use Rattle.pr_interpreter.specs.declared.statements.PlacedStatement.{PlacedStatement}
 
 -- lexemes that are left of an item are passed
 pub repeated_skip : {A : Type 0} (more : List Lexeme → Bool) (item : List Lexeme → Read A) (found : List A)
@@ -85,13 +84,3 @@ comma_some (l ∷ ls) e = omega arith
 pub item_some : (ls : List Lexeme) → has_item ls ≡ true → 0 < length ls
 item_some [] e = absurd (false≢true e)
 item_some (l ∷ ls) e = omega arith
-
-pub some_is : (ls : List Lexeme) → 0 < length ls → is_some ls ≡ true
-some_is [] h = absurd (omega arith)
-some_is (l ∷ ls) h = refl
-
-pub none_is : (k : ℕ) (ls : List Lexeme) → length ls ≤ k → is_some (drop k ls) ≡ false
-none_is k ls h = rw (drop_all k ls h) refl
-
-abbrev pub statements_read : List PlacedStatement → ℕ → Read (List PlacedStatement)
-statements_read found n = Ok (found, n)

@@ -7,12 +7,11 @@ use Rattle.pr_interpreter.specs.declared.statements.PlacedStatement.{PlacedState
 use Rattle.pr_interpreter.specs.declared.symbols.Writing.TheVariants.{Typed}
 use Rattle.pr_interpreter.specs.Lexemes.{line_lexemes}
 use Rattle.pr_interpreter.specs.Lines.{program_lines}
-use Rattle.pr_interpreter.specs.Reading.{Read}
 use Rattle.pr_interpreter.specs.Statements.{statements}
 
 -- a line of a number with what is read of it
-abbrev pub numbered : ℕ → Read (List PlacedStatement) → Result ProgramLine ProgramFault
-numbered number (Ok r) = Ok (record { number = number; statements = r.0 })
+abbrev pub numbered : ℕ → Result (List PlacedStatement) ProgramFault → Result ProgramLine ProgramFault
+numbered number (Ok found) = Ok (record { number = number; statements = found })
 numbered number (Err fault) = Err fault
 
 -- a line of a text as typed, with its statements

@@ -2,7 +2,7 @@
 use Rattle.std.specs.Prelude.{ℕ, zero, suc, ◌+◌, ◌-◌, ◌==◌, ◌&&◌, Bool, true, false, not, List, [], ◌∷◌, ◌++◌, drop}
 use Rattle.std.specs.Prelude.{if◌then◌else◌, Result, Ok, Err}
 use Rattle.pr_interpreter.specs.declared.fault.ProgramFault.{ProgramFault}
-use Rattle.pr_interpreter.specs.declared.fault.ProgramFault.TheVariants.{NoStatement}
+use Rattle.pr_interpreter.specs.declared.fault.ProgramFault.TheVariants.{NoStatement, NotTaken}
 use Rattle.pr_interpreter.specs.declared.lexemes.Lexeme.{Lexeme}
 use Rattle.pr_interpreter.specs.declared.lexemes.Word.{Word}
 use Rattle.pr_interpreter.specs.declared.lexemes.Word.TheVariants.{Code, Comparison, Constant, Items, Named, Remark}
@@ -23,7 +23,7 @@ unfoldable pub and_then : {A B : Type 0} → Read A → List Lexeme → (A → L
 and_then (Ok r) ls more = longer r.1 (more r.0 (drop r.1 ls))
 and_then (Err fault) ls more = Err fault
 
-abbrev pub or_fault : {A B : Type 0} → Read A → (A → ℕ → Read B) → Read B
+abbrev pub or_fault : {A B : Type 0} → Read A → (A → ℕ → Result B ProgramFault) → Result B ProgramFault
 or_fault (Ok r) go = go r.0 r.1
 or_fault (Err fault) go = Err fault
 
@@ -61,13 +61,21 @@ abbrev pub front_place : ℕ → List Lexeme → ℕ
 front_place end [] = end
 front_place end (l ∷ ls) = l.place
 
--- no statement has what is at the front
+-- no statement has what is at the front, and the machine looks at nothing that may fail before it
 abbrev pub no_statement : {A : Type 0} → ℕ → List Lexeme → Result A ProgramFault
 no_statement end ls = Err (NoStatement (front_place end ls))
+
+-- the same after something that the machine works out, which may end the run with another error
+abbrev pub not_taken : {A : Type 0} → ℕ → List Lexeme → Result A ProgramFault
+not_taken end ls = Err (NotTaken (front_place end ls))
 
 -- after a code, something else
 abbrev pub after : {A : Type 0} → ℕ → (ℕ → List Lexeme → Read A) → ℕ → List Lexeme → Read A
 after code read end ls = if front_code ls == code then longer 1 (read end (drop 1 ls)) else no_statement end ls
+
+-- the same after something that the machine works out
+abbrev pub after_value : {A : Type 0} → ℕ → (ℕ → List Lexeme → Read A) → ℕ → List Lexeme → Read A
+after_value code read end ls = if front_code ls == code then longer 1 (read end (drop 1 ls)) else not_taken end ls
 
 -- a comma is at the front
 abbrev pub begins_comma : List Lexeme → Bool
@@ -90,8 +98,3 @@ made (Err fault) make = Err fault
 abbrev pub at_end : List Lexeme → Bool
 at_end [] = true
 at_end (l ∷ ls) = word_code l.word == 58
-
--- there is a lexeme
-abbrev pub is_some : List Lexeme → Bool
-is_some [] = false
-is_some (l ∷ ls) = true

@@ -7,7 +7,7 @@ ghost use Rattle.pr_interpreter.specs.Statements.{bracketed, file_items, has_ite
 
 use crate::fault::ProgramFault;
 use crate::lexemes::Lexeme;
-use crate::reading::{at_end, front_code, front_place, no_statement, put, value};
+use crate::reading::{at_end, front_code, front_place, not_taken, put, value};
 use crate::statements::{Item, Nodes, Part};
 use pr_page::Sequence;
 use std::alloc::Global;
@@ -28,7 +28,7 @@ fn bracketed(alloc: Global, lexemes: &[Lexeme], end: usize) -> Result<(Nodes, us
     let (value, size) = value(alloc, lexemes, end)?;
     let rest = &lexemes[size..];
     if front_code(rest) != b')' {
-        return Err(no_statement(rest, end));
+        return Err(not_taken(rest, end));
     }
     Ok((value, size + 1))
 }
@@ -130,8 +130,11 @@ pub fn file_items(
     ensures err { IfErr result (λ fault. FaultsAs fault (file_items end lexemes.now)) }
     ensures within { IfOk result (λ r. r.1 ≤ length lexemes.now) }
 {
-    if front_code(lexemes) != b',' {
+    if at_end(lexemes) {
         return Ok((Sequence::new(alloc), 0));
+    }
+    if front_code(lexemes) != b',' {
+        return Err(not_taken(lexemes, end));
     }
     let (items, size) = items(alloc, &lexemes[1..], end)?;
     Ok((items, 1 + size))

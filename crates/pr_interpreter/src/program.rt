@@ -63,8 +63,8 @@ fn take_line(
 ///
 /// # Errors
 ///
-/// The first row that does not begin with a line number; else the first place in the sorted lines that no statement
-/// can have, or a keyword that a run does not take; or that memory ran out.
+/// The first row that does not begin with a line number; else the first place in the sorted lines that no expression
+/// can have; or that memory ran out.
 #[tactic(auto, unfolding(crate::specs::Programs::program))]
 pub fn read_program(alloc: Global, text: &[u8]) -> Result<Sequence<ProgramLine>, ProgramFault>
     ensures ok { IfOk result (λ lines. program text.now ≡ Ok lines) }

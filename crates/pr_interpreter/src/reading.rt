@@ -1,10 +1,10 @@
 //! Reads what statements have in common: codes, line numbers, variables and values.
 
-ghost use Rattle.std.specs.Prelude.{◌≡◌, ◌+◌, ◌++◌, ◌∷◌, ◌<◌, ◌≤◌, [], false, length, Ok, IfErr, IfOk, OnOk};
+ghost use Rattle.std.specs.Prelude.{◌≡◌, ◌+◌, ◌++◌, ◌∷◌, ◌<◌, ◌≤◌, [], true, false, length, Ok, IfErr, IfOk, OnOk};
 ghost use Rattle.pr_interpreter.specs.Expressions.{expression};
 ghost use Rattle.pr_interpreter.specs.Faults.{FaultsAs, LeadsOn};
-ghost use Rattle.pr_interpreter.specs.Reading.{after, at_end, begins_comma, front_code, front_place, is_equal, list_of, others_of, word_code};
-ghost use Rattle.pr_interpreter.specs.Statements.{constant_line, front_line, front_name, is_unscaled, line, variable, word_line, word_name};
+ghost use Rattle.pr_interpreter.specs.Reading.{after, after_value, at_end, begins_comma, front_code, front_place, is_equal, list_of, others_of, word_code};
+ghost use Rattle.pr_interpreter.specs.Statements.{begins_digits, constant_line, front_line, front_name, has_digits, is_unscaled, line, parameter, variable, word_line, word_name};
 
 use crate::constants::{Constant, Tens};
 use crate::fault::ProgramFault;
@@ -83,6 +83,13 @@ pub fn no_statement(lexemes: &[Lexeme], end: usize) -> ProgramFault
     ProgramFault::NoStatement(front_place(lexemes, end))
 }
 
+/// Returns the fault that what is at the front is not taken after what the machine works out.
+pub fn not_taken(lexemes: &[Lexeme], end: usize) -> ProgramFault
+    ensures { result ≡ ProgramFault.NotTaken (front_place end lexemes.now) }
+{
+    ProgramFault::NotTaken(front_place(lexemes, end))
+}
+
 /// Returns whether a line or a statement ends.
 pub fn at_end(lexemes: &[Lexeme]) -> bool
     ensures value { result ≡ at_end lexemes.now }
@@ -155,8 +162,34 @@ fn word_name(word: Word) -> Option<Name>
     }
 }
 
+/// Returns whether a word begins with digits, or may do so.
+fn has_digits(word: Word) -> bool
+    ensures { result ≡ has_digits word }
+{
+    match word {
+        Word::Constant(_) => true,
+        Word::Code(code) => code == 0,
+        Word::Comparison(_)
+        | Word::Named(_)
+        | Word::Text { .. }
+        | Word::Items { .. }
+        | Word::Remark => false,
+    }
+}
+
+/// Returns whether digits are at the front, or may be.
+fn begins_digits(lexemes: &[Lexeme]) -> bool
+    ensures value { result ≡ begins_digits lexemes.now }
+    ensures some { result ≡ true → 0 < length lexemes.now }
+{
+    match lexemes {
+        [first, ..] => has_digits(first.word),
+        [] => false,
+    }
+}
+
 /// Returns the name at the front.
-fn front_name(lexemes: &[Lexeme]) -> Option<Name>
+pub fn front_name(lexemes: &[Lexeme]) -> Option<Name>
     ensures value { result ≡ front_name lexemes.now }
 {
     match lexemes {
@@ -165,16 +198,18 @@ fn front_name(lexemes: &[Lexeme]) -> Option<Name>
     }
 }
 
-/// Reads a line number.
+/// Reads a line number; it is 0 where there are no digits.
 #[tactic(auto, unfolding(crate::specs::Statements::line))]
 pub fn line(lexemes: &[Lexeme], end: usize) -> Result<(u16, usize), ProgramFault>
     ensures value { result ≡ line end lexemes.now }
-    ensures some { IfOk result (λ r. 0 < r.1) }
     ensures within { IfOk result (λ r. r.1 ≤ length lexemes.now) }
 {
+    if !begins_digits(lexemes) {
+        return Ok((0, 0));
+    }
     match front_line(lexemes) {
         Some(number) => Ok((number, 1)),
-        None => Err(no_statement(lexemes, end)),
+        None => Err(not_taken(lexemes, end)),
     }
 }
 
@@ -191,6 +226,18 @@ pub fn variable(lexemes: &[Lexeme], end: usize) -> Result<(Name, usize), Program
     }
 }
 
+/// Reads the name of a function's variable.
+#[tactic(auto, unfolding(crate::specs::Statements::parameter))]
+pub fn parameter(lexemes: &[Lexeme], end: usize) -> Result<(Name, usize), ProgramFault>
+    ensures value { result ≡ parameter end lexemes.now }
+    ensures within { IfOk result (λ r. r.1 ≤ length lexemes.now) }
+{
+    match front_name(lexemes) {
+        Some(name) => Ok((name, 1)),
+        None => Err(not_taken(lexemes, end)),
+    }
+}
+
 /// Reads a value.
 pub fn value(alloc: Global, lexemes: &[Lexeme], end: usize) -> Result<(Nodes, usize), ProgramFault>
     ensures ok { IfOk result (λ r. expression end lexemes.now ≡ Ok r) }
@@ -200,6 +247,25 @@ pub fn value(alloc: Global, lexemes: &[Lexeme], end: usize) -> Result<(Nodes, us
 {
     let read = read_expression(alloc, lexemes, end)?;
     Ok((Sequence::from_vec(read.nodes), read.size))
+}
+
+/// Reads a value after a code that follows what the machine works out.
+pub fn value_then(
+    alloc: Global,
+    code: u8,
+    lexemes: &[Lexeme],
+    end: usize,
+) -> Result<(Nodes, usize), ProgramFault>
+    requires { 0 < code }
+    ensures ok { IfOk result (λ r. after_value code expression end lexemes.now ≡ Ok r) }
+    ensures err { IfErr result (λ fault. FaultsAs fault (after_value code expression end lexemes.now)) }
+    ensures within { IfOk result (λ r. r.1 ≤ length lexemes.now) }
+{
+    if front_code(lexemes) != code {
+        return Err(not_taken(lexemes, end));
+    }
+    let (value, size) = value(alloc, &lexemes[1..], end)?;
+    Ok((value, 1 + size))
 }
 
 /// Reads a value after a code.

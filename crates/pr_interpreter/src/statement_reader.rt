@@ -1,19 +1,20 @@
 //! Reads the statements of a line from its lexemes.
 
-ghost use Rattle.std.specs.Prelude.{◌≡◌, ◌+◌, ◌<◌, ◌≤◌, length, Ok, IfErr, IfOk};
-ghost use Rattle.pr_interpreter.specs.Faults.{FaultsAs, LeadsOn};
-ghost use Rattle.pr_interpreter.specs.Reading.{after, front_code, is_some};
-ghost use Rattle.pr_interpreter.specs.Statements.{assignment, bare_statement, command, define_of, define_statement, define_value, ended, for_from, for_statement, for_to, four_values, if_statement, is_not_taken, keyword_statement, line_size, line_statement, next_of_line, next_statement, on_lines, on_statement, opens_more, output_statement, placed_statement, poke_statement, print_file, statement, statements, step, then_part, variable, way_of};
+ghost use Rattle.std.specs.Prelude.{◌≡◌, ◌⊎◌, ◌+◌, ◌<◌, ◌≤◌, length, None, Ok, IfErr, IfOk, OnOk};
+ghost use Rattle.std.specs.List.{prefix_len};
+ghost use Rattle.pr_interpreter.specs.Faults.{FaultsAs, ReadsAs, Stands};
+ghost use Rattle.pr_interpreter.specs.Reading.{after, after_value, front_code, front_place};
+ghost use Rattle.pr_interpreter.specs.Statements.{alone, assigned, assignment, bare_statement, command, define_of, define_statement, define_value, ended, finished, flaw_after, flaw_of, for_from, for_statement, for_to, four_values, if_statement, is_not_taken, is_passed, is_remark, keyword_statement, leaves, line_size, line_statement, may_pass, next_of_line, next_statement, on_lines, on_statement, opens_more, output_statement, parameter, passed_size, placed, poke_statement, poke_value, print_file, read_or_flaw, statement, statements, step, then_part, variable, way_of};
 
 use crate::fault::ProgramFault;
 use crate::lexemes::{Lexeme, Word};
 use crate::names::Name;
 use crate::printed::{file_items, items};
 use crate::reading::{
-    EQUAL, at_end, front_code, front_line, front_place, line, no_statement, put, value,
-    value_after, values, variable,
+    EQUAL, at_end, front_code, front_line, front_place, line, no_statement, not_taken, parameter,
+    put, value, value_after, value_then, values, variable,
 };
-use crate::statements::{Nodes, PlacedStatement, Statement, Way};
+use crate::statements::{Nodes, PlacedStatement, Statement, Target, Way};
 use crate::targets::{line_after, line_list, target, targets};
 use pr_page::Sequence;
 use std::alloc::Global;
@@ -36,6 +37,28 @@ const THEN: u8 = 167;
 /// The token of STEP.
 const STEP: u8 = 169;
 
+/// Reads what follows what takes a value.
+#[tactic(auto, unfolding(crate::specs::Statements::assigned))]
+fn assigned(
+    alloc: Global,
+    target: Target,
+    lexemes: &[Lexeme],
+    end: usize,
+) -> Result<(Statement, usize), ProgramFault>
+    ensures ok { IfOk result (λ r. assigned target end lexemes.now ≡ Ok r) }
+    ensures err { IfErr result (λ fault. FaultsAs fault (assigned target end lexemes.now)) }
+    ensures within { IfOk result (λ r. r.1 ≤ length lexemes.now) }
+{
+    if front_code(lexemes) == EQUAL {
+        let (value, size) = value(alloc, &lexemes[1..], end)?;
+        return Ok((Statement::Let { target, value }, 1 + size));
+    }
+    if target.indices.len() == 0 {
+        return Err(no_statement(lexemes, end));
+    }
+    Err(not_taken(lexemes, end))
+}
+
 /// Reads an assignment.
 #[tactic(auto, unfolding(crate::specs::Reading::and_then, crate::specs::Statements::assignment))]
 fn assignment(
@@ -49,8 +72,8 @@ fn assignment(
     ensures within { IfOk result (λ r. r.1 ≤ length lexemes.now) }
 {
     let (target, size) = target(alloc, lexemes, end)?;
-    let (value, more) = value_after(alloc, EQUAL, &lexemes[size..], end)?;
-    Ok((Statement::Let { target, value }, size + more))
+    let (statement, more) = assigned(alloc, target, &lexemes[size..], end)?;
+    Ok((statement, size + more))
 }
 
 /// Reads STEP and its value, or nothing.
@@ -84,7 +107,7 @@ fn for_to(
     ensures err { IfErr result (λ fault. FaultsAs fault (for_to variable from end lexemes.now)) }
     ensures within { IfOk result (λ r. r.1 ≤ length lexemes.now) }
 {
-    let (to, size) = value_after(alloc, TO, lexemes, end)?;
+    let (to, size) = value_then(alloc, TO, lexemes, end)?;
     let (step, more) = step(alloc, &lexemes[size..], end)?;
     let statement = Statement::For {
         variable,
@@ -161,9 +184,9 @@ fn define_value(
     ensures within { IfOk result (λ r. r.1 ≤ length lexemes.now) }
 {
     if front_code(lexemes) != b')' {
-        return Err(no_statement(lexemes, end));
+        return Err(not_taken(lexemes, end));
     }
-    let (value, size) = value_after(alloc, EQUAL, &lexemes[1..], end)?;
+    let (value, size) = value_then(alloc, EQUAL, &lexemes[1..], end)?;
     let statement = Statement::Define {
         name,
         variable,
@@ -172,17 +195,16 @@ fn define_value(
     Ok((statement, 1 + size))
 }
 
-/// Reads a name after a code.
-fn variable_after(code: u8, lexemes: &[Lexeme], end: usize) -> Result<(Name, usize), ProgramFault>
-    requires { 0 < code }
-    ensures ok { IfOk result (λ r. after code variable end lexemes.now ≡ Ok r) }
-    ensures err { IfErr result (λ fault. FaultsAs fault (after code variable end lexemes.now)) }
+/// Reads the variable of a function, after its parenthesis.
+fn parameter_after(lexemes: &[Lexeme], end: usize) -> Result<(Name, usize), ProgramFault>
+    ensures ok { IfOk result (λ r. after_value 40 parameter end lexemes.now ≡ Ok r) }
+    ensures err { IfErr result (λ fault. FaultsAs fault (after_value 40 parameter end lexemes.now)) }
     ensures within { IfOk result (λ r. r.1 ≤ length lexemes.now) }
 {
-    if front_code(lexemes) != code {
-        return Err(no_statement(lexemes, end));
+    if front_code(lexemes) != b'(' {
+        return Err(not_taken(lexemes, end));
     }
-    let (name, size) = variable(&lexemes[1..], end)?;
+    let (name, size) = parameter(&lexemes[1..], end)?;
     Ok((name, 1 + size))
 }
 
@@ -198,9 +220,22 @@ fn define_of(
     ensures err { IfErr result (λ fault. FaultsAs fault (define_of name end lexemes.now)) }
     ensures within { IfOk result (λ r. r.1 ≤ length lexemes.now) }
 {
-    let (variable, size) = variable_after(b'(', lexemes, end)?;
+    let (variable, size) = parameter_after(lexemes, end)?;
     let (statement, more) = define_value(alloc, name, variable, &lexemes[size..], end)?;
     Ok((statement, size + more))
+}
+
+/// Reads the name of a function after FN.
+fn function_name(lexemes: &[Lexeme], end: usize) -> Result<(Name, usize), ProgramFault>
+    ensures ok { IfOk result (λ r. after 165 variable end lexemes.now ≡ Ok r) }
+    ensures err { IfErr result (λ fault. FaultsAs fault (after 165 variable end lexemes.now)) }
+    ensures within { IfOk result (λ r. r.1 ≤ length lexemes.now) }
+{
+    if front_code(lexemes) != FN {
+        return Err(no_statement(lexemes, end));
+    }
+    let (name, size) = variable(&lexemes[1..], end)?;
+    Ok((name, 1 + size))
 }
 
 /// Reads what follows DEF.
@@ -214,7 +249,7 @@ fn define_statement(
     ensures err { IfErr result (λ fault. FaultsAs fault (define_statement end lexemes.now)) }
     ensures within { IfOk result (λ r. r.1 ≤ length lexemes.now) }
 {
-    let (name, size) = variable_after(FN, lexemes, end)?;
+    let (name, size) = function_name(lexemes, end)?;
     let (statement, more) = define_of(alloc, name, &lexemes[size..], end)?;
     Ok((statement, size + more))
 }
@@ -252,7 +287,7 @@ fn then_part(
             let line = front_line(&lexemes[1..]);
             Ok((Statement::If { condition, line }, 1 + line_size(line)))
         }
-        _ => Err(no_statement(lexemes, end)),
+        _ => Err(not_taken(lexemes, end)),
     }
 }
 
@@ -301,7 +336,7 @@ fn on_lines(
             let (lines, size) = line_list(alloc, &lexemes[1..], end)?;
             Ok((Statement::On { choice, way, lines }, 1 + size))
         }
-        None => Err(no_statement(lexemes, end)),
+        None => Err(not_taken(lexemes, end)),
     }
 }
 
@@ -353,7 +388,7 @@ fn command(
     Ok((Statement::Command { file, items }, size + more))
 }
 
-/// Reads one to four values.
+/// Reads one to four values, and nothing after them.
 #[tactic(auto, unfolding(crate::specs::Reading::and_then, crate::specs::Statements::four_values))]
 fn four_values(
     alloc: Global,
@@ -365,10 +400,27 @@ fn four_values(
     ensures within { IfOk result (λ r. r.1 ≤ length lexemes.now) }
 {
     let (values, size) = values(alloc, lexemes, end)?;
-    if 4 < values.len() {
-        return Err(no_statement(&lexemes[size..], end));
+    let rest = &lexemes[size..];
+    if values.len() <= 4 && at_end(rest) {
+        return Ok((values, size));
     }
-    Ok((values, size))
+    Err(not_taken(rest, end))
+}
+
+/// Reads what follows the address of POKE.
+#[tactic(auto, unfolding(crate::specs::Statements::poke_value))]
+fn poke_value(
+    alloc: Global,
+    address: Nodes,
+    lexemes: &[Lexeme],
+    end: usize,
+) -> Result<(Statement, usize), ProgramFault>
+    ensures ok { IfOk result (λ r. poke_value address end lexemes.now ≡ Ok r) }
+    ensures err { IfErr result (λ fault. FaultsAs fault (poke_value address end lexemes.now)) }
+    ensures within { IfOk result (λ r. r.1 ≤ length lexemes.now) }
+{
+    let (value, size) = value_then(alloc, b',', lexemes, end)?;
+    Ok((Statement::Poke { address, value }, size))
 }
 
 /// Reads what follows POKE.
@@ -383,15 +435,16 @@ fn poke_statement(
     ensures within { IfOk result (λ r. r.1 ≤ length lexemes.now) }
 {
     let (address, size) = value(alloc, lexemes, end)?;
-    let (value, more) = value_after(alloc, b',', &lexemes[size..], end)?;
-    Ok((Statement::Poke { address, value }, size + more))
+    let (statement, more) = poke_value(alloc, address, &lexemes[size..], end)?;
+    Ok((statement, size + more))
 }
 
 /// Returns whether a keyword begins a statement that a run does not take.
 fn is_not_taken(code: u8) -> bool
     ensures { result ≡ is_not_taken code }
 {
-    code == 132
+    code == 0
+        || code == 132
         || code == 133
         || code == 138
         || 146 <= code && code <= 149
@@ -402,16 +455,37 @@ fn is_not_taken(code: u8) -> bool
         || code == 162
 }
 
-/// Returns the statement of a keyword at a place that needs nothing after it.
-fn bare_statement(place: usize, code: u8) -> Result<(Statement, usize), ProgramFault>
-    ensures { result ≡ bare_statement place code }
+/// Reads the end of a statement that has nothing after its keyword.
+fn alone(
+    statement: Statement,
+    lexemes: &[Lexeme],
+    end: usize,
+) -> Result<(Statement, usize), ProgramFault>
+    ensures { result ≡ alone statement end lexemes.now }
+{
+    if !at_end(lexemes) {
+        return Err(no_statement(lexemes, end));
+    }
+    Ok((statement, 0))
+}
+
+/// Reads what follows a keyword at a place that needs nothing after it.
+#[tactic(auto, unfolding(crate::specs::Statements::bare_statement))]
+fn bare_statement(
+    place: usize,
+    code: u8,
+    lexemes: &[Lexeme],
+    end: usize,
+) -> Result<(Statement, usize), ProgramFault>
+    ensures value { result ≡ bare_statement place code end lexemes.now }
+    ensures within { IfOk result (λ r. r.1 ≤ length lexemes.now) }
 {
     match code {
-        128 => Ok((Statement::End, 0)),
+        128 => alone(Statement::End, lexemes, end),
         140 => Ok((Statement::Restore, 0)),
-        142 => Ok((Statement::Return, 0)),
-        144 => Ok((Statement::Stop, 0)),
-        156 => Ok((Statement::Clear, 0)),
+        142 => alone(Statement::Return, lexemes, end),
+        144 => alone(Statement::Stop, lexemes, end),
+        156 => alone(Statement::Clear, lexemes, end),
         _ if is_not_taken(code) => Err(ProgramFault::NotTaken(place)),
         _ => Err(ProgramFault::NoStatement(place)),
     }
@@ -446,7 +520,7 @@ fn output_statement(
             Ok((Statement::Close { values }, size))
         }
         151 => poke_statement(alloc, lexemes, end),
-        _ => bare_statement(place, code),
+        _ => bare_statement(place, code, lexemes, end),
     }
 }
 
@@ -538,7 +612,7 @@ fn statement(
         }
         Word::Items { .. } => Ok((Statement::Nothing, 1)),
         Word::Remark => Ok((Statement::Nothing, 1)),
-        Word::Constant(_) => Err(ProgramFault::NoStatement(first.place)),
+        Word::Constant(_) => Err(ProgramFault::NotTaken(first.place)),
         Word::Comparison(_) => Err(ProgramFault::NoStatement(first.place)),
         Word::Text { .. } => Err(ProgramFault::NoStatement(first.place)),
     }
@@ -554,66 +628,151 @@ fn opens_more(statement: &Statement) -> bool
     }
 }
 
-/// Reads the end of a statement.
+/// Returns whether a line is gone to, and the machine passes what follows its number.
+fn leaves(statement: &Statement) -> bool
+    ensures { result ≡ leaves statement.now }
+{
+    match statement {
+        Statement::Go { .. } | Statement::If { line: Some(_), .. } => true,
+        _ => false,
+    }
+}
+
+/// Returns whether the machine passes a lexeme after a line number: all up to a colon, which may be in a remark.
+fn is_passed(lexeme: Lexeme) -> bool
+    ensures { result ≡ is_passed lexeme }
+{
+    match lexeme.word {
+        Word::Remark => false,
+        Word::Code(code) => code != b':',
+        _ => true,
+    }
+}
+
+/// Returns how many lexemes after a statement the machine passes.
+fn passed_size(statement: &Statement, lexemes: &[Lexeme]) -> usize
+    ensures value { result ≡ passed_size statement.now lexemes.now }
+    ensures within { result ≤ length lexemes.now }
+{
+    if leaves(statement) {
+        front_size(lexemes)
+    } else {
+        0
+    }
+}
+
+/// Returns how many lexemes at the front the machine passes after a line number.
+fn front_size(lexemes: &[Lexeme]) -> usize
+    ensures value { result ≡ prefix_len is_passed lexemes.now }
+    ensures within { result ≤ length lexemes.now }
+{
+    for (i, lexeme) in lexemes.iter().enumerate() {
+        if !is_passed(*lexeme) {
+            return i;
+        }
+    }
+    lexemes.len()
+}
+
+/// Returns whether the machine may pass what follows a statement.
+fn may_pass(statement: &Statement) -> bool
+    ensures { result ≡ may_pass statement.now }
+{
+    match statement {
+        Statement::Go { .. }
+        | Statement::If { .. }
+        | Statement::On { .. }
+        | Statement::Define { .. } => true,
+        _ => false,
+    }
+}
+
+/// Returns what a run comes to after a statement that ends neither with a colon nor with its line.
+fn flaw_after(statement: &Statement) -> Statement
+    ensures { result ≡ flaw_after statement.now }
+{
+    if may_pass(statement) {
+        Statement::NotTaken
+    } else {
+        Statement::NoStatement
+    }
+}
+
+/// Adds a statement with what follows it, if that is no statement. Returns how many lexemes its end has.
 #[tactic(auto, unfolding(crate::specs::Statements::ended))]
-fn ended(
-    statement: Statement,
+fn put_ended(
+    found: &mut Vec<PlacedStatement>,
+    placed: PlacedStatement,
     lexemes: &[Lexeme],
     end: usize,
-) -> Result<(Statement, usize), ProgramFault>
-    ensures value { result ≡ ended statement end lexemes.now }
-    ensures within { IfOk result (λ r. r.1 ≤ length lexemes.now) }
+) -> Result<usize, ProgramFault>
+    ensures ok { IfOk result (λ n. ReadsAs found.old.items found.new.items n (Ok (ended placed end lexemes.now))) }
+    ensures err { IfErr result (λ fault. fault ≡ ProgramFault.OutOfMemory) }
+    ensures within { IfOk result (λ n. n ≤ length lexemes.now) }
 {
-    if opens_more(&statement) {
-        return Ok((statement, 0));
+    let opens = opens_more(&placed.statement);
+    let statement = flaw_after(&placed.statement);
+    put(found, placed)?;
+    if opens {
+        return Ok(0);
     }
     if front_code(lexemes) == b':' {
-        return Ok((statement, 1));
+        return Ok(1);
     }
     if at_end(lexemes) {
-        return Ok((statement, 0));
+        return Ok(0);
     }
-    Err(no_statement(lexemes, end))
-}
-
-/// Reads a statement with its colon.
-#[tactic(auto, unfolding(crate::specs::Reading::and_then, crate::specs::Statements::next_of_line))]
-fn next_of_line(
-    alloc: Global,
-    lexemes: &[Lexeme],
-    end: usize,
-) -> Result<(Statement, usize), ProgramFault>
-    ensures ok { IfOk result (λ r. next_of_line end lexemes.now ≡ Ok r) }
-    ensures err { IfErr result (λ fault. FaultsAs fault (next_of_line end lexemes.now)) }
-    ensures some { IfOk result (λ r. 0 < r.1) }
-    ensures within { IfOk result (λ r. r.1 ≤ length lexemes.now) }
-{
-    if front_code(lexemes) == b':' {
-        return Ok((Statement::Nothing, 1));
-    }
-    let (statement, size) = statement(alloc, lexemes, end)?;
-    let (statement, more) = ended(statement, &lexemes[size..], end)?;
-    Ok((statement, size + more))
-}
-
-/// Reads a statement with its colon and its place.
-#[tactic(auto, unfolding(crate::specs::Statements::placed_statement))]
-fn placed_statement(
-    alloc: Global,
-    lexemes: &[Lexeme],
-    end: usize,
-) -> Result<(PlacedStatement, usize), ProgramFault>
-    ensures ok { IfOk result (λ r. placed_statement end lexemes.now ≡ Ok r) }
-    ensures err { IfErr result (λ fault. FaultsAs fault (placed_statement end lexemes.now)) }
-    ensures some { IfOk result (λ r. 0 < r.1) }
-    ensures within { IfOk result (λ r. r.1 ≤ length lexemes.now) }
-{
     let place = front_place(lexemes, end);
-    let (statement, size) = next_of_line(alloc, lexemes, end)?;
-    Ok((PlacedStatement { statement, place }, size))
+    put(found, PlacedStatement { statement, place })?;
+    Ok(lexemes.len())
 }
 
-/// Reads a statement with its colon and its place, and adds it. Returns how many lexemes it has.
+/// Adds a statement with what follows it, after what the machine passes. Returns how many lexemes all that has.
+#[tactic(auto, unfolding(crate::specs::Statements::finished))]
+fn put_finished(
+    found: &mut Vec<PlacedStatement>,
+    placed: PlacedStatement,
+    lexemes: &[Lexeme],
+    end: usize,
+) -> Result<usize, ProgramFault>
+    ensures ok { IfOk result (λ n. ReadsAs found.old.items found.new.items n (Ok (finished placed end lexemes.now))) }
+    ensures err { IfErr result (λ fault. fault ≡ ProgramFault.OutOfMemory) }
+    ensures within { IfOk result (λ n. n ≤ length lexemes.now) }
+{
+    let passed = passed_size(&placed.statement, lexemes);
+    let size = put_ended(found, placed, &lexemes[passed..], end)?;
+    Ok(passed + size)
+}
+
+/// Returns what a run comes to in place of a statement that cannot be read, if the program has one.
+fn flaw_of(fault: ProgramFault) -> Option<PlacedStatement>
+    ensures { result ≡ flaw_of fault }
+{
+    match fault {
+        ProgramFault::NoStatement(place) => {
+            let statement = Statement::NoStatement;
+            Some(PlacedStatement { statement, place })
+        }
+        ProgramFault::NotTaken(place) => {
+            let statement = Statement::NotTaken;
+            Some(PlacedStatement { statement, place })
+        }
+        _ => None,
+    }
+}
+
+/// Adds what a run comes to in place of a statement that cannot be read, if the program has one.
+fn put_flaw(found: &mut Vec<PlacedStatement>, fault: ProgramFault) -> Result<(), ProgramFault>
+    ensures ok { OnOk result (Stands found.old.items found.new.items fault) }
+    ensures err { IfErr result (λ e. (e ≡ ProgramFault.OutOfMemory) ⊎ ((flaw_of fault ≡ None) × (e ≡ fault))) }
+{
+    match flaw_of(fault) {
+        Some(flaw) => put(found, flaw),
+        None => Err(fault),
+    }
+}
+
+/// Reads a statement and what ends it, and adds it. Returns how many lexemes it has.
 fn take_statement(
     alloc: Global,
     found: &mut Vec<PlacedStatement>,
@@ -621,35 +780,66 @@ fn take_statement(
     end: usize,
 ) -> Result<usize, ProgramFault>
     requires { 0 < length lexemes.now }
-    ensures ok { IfOk result (λ n. LeadsOn is_some (placed_statement end) found.old.items found.new.items n lexemes.now) }
-    ensures err { IfErr result (λ fault. FaultsAs fault (placed_statement end lexemes.now)) }
+    ensures ok { IfOk result (λ n. ReadsAs found.old.items found.new.items n (read_or_flaw (statement end lexemes.now) end lexemes.now)) }
+    ensures err { IfErr result (λ fault. FaultsAs fault (read_or_flaw (statement end lexemes.now) end lexemes.now)) }
     ensures some { IfOk result (λ n. 0 < n) }
     ensures within { IfOk result (λ n. n ≤ length lexemes.now) }
 {
-    let (statement, size) = placed_statement(alloc, lexemes, end)?;
-    put(found, statement)?;
-    Ok(size)
+    match statement(alloc, lexemes, end) {
+        Ok((statement, size)) => {
+            let place = front_place(lexemes, end);
+            let placed = PlacedStatement { statement, place };
+            let more = put_finished(found, placed, &lexemes[size..], end)?;
+            Ok(size + more)
+        }
+        Err(fault) => {
+            put_flaw(found, fault)?;
+            Ok(lexemes.len())
+        }
+    }
 }
 
-/// Reads the statements of a line that ends at a place, each with its place.
+/// Reads the statement at the front and what ends it, or a colon, and adds it. Returns how many lexemes it has.
+#[tactic(auto, unfolding(crate::specs::Statements::next_of_line))]
+fn take_next(
+    alloc: Global,
+    found: &mut Vec<PlacedStatement>,
+    lexemes: &[Lexeme],
+    end: usize,
+) -> Result<usize, ProgramFault>
+    requires { 0 < length lexemes.now }
+    ensures ok { IfOk result (λ n. ReadsAs found.old.items found.new.items n (next_of_line end lexemes.now)) }
+    ensures err { IfErr result (λ fault. FaultsAs fault (next_of_line end lexemes.now)) }
+    ensures some { IfOk result (λ n. 0 < n) }
+    ensures within { IfOk result (λ n. n ≤ length lexemes.now) }
+{
+    if front_code(lexemes) != b':' {
+        return take_statement(alloc, found, lexemes, end);
+    }
+    let statement = Statement::Nothing;
+    let place = front_place(lexemes, end);
+    put(found, PlacedStatement { statement, place })?;
+    Ok(1)
+}
+
+/// Reads the statements of a line that ends at a place, each with its place. What is no statement, or what a run does
+/// not take, is the last of them.
 ///
 /// # Errors
 ///
-/// The first place that no statement, or no expression, can have; a keyword that a run does not take; or that memory
-/// ran out.
-#[tactic(auto, unfolding(crate::specs::Statements::statements))]
+/// The first place that no expression can have; or that memory ran out.
 pub fn read_statements(
     alloc: Global,
     lexemes: &[Lexeme],
     end: usize,
 ) -> Result<Sequence<PlacedStatement>, ProgramFault>
-    ensures ok { IfOk result (λ found. statements end lexemes.now ≡ Ok (found, length lexemes.now)) }
+    ensures ok { IfOk result (λ found. statements end lexemes.now ≡ Ok found) }
     ensures err { IfErr result (λ fault. FaultsAs fault (statements end lexemes.now)) }
 {
     let mut found = Vec::new(alloc);
     let mut passed = 0;
     'more: while passed < lexemes.len() {
-        match take_statement(alloc, &mut found, &lexemes[passed..], end) {
+        match take_next(alloc, &mut found, &lexemes[passed..], end) {
             Ok(size) => passed += size,
             Err(fault) => return Err(fault),
         }

@@ -3,12 +3,14 @@
 ghost use Rattle.std.specs.Prelude.{◌≡◌, ◌+◌, ◌<◌, ◌≤◌, ◌∷◌, [], length, Ok, IfErr, IfOk};
 ghost use Rattle.pr_interpreter.specs.Faults.{FaultsAs, LeadsOn};
 ghost use Rattle.pr_interpreter.specs.Reading.{after, begins_comma, front_code, list_of, others_of};
-ghost use Rattle.pr_interpreter.specs.Statements.{element, indexed, line, target, variable};
+ghost use Rattle.pr_interpreter.specs.Statements.{element, further_target, indexed, line, target, targets};
 
 use crate::fault::ProgramFault;
 use crate::lexemes::Lexeme;
 use crate::names::Name;
-use crate::reading::{front_code, front_place, line, no_statement, put, values, variable};
+use crate::reading::{
+    front_code, front_name, front_place, line, no_statement, not_taken, put, values, variable,
+};
 use crate::statements::Target;
 use pr_page::Sequence;
 use std::alloc::Global;
@@ -29,7 +31,7 @@ fn element(
     let (indices, size) = values(alloc, lexemes, end)?;
     let rest = &lexemes[size..];
     if front_code(rest) != b')' {
-        return Err(no_statement(rest, end));
+        return Err(not_taken(rest, end));
     }
     let target = Target {
         name,
@@ -82,21 +84,38 @@ pub fn target(
     Ok((target, size + more))
 }
 
+/// Reads a target that is not the first of several.
+#[tactic(auto, unfolding(crate::specs::Statements::further_target))]
+fn further_target(
+    alloc: Global,
+    lexemes: &[Lexeme],
+    end: usize,
+) -> Result<(Target, usize), ProgramFault>
+    ensures ok { IfOk result (λ r. further_target end lexemes.now ≡ Ok r) }
+    ensures err { IfErr result (λ fault. FaultsAs fault (further_target end lexemes.now)) }
+    ensures within { IfOk result (λ r. r.1 ≤ length lexemes.now) }
+{
+    if front_name(lexemes).is_none() {
+        return Err(not_taken(lexemes, end));
+    }
+    target(alloc, lexemes, end)
+}
+
 /// Reads a target after a comma.
 fn target_after(
     alloc: Global,
     lexemes: &[Lexeme],
     end: usize,
 ) -> Result<(Target, usize), ProgramFault>
-    ensures ok { IfOk result (λ r. after 44 target end lexemes.now ≡ Ok r) }
-    ensures err { IfErr result (λ fault. FaultsAs fault (after 44 target end lexemes.now)) }
+    ensures ok { IfOk result (λ r. after 44 further_target end lexemes.now ≡ Ok r) }
+    ensures err { IfErr result (λ fault. FaultsAs fault (after 44 further_target end lexemes.now)) }
     ensures some { IfOk result (λ r. 0 < r.1) }
     ensures within { IfOk result (λ r. r.1 ≤ length lexemes.now) }
 {
     if front_code(lexemes) != b',' {
         return Err(no_statement(lexemes, end));
     }
-    let (target, size) = target(alloc, &lexemes[1..], end)?;
+    let (target, size) = further_target(alloc, &lexemes[1..], end)?;
     Ok((target, 1 + size))
 }
 
@@ -108,8 +127,8 @@ fn take_target(
     end: usize,
 ) -> Result<usize, ProgramFault>
     requires { front_code lexemes.now ≡ 44 }
-    ensures ok { IfOk result (λ n. LeadsOn begins_comma (after 44 target end) found.old.items found.new.items n lexemes.now) }
-    ensures err { IfErr result (λ fault. FaultsAs fault (after 44 target end lexemes.now)) }
+    ensures ok { IfOk result (λ n. LeadsOn begins_comma (after 44 further_target end) found.old.items found.new.items n lexemes.now) }
+    ensures err { IfErr result (λ fault. FaultsAs fault (after 44 further_target end lexemes.now)) }
     ensures some { IfOk result (λ n. 0 < n) }
     ensures within { IfOk result (λ n. n ≤ length lexemes.now) }
 {
@@ -125,8 +144,8 @@ fn more_targets(
     lexemes: &[Lexeme],
     end: usize,
 ) -> Result<usize, ProgramFault>
-    ensures ok { IfOk result (λ n. others_of target found.old.items end lexemes.now ≡ Ok (found.new.items, n)) }
-    ensures err { IfErr result (λ fault. FaultsAs fault (others_of target found.old.items end lexemes.now)) }
+    ensures ok { IfOk result (λ n. others_of further_target found.old.items end lexemes.now ≡ Ok (found.new.items, n)) }
+    ensures err { IfErr result (λ fault. FaultsAs fault (others_of further_target found.old.items end lexemes.now)) }
     ensures within { IfOk result (λ n. n ≤ length lexemes.now) }
 {
     let mut passed = 0;
@@ -146,8 +165,8 @@ pub fn targets(
     lexemes: &[Lexeme],
     end: usize,
 ) -> Result<(Sequence<Target>, usize), ProgramFault>
-    ensures ok { IfOk result (λ r. list_of target end lexemes.now ≡ Ok r) }
-    ensures err { IfErr result (λ fault. FaultsAs fault (list_of target end lexemes.now)) }
+    ensures ok { IfOk result (λ r. targets end lexemes.now ≡ Ok r) }
+    ensures err { IfErr result (λ fault. FaultsAs fault (targets end lexemes.now)) }
     ensures some { IfOk result (λ r. 0 < r.1) }
     ensures within { IfOk result (λ r. r.1 ≤ length lexemes.now) }
 {
@@ -213,7 +232,6 @@ pub fn line_list(
 ) -> Result<(Sequence<u16>, usize), ProgramFault>
     ensures ok { IfOk result (λ r. list_of line end lexemes.now ≡ Ok r) }
     ensures err { IfErr result (λ fault. FaultsAs fault (list_of line end lexemes.now)) }
-    ensures some { IfOk result (λ r. 0 < r.1) }
     ensures within { IfOk result (λ r. r.1 ≤ length lexemes.now) }
 {
     let (first, size) = line(lexemes, end)?;

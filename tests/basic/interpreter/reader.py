@@ -20,6 +20,7 @@ from .statements import (
     If,
     Next,
     NotRun,
+    NotRunAfter,
     On,
     Open,
     Output,
@@ -39,7 +40,7 @@ MINUS, NOT = 7, 3  # how tightly they bind before an operand
 
 
 class Unreadable(Exception):
-    """A statement that is none: the machine says SYNTAX when it comes to it."""
+    """A statement that is none: the machine says SYNTAX when it comes to it, unless what is before it fails."""
 
 
 class Reader:
@@ -48,6 +49,7 @@ class Reader:
     def __init__(self, line: int, lexemes: Sequence[Lexeme], end: int):
         self.line, self.lexemes, self.end, self.at = line, lexemes, end, 0
         self.code: list[Statement] = []
+        self.may_fail = False  # the machine works something out of this statement before it comes to what is next
 
     @property
     def next(self) -> Lexeme:
@@ -78,6 +80,7 @@ class Reader:
 
     def expression(self) -> Expression:
         """The expression at the front."""
+        self.may_fail = True
         return Whole(self.next.place, self.operation(1))
 
     def operation(self, least: int) -> Expression:
@@ -118,6 +121,7 @@ class Reader:
 
     def arguments(self, least: int, greatest: int) -> tuple[Expression, ...]:
         """Arguments in parentheses."""
+        self.may_fail = True
         self.require("(")
         found = [self.operation(1)]
         while len(found) < greatest and self.accept(","):
@@ -133,20 +137,21 @@ class Reader:
         self.code.append(statement)
 
     def statements(self) -> list[Statement]:
-        """All statements of the line; where one cannot be read it is the last, and says SYNTAX."""
+        """All statements of the line; where one cannot be read it is the last."""
         while True:
-            place = self.next.place
             try:
                 self.statement()
-                if not self.is_at_end():
+                if not self.is_at_end():  # the machine may pass what follows these
+                    self.may_fail = bool(self.code) and isinstance(self.code[-1], (Goto, On, Define))
                     raise Unreadable
             except Unreadable:
-                self.add(Failing(place, self.line))
+                self.add((NotRunAfter if self.may_fail else Failing)(self.next.place, self.line))
                 return self.code
             if not self.accept(":"):
                 return self.code
 
     def statement(self) -> None:
+        self.may_fail = False
         place, word = self.next.place, self.next.word
         if self.is_at_end() or word in ("REMARK", "ITEMS"):
             self.at += not self.is_at_end()
@@ -168,8 +173,8 @@ class Reader:
             self.add(Assign(place, self.line, target, self.expression()))
 
     def skip(self) -> None:
-        """The rest of a statement, which the machine does not look at."""
-        while not self.is_at_end():
+        """The rest of a statement, which the machine does not look at; there may be a colon in a remark."""
+        while not self.is_at_end() and self.next.word != "REMARK":
             self.take()
 
     def equals(self) -> None:
@@ -194,23 +199,26 @@ class Reader:
 
     def line_number(self) -> int:
         """A line's number: 0 where no digits are."""
-        constant = self.take().value if self.next.word == "CONSTANT" else None
+        constant = self.next.value
         digits = re.split("[.E]", constant.written)[0] if isinstance(constant, Constant) else ""
         if int(digits or 0) > 63999:
             raise Unreadable
+        self.at += isinstance(constant, Constant)
         return int(digits or 0)
 
     def list_of(self, one: Callable[[], One]) -> list[One]:
         """One or more, with commas between."""
         found = [one()]
+        self.may_fail = True
         while self.accept(","):
             found.append(one())
         return found
 
     def read_if(self, place: int) -> None:
-        self.add(If(place, self.line, self.expression()))
+        condition = self.expression()
         if self.next.word != "GOTO":
             self.expect("THEN")
+        self.add(If(place, self.line, condition))
         if isinstance(self.next.value, Constant) and self.next.value.written[0] != ".":
             self.read_goto(self.next.place)
         else:
@@ -229,10 +237,11 @@ class Reader:
         self.skip()
 
     def read_on(self, place: int) -> None:
-        selector, word = self.expression(), self.take().word
-        if word not in ("GOTO", "GOSUB"):
+        selector = self.expression()
+        kind = {"GOTO": Goto, "GOSUB": Gosub}.get(self.next.word)
+        if not kind:
             raise Unreadable
-        kind = Goto if word == "GOTO" else Gosub
+        self.take()
         self.add(On(place, self.line, selector, [kind(place, self.line, it) for it in self.list_of(self.line_number)]))
 
     def read_for(self, place: int) -> None:
@@ -258,6 +267,7 @@ class Reader:
     def read_def(self, place: int) -> None:
         self.expect("FN")
         name = self.name()
+        self.may_fail = True
         self.expect("(")
         parameter = self.name()
         self.expect(")")
@@ -270,10 +280,17 @@ class Reader:
         self.add(Poke(place, self.line, address, self.expression()))
 
     def read_open(self, place: int) -> None:
-        self.add(Open(place, self.line, self.list_of(self.expression)))
+        self.add(Open(place, self.line, self.last_list()))
 
     def read_close(self, place: int) -> None:
-        self.add(Close(place, self.line, self.list_of(self.expression)))
+        self.add(Close(place, self.line, self.last_list()))
+
+    def last_list(self) -> list[Expression]:
+        """Values with nothing after them, which the machine looks at first."""
+        found = self.list_of(self.expression)
+        if not self.is_at_end():
+            raise Unreadable
+        return found
 
     def read_print(self, place: int) -> None:
         self.add(Output(place, self.line, "PRINT", None, self.items()))

@@ -78,6 +78,14 @@ class NotRun(Statement):
 
 
 @dataclass(frozen=True)
+class NotRunAfter(Statement):
+    """What is no statement after a value: that may fail before the machine comes to it."""
+
+    def perform(self, run: Run) -> Optional[int]:
+        raise Refused(self.place, "no statement after a value")
+
+
+@dataclass(frozen=True)
 class End(Statement):
     """END."""
 
