@@ -6,10 +6,7 @@ use Rattle.pr_basic.specs.declared.statement.Statement.TheVariants.{CloseFile, C
 use Rattle.pr_interpreter.specs.declared.expressions.Placed.{Placed}
 use Rattle.pr_interpreter.specs.declared.statements.Item.{Item}
 use Rattle.pr_interpreter.specs.declared.statements.Statement.{Statement}
-use Rattle.pr_interpreter.specs.declared.statements.Statement.TheVariants.{Clear, Close, Command, Define, Dim, End, For}
-use Rattle.pr_interpreter.specs.declared.statements.Statement.TheVariants.{Go, If, Let, Next, NoStatement, Nothing}
-use Rattle.pr_interpreter.specs.declared.statements.Statement.TheVariants.{NotTaken, On, Open, Poke, Print, PrintFile}
-use Rattle.pr_interpreter.specs.declared.statements.Statement.TheVariants.{Read, Restore, Return, Stop}
+use Rattle.pr_interpreter.specs.declared.statements.Statement.TheVariants.{Close, Command, Open, Print, PrintFile}
 use Rattle.pr_interpreter.specs.declared.values.BasicError.{BasicError}
 use Rattle.pr_interpreter.specs.declared.values.BasicError.TheVariants.{FileNotOpen}
 use Rattle.pr_run.specs.declared.ending.Ending.TheVariants.{Refused}
@@ -17,9 +14,6 @@ use Rattle.pr_run.specs.declared.ending.Refusal.TheVariants.{Device, SecondAddre
 use Rattle.pr_run.specs.declared.performed.Performed.{Performed}
 use Rattle.pr_run.specs.declared.place.Place.{Place}
 use Rattle.pr_run.specs.declared.programs.Program.{Program}
-use Rattle.pr_run.specs.Assignments.{clear_statement, dim_statement, let_statement}
-use Rattle.pr_run.specs.Items.{read_statement}
-use Rattle.pr_run.specs.Jumps.{for_statement, if_statement, jump, next_statement, on_statement, return_statement}
 use Rattle.pr_run.specs.Lists.{printed}
 use Rattle.pr_run.specs.Outputs.{Output as Result, close_statement, close_with, command_statement, command_to, directed}
 use Rattle.pr_run.specs.Outputs.{done, failed, no_line}
@@ -30,8 +24,7 @@ use Rattle.pr_run.specs.Places.{Doing, Found, LineEnd, ProgramEnd, after_stateme
 use Rattle.pr_run.specs.RunLaws.{ComesFrom, is_kind}
 use Rattle.pr_run.specs.Runs.{after_turn, run_from}
 use Rattle.pr_run.specs.States.{State}
-use Rattle.pr_run.specs.Steps.{Ends, Goes, Turn, define_statement, output, output_turn, poke_statement, quiet, step}
-use Rattle.pr_run.specs.Steps.{turn, turn_at}
+use Rattle.pr_run.specs.Steps.{Ends, Goes, Turn, changed, output, output_turn, quiet, step, turn, turn_at}
 use Rattle.pr_run.specs.Uses.{Valued, Worked, line_at, statement_place}
 use Rattle.pr_run.specs.Worked.{then_on, whole}
 
@@ -156,18 +149,6 @@ output_kinds line s (Err ending) h = All-nil (OfKind line s)
 
 turn_kinds : (p : Program) (s : State) (st : Statement) → AllOfKind (line_at p s) st (turn p s st)
 unfolding turn
-turn_kinds p s Nothing = All-nil (OfKind (line_at p s) Nothing)
-turn_kinds p s (Let t v) = quiet_kinds (line_at p s) (Let t v) (let_statement p s t v)
-turn_kinds p s (If c l) = quiet_kinds (line_at p s) (If c l) (if_statement p s c l)
-turn_kinds p s (For v a b c) = quiet_kinds (line_at p s) (For v a b c) (for_statement p s v a b c)
-turn_kinds p s (Next vs) = quiet_kinds (line_at p s) (Next vs) (next_statement p s vs)
-turn_kinds p s (Go w l) = quiet_kinds (line_at p s) (Go w l) (jump p w l s)
-turn_kinds p s Return = quiet_kinds (line_at p s) Return (return_statement p s)
-turn_kinds p s (On c w ls) = quiet_kinds (line_at p s) (On c w ls) (on_statement p s c w ls)
-turn_kinds p s (Read ts) = quiet_kinds (line_at p s) (Read ts) (read_statement p s ts)
-turn_kinds p s Restore = All-nil (OfKind (line_at p s) Restore)
-turn_kinds p s (Dim ts) = quiet_kinds (line_at p s) (Dim ts) (dim_statement p s ts)
-turn_kinds p s (Define n v b) = quiet_kinds (line_at p s) (Define n v b) (define_statement p s n v b)
 turn_kinds p s (Print is) = output_kinds (line_at p s) (Print is) (print_statement p s is) (print_kind p s is)
 turn_kinds p s (PrintFile f is) =
     output_kinds (line_at p s) (PrintFile f is) (print_file_statement p s f is) (print_file_kind p s f is)
@@ -175,12 +156,7 @@ turn_kinds p s (Command f is) =
     output_kinds (line_at p s) (Command f is) (command_statement p s f is) (command_kind p s f is)
 turn_kinds p s (Open is) = output_kinds (line_at p s) (Open is) (open_statement p s is) (open_kind p s is)
 turn_kinds p s (Close is) = output_kinds (line_at p s) (Close is) (close_statement p s is) (close_kind p s is)
-turn_kinds p s (Poke a v) = quiet_kinds (line_at p s) (Poke a v) (poke_statement p s a v)
-turn_kinds p s Clear = quiet_kinds (line_at p s) Clear (clear_statement p s)
-turn_kinds p s Stop = All-nil (OfKind (line_at p s) Stop)
-turn_kinds p s End = All-nil (OfKind (line_at p s) End)
-turn_kinds p s NoStatement = All-nil (OfKind (line_at p s) NoStatement)
-turn_kinds p s NotTaken = All-nil (OfKind (line_at p s) NotTaken)
+turn_kinds p s other = quiet_kinds (line_at p s) other (changed p s other)
 
 -- ---- steps and runs
 

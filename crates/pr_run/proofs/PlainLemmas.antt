@@ -38,7 +38,7 @@ use Rattle.pr_run.specs.Plain.{AreParts, IsConstant, IsList, IsNumber, IsPart, L
 use Rattle.pr_run.specs.Plain.{error_of, error_unless, failing, files_after, in_line, in_order, performed_by, step_count}
 use Rattle.pr_run.specs.Runs.{after_turn, outcome, run, run_from}
 use Rattle.pr_run.specs.States.{State, first_state, next_line}
-use Rattle.pr_run.specs.Steps.{Ends, Goes, Turn, output, step, turn}
+use Rattle.pr_run.specs.Steps.{Ends, Goes, Turn, changed, output, step, turn}
 use Rattle.pr_run.specs.Uses.{Valued, Worked, line_at, use_at, use_of, used, whole_of}
 use Rattle.pr_run.specs.Worked.{scope, then_on, valued, whole, worked, worked_out}
 use Rattle.pr_run.proofs.RunLawLemmas.{ended_stays}
@@ -297,7 +297,7 @@ unfolding number_at
 number_here p place l e = rw e refl
 
 turn_nothing : (p : Program) (s : State) (st : Statement) → st ≡ Nothing → turn p s st ≡ Goes s []
-unfolding turn
+unfolding turn changed
 turn_nothing p s st e = rw e refl
 
 line_runs : (p : Program) (ss : List PlacedStatement) (l : ProgramLine) (ls : List ProgramLine) (os : List Output)

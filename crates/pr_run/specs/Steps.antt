@@ -104,31 +104,36 @@ abbrev pub output : ℕ → Worked Output → Turn
 output line (Ok o) = output_turn line o.error o
 output line (Err ending) = Ends [] ending
 
--- what a statement does in a state whose place is the one after it
+-- the state after a statement that is none for output, in a state whose place is the one after it
+unfoldable pub changed : Program → State → Statement → Worked State
+changed p s Nothing = Ok s
+changed p s (Let target value) = let_statement p s target value
+changed p s (If condition line) = if_statement p s condition line
+changed p s (For variable from to step) = for_statement p s variable from to step
+changed p s (Next variables) = next_statement p s variables
+changed p s (Go way line) = jump p way line s
+changed p s Return = return_statement p s
+changed p s (On choice way lines) = on_statement p s choice way lines
+changed p s (Read targets) = read_statement p s targets
+changed p s Restore = Ok (restore_statement s)
+changed p s (Dim arrays) = dim_statement p s arrays
+changed p s (Define name variable value) = define_statement p s name variable value
+changed p s (Poke address value) = poke_statement p s address value
+changed p s Clear = clear_statement p s
+changed p s Stop = Err (Break (line_at p s))
+changed p s End = Err (Ended (line_at p s))
+changed p s NoStatement = Err (Error Syntax (line_at p s))
+changed p s NotTaken = Err (Refused Unknown (statement_place p s))
+changed p s output = Ok s
+
+-- what a statement does in such a state
 unfoldable pub turn : Program → State → Statement → Turn
-turn p s Nothing = Goes s []
-turn p s (Let target value) = quiet (let_statement p s target value)
-turn p s (If condition line) = quiet (if_statement p s condition line)
-turn p s (For variable from to step) = quiet (for_statement p s variable from to step)
-turn p s (Next variables) = quiet (next_statement p s variables)
-turn p s (Go way line) = quiet (jump p way line s)
-turn p s Return = quiet (return_statement p s)
-turn p s (On choice way lines) = quiet (on_statement p s choice way lines)
-turn p s (Read targets) = quiet (read_statement p s targets)
-turn p s Restore = Goes (restore_statement s) []
-turn p s (Dim arrays) = quiet (dim_statement p s arrays)
-turn p s (Define name variable value) = quiet (define_statement p s name variable value)
 turn p s (Print items) = output (line_at p s) (print_statement p s items)
 turn p s (PrintFile file items) = output (line_at p s) (print_file_statement p s file items)
 turn p s (Command file items) = output (line_at p s) (command_statement p s file items)
 turn p s (Open values) = output (line_at p s) (open_statement p s values)
 turn p s (Close values) = output (line_at p s) (close_statement p s values)
-turn p s (Poke address value) = quiet (poke_statement p s address value)
-turn p s Clear = quiet (clear_statement p s)
-turn p s Stop = Ends [] (Break (line_at p s))
-turn p s End = Ends [] (Ended (line_at p s))
-turn p s NoStatement = Ends [] (Error Syntax (line_at p s))
-turn p s NotTaken = Ends [] (Refused Unknown (statement_place p s))
+turn p s other = quiet (changed p s other)
 
 abbrev pub turn_at : Program → State → Found → Turn
 turn_at p s (Doing statement) = turn p (record s { place = after_statement s.place }) statement
