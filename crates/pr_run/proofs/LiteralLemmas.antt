@@ -1,9 +1,8 @@
-use Rattle.std.proofs.Common.{◌≡◌, ℕ, ◌+◌, ◌-◌, ◌<◌, ◌≤◌, ◌==◌, Bool, true, false, List, [], ◌∷◌, length, refl, sym, ap}
-use Rattle.std.proofs.Common.{arith, eqb-true, le-leb, nat_le, Result, Ok, Err}
+use Rattle.std.proofs.Common.{◌≡◌, ℕ, ◌-◌, ◌≤◌, ◌==◌, Bool, true, false, length, refl}
+use Rattle.std.proofs.Common.{arith, eqb-true, le-leb, Result, Ok, Err}
 use Rattle.std.proofs.lemmas.Bool.{agree_below, agree_below_at}
 use Rattle.pr_interpreter.specs.declared.constants.Constant.{Constant}
 use Rattle.pr_interpreter.specs.declared.constants.Tens.TheVariants.{Times}
-use Rattle.pr_interpreter.specs.declared.memory.Arrays.{Arrays}
 use Rattle.pr_interpreter.specs.declared.values.Stop.{Stop}
 use Rattle.pr_interpreter.specs.declared.values.Value.TheVariants.{Number}
 use Rattle.pr_interpreter.specs.Constants.{error_after, value_of}

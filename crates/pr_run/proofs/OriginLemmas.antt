@@ -1,8 +1,8 @@
-use Rattle.std.proofs.Common.{◌≡◌, ℕ, zero, suc, Bool, true, false, IsTrue, List, [], ◌∷◌, ◌++◌, All, refl, sym, ap}
+use Rattle.std.proofs.Common.{◌≡◌, ℕ, zero, suc, Bool, true, false, IsTrue, List, [], ◌∷◌, All, refl}
 use Rattle.std.proofs.Common.{Option, Some, None, Ok, Err, if◌then◌else◌, drop, nat_lt, ◌||◌}
 use Rattle.std.proofs.lemmas.List.Elements.{All-append, All-cons, All-nil, All-weaker}
 use Rattle.pr_basic.specs.declared.statement.Statement.{Statement as Output}
-use Rattle.pr_basic.specs.declared.statement.Statement.TheVariants.{CloseFile, Cmd, OpenFile, Print as Printed, PrintTo}
+use Rattle.pr_basic.specs.declared.statement.Statement.TheVariants.{Cmd, OpenFile, Print as Printed, PrintTo}
 use Rattle.pr_interpreter.specs.declared.expressions.Placed.{Placed}
 use Rattle.pr_interpreter.specs.declared.statements.Item.{Item}
 use Rattle.pr_interpreter.specs.declared.statements.Statement.{Statement}
@@ -12,7 +12,6 @@ use Rattle.pr_interpreter.specs.declared.values.BasicError.TheVariants.{FileNotO
 use Rattle.pr_run.specs.declared.ending.Ending.TheVariants.{Refused}
 use Rattle.pr_run.specs.declared.ending.Refusal.TheVariants.{Device, SecondAddress}
 use Rattle.pr_run.specs.declared.performed.Performed.{Performed}
-use Rattle.pr_run.specs.declared.place.Place.{Place}
 use Rattle.pr_run.specs.declared.programs.Program.{Program}
 use Rattle.pr_run.specs.Lists.{printed}
 use Rattle.pr_run.specs.Outputs.{Output as Result, close_statement, close_with, command_statement, command_to, directed}

@@ -1,5 +1,5 @@
-use Rattle.std.proofs.Common.{◌≡◌, ◌⊎◌, inl, inr, ℕ, zero, suc, ◌+◌, ◌≤◌, ◌==◌, ◌||◌, ◌∷◌, Bool, true, false, not, List}
-use Rattle.std.proofs.Common.{◌++◌, map, length, drop, refl, sym, ap, ◌∙◌, arith, Option, Some, None, Result, Ok, Err}
+use Rattle.std.proofs.Common.{◌≡◌, inl, inr, ℕ, zero, suc, ◌+◌, ◌≤◌, ◌==◌, ◌∷◌, Bool, true, false, not, List}
+use Rattle.std.proofs.Common.{◌++◌, length, drop, refl, sym, ap, ◌∙◌, arith, Option, Some, None, Result, Ok}
 use Rattle.std.proofs.Common.{append_assoc, append-nil, add-one, le-leb, le-ltb, length-append, nat_le, nat_lt}
 use Rattle.std.proofs.Common.{if◌then◌else◌, [], filter, slice_get}
 use Rattle.pr_basic.specs.Limits.{byte_limit}
@@ -17,7 +17,6 @@ use Rattle.pr_interpreter.specs.declared.statements.Statement.{Statement}
 use Rattle.pr_interpreter.specs.declared.statements.Statement.TheVariants.{Close, Command, Nothing, Open, Print}
 use Rattle.pr_interpreter.specs.declared.statements.Statement.TheVariants.{PrintFile}
 use Rattle.pr_interpreter.specs.declared.values.BasicError.{BasicError}
-use Rattle.pr_interpreter.specs.declared.values.BasicError.TheVariants.{FileNotOpen}
 use Rattle.pr_interpreter.specs.declared.values.Stop.{Stop}
 use Rattle.pr_interpreter.specs.declared.values.Value.{Value}
 use Rattle.pr_interpreter.specs.declared.values.Value.TheVariants.{Text}
@@ -28,14 +27,14 @@ use Rattle.pr_run.specs.declared.performed.Performed.{Performed}
 use Rattle.pr_run.specs.declared.place.Place.{Place}
 use Rattle.pr_run.specs.declared.programs.Program.{Program}
 use Rattle.pr_run.specs.declared.uses.Use.{Use}
-use Rattle.pr_run.specs.Lists.{at_left_after, ends_after, fitting, part_bytes, printed, shown, value_bytes, with_part}
+use Rattle.pr_run.specs.Lists.{ends_after, fitting, part_bytes, printed, shown, value_bytes, with_part}
 use Rattle.pr_run.specs.Lists.{with_parts}
-use Rattle.pr_run.specs.Outputs.{Output as Put, close_statement, command_statement, command_to, directed, done, is_open}
+use Rattle.pr_run.specs.Outputs.{close_statement, command_statement, command_to, directed, is_open}
 use Rattle.pr_run.specs.Outputs.{numbers, open_error, open_statement, opened_or, print_file_statement, print_statement}
 use Rattle.pr_run.specs.Outputs.{print_to, undirected}
-use Rattle.pr_run.specs.Places.{after_line, after_statement, found_at, number_at}
+use Rattle.pr_run.specs.Places.{after_statement, found_at, number_at}
 use Rattle.pr_run.specs.Plain.{AreParts, IsConstant, IsList, IsNumber, IsPart, LineSays, LinesSay, PlainRuns, Says}
-use Rattle.pr_run.specs.Plain.{error_of, error_unless, failing, files_after, in_line, in_order, performed_by, step_count}
+use Rattle.pr_run.specs.Plain.{error_of, failing, files_after, in_line, in_order, performed_by, step_count}
 use Rattle.pr_run.specs.Runs.{after_turn, outcome, run, run_from}
 use Rattle.pr_run.specs.States.{State, first_state, next_line}
 use Rattle.pr_run.specs.Steps.{Ends, Goes, Turn, changed, output, step, turn}
