@@ -3,7 +3,8 @@
 ghost use Rattle.std.specs.Prelude.{◌≡◌, ◌++◌, ◌+◌, ◌<◌, ◌≤◌, ◌==◌, ◌^◌, IfOk, OnOk, length, slice_range, true};
 ghost use Rattle.pr_interpreter.specs.Lines.{blanks};
 ghost use Rattle.pr_interpreter.specs.Reading.{word_code};
-ghost use Rattle.pr_run.specs.Data.{data_of, front_item, front_size, item_size, items, last_end, lexeme_items, line_items, plain_size, string_size, word_cut, word_items};
+ghost use Rattle.pr_run.specs.Data.{data_of, front_item, front_size, item_size, items, last_end, lexeme_items};
+ghost use Rattle.pr_run.specs.Data.{line_items, plain_size, string_size, word_cut, word_items};
 
 use pr_interpreter::{Lexeme, Line, Word, Writing, lexemes_of};
 use std::alloc::{AllocError, Global};
