@@ -9,5 +9,6 @@ pub mod PlaceLemmas
 pub mod PlainLemmas
 pub mod ReplacedLemmas
 pub mod RunLawLemmas
+pub mod SpelledLemmas
 pub mod StepLemmas
 pub mod UseLemmas

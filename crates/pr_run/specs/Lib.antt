@@ -11,6 +11,7 @@ pub mod Plain
 pub mod RunLaws
 pub mod Runs
 pub mod Seen
+pub mod Spelled
 pub mod States
 pub mod Steps
 pub mod Uses

@@ -2,6 +2,7 @@
 
 ghost use Rattle.pr_run.specs.Plain.{CharactersAreConstant, DigitsAreNumbers, PlainRuns, StringsAreConstant};
 ghost use Rattle.pr_run.specs.RunLaws.{AllComeFrom, LimitsAgree, LimitsGoOn};
+ghost use Rattle.pr_run.specs.Spelled.{StatementsAreRead};
 
 /// A law: a greater limit of steps changes no run that does not use up a smaller one, and what is performed within a
 /// smaller one is performed first within a greater one.
@@ -26,4 +27,10 @@ pub fn literals_are_constant()
 /// order, up to the first that has an error.
 pub fn plain_programs_run_in_order()
     ensures { PlainRuns }
+{}
+
+/// A law: the lexemes of OPEN, CMD, PRINT, PRINT# and CLOSE with constants, as scripts spell them, are read as statements
+/// that say them.
+pub fn script_statements_are_read()
+    ensures { StatementsAreRead }
 {}
