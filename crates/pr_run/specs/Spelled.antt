@@ -8,11 +8,11 @@ use Rattle.pr_basic.specs.declared.statement.Statement.TheVariants.{Rem}
 use Rattle.pr_interpreter.specs.declared.constants.Tens.TheVariants.{Times}
 use Rattle.pr_interpreter.specs.declared.lexemes.Lexeme.{Lexeme}
 use Rattle.pr_interpreter.specs.declared.lexemes.Word.{Word}
-use Rattle.pr_interpreter.specs.declared.lexemes.Word.TheVariants.{Code, Constant, Text}
-use Rattle.pr_interpreter.specs.declared.statements.Statement.{Statement}
-use Rattle.pr_interpreter.specs.Statements.{statement}
+use Rattle.pr_interpreter.specs.declared.lexemes.Word.TheVariants.{Code, Constant, Remark, Text}
+use Rattle.pr_interpreter.specs.declared.statements.PlacedStatement.{PlacedStatement}
+use Rattle.pr_interpreter.specs.Statements.{statements}
 use Rattle.pr_run.specs.Outputs.{no_line}
-use Rattle.pr_run.specs.Plain.{Says}
+use Rattle.pr_run.specs.Plain.{LineSays}
 
 abbrev pub lexeme : ℕ → Word → Lexeme
 lexeme place word = record { word = word; place = place }
@@ -92,7 +92,44 @@ Spells text (Printed line) ls = (p : ℕ) × (items : List Listed)
 Spells text (CloseFile file) ls = (p : ℕ) × (q : ℕ) × (ls ≡ lexeme p (Code 160) ∷ number q file ∷ []) × (file ≤ 255)
 Spells text Rem ls = ⊥
 
--- the lexemes of an output statement are read as a statement that says it
-abbrev pub StatementsAreRead : Type 0
-StatementsAreRead = (text : List ℕ) (end : ℕ) (o : Output) (ls : List Lexeme) → Spells text o ls
-    → (s : Statement) × (statement end ls ≡ Ok (s, length ls)) × Says text o s
+-- a part of a line: nothing, a remark at a place, or an output statement with its lexemes
+pub data LinePart : Type 0 where
+  Empty : LinePart
+  Remarks : ℕ → LinePart
+  Performs : Output → List Lexeme → LinePart
+
+abbrev pub part_lexemes : LinePart → List Lexeme
+part_lexemes Empty = []
+part_lexemes (Remarks p) = lexeme p Remark ∷ []
+part_lexemes (Performs o ls) = ls
+
+abbrev pub IsSpelled : List ℕ → LinePart → Type 0
+IsSpelled text Empty = Unit {0}
+IsSpelled text (Remarks p) = Unit {0}
+IsSpelled text (Performs o ls) = Spells text o ls
+
+abbrev pub AreSpelled : List ℕ → List (LinePart × ℕ) → Type 0
+AreSpelled text [] = Unit {0}
+AreSpelled text (x ∷ xs) = IsSpelled text x.0 × AreSpelled text xs
+
+-- the lexemes of parts, each but the last with a colon at a place
+abbrev pub parts_lexemes : List (LinePart × ℕ) → List Lexeme
+parts_lexemes [] = []
+parts_lexemes (x ∷ []) = part_lexemes x.0
+parts_lexemes (x ∷ y ∷ xs) = part_lexemes x.0 ++ (lexeme x.1 (Code 58) ∷ parts_lexemes (y ∷ xs))
+
+abbrev pub part_said : LinePart → List Output → List Output
+part_said Empty os = os
+part_said (Remarks p) os = os
+part_said (Performs o ls) os = o ∷ os
+
+-- their output statements
+abbrev pub parts_said : List (LinePart × ℕ) → List Output
+parts_said [] = []
+parts_said (x ∷ xs) = part_said x.0 (parts_said xs)
+
+-- the lexemes of a line of such parts are read as statements that say its output statements
+abbrev pub LinesAreRead : Type 0
+LinesAreRead = (text : List ℕ) (end : ℕ) (parts : List (LinePart × ℕ)) → AreSpelled text parts
+    → (ss : List PlacedStatement) × (statements end (parts_lexemes parts) ≡ Ok ss)
+    × LineSays text ss (parts_said parts)

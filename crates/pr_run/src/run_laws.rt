@@ -2,7 +2,7 @@
 
 ghost use Rattle.pr_run.specs.Plain.{CharactersAreConstant, DigitsAreNumbers, PlainRuns, StringsAreConstant};
 ghost use Rattle.pr_run.specs.RunLaws.{AllComeFrom, LimitsAgree, LimitsGoOn};
-ghost use Rattle.pr_run.specs.Spelled.{StatementsAreRead};
+ghost use Rattle.pr_run.specs.Spelled.{LinesAreRead};
 
 /// A law: a greater limit of steps changes no run that does not use up a smaller one, and what is performed within a
 /// smaller one is performed first within a greater one.
@@ -29,8 +29,8 @@ pub fn plain_programs_run_in_order()
     ensures { PlainRuns }
 {}
 
-/// A law: the lexemes of OPEN, CMD, PRINT, PRINT# and CLOSE with constants, as scripts spell them, are read as statements
-/// that say them.
-pub fn script_statements_are_read()
-    ensures { StatementsAreRead }
+/// A law: the lexemes of a line of OPEN, CMD, PRINT, PRINT# and CLOSE with constants, as scripts spell them, and REM are
+/// read as statements that say them.
+pub fn script_lines_are_read()
+    ensures { LinesAreRead }
 {}
