@@ -1,5 +1,7 @@
-use Rattle.std.proofs.Common.{◌≡◌, ◌⊎◌, inl, inr, ℕ, ◌+◌, ◌≤◌, ◌==◌, Bool, true, false, List, [], ◌∷◌, ◌++◌, length, refl, sym}
-use Rattle.std.proofs.Common.{ap, ◌∙◌, arith, append_assoc, append-nil, length-append, Option, Some, None, Result, Ok, Err}
+use Rattle.std.proofs.Common.{◌≡◌, ◌⊎◌, inl, inr, ℕ, ◌+◌, ◌≤◌, ◌==◌, Bool, true, false, List, [], ◌∷◌, ◌++◌, length}
+use Rattle.std.proofs.Common.{refl, sym}
+use Rattle.std.proofs.Common.{ap, ◌∙◌, arith, append_assoc, append-nil, length-append, Option, Some, None, Result, Ok}
+use Rattle.std.proofs.Common.{Err}
 use Rattle.std.proofs.Common.{if◌then◌else◌, drop, suc, ◌-◌}
 use Rattle.pr_basic.specs.Text.{Text as Line}
 use Rattle.pr_basic.specs.declared.statement.Statement.{Statement as Output}
@@ -10,7 +12,8 @@ use Rattle.pr_interpreter.specs.declared.expressions.Node.TheVariants.{Call, Tex
 use Rattle.pr_interpreter.specs.declared.expressions.Placed.{Placed}
 use Rattle.pr_interpreter.specs.declared.lexemes.Lexeme.{Lexeme}
 use Rattle.pr_interpreter.specs.declared.lexemes.Word.{Word}
-use Rattle.pr_interpreter.specs.declared.lexemes.Word.TheVariants.{Code, Comparison, Constant, Items, Named, Remark, Text}
+use Rattle.pr_interpreter.specs.declared.lexemes.Word.TheVariants.{Code, Comparison, Constant, Items, Named, Remark}
+use Rattle.pr_interpreter.specs.declared.lexemes.Word.TheVariants.{Text}
 use Rattle.pr_interpreter.specs.declared.reader.Expected.TheVariants.{OperandEnd}
 use Rattle.pr_interpreter.specs.declared.statements.Item.{Item}
 use Rattle.pr_interpreter.specs.declared.statements.PlacedStatement.{PlacedStatement}
@@ -19,7 +22,8 @@ use Rattle.pr_interpreter.specs.declared.statements.Statement.{Statement}
 use Rattle.pr_interpreter.specs.declared.statements.Statement.TheVariants.{Close, Command, Nothing, Open, Print}
 use Rattle.pr_interpreter.specs.declared.statements.Statement.TheVariants.{PrintFile}
 use Rattle.pr_interpreter.specs.declared.fault.ProgramFault.{ProgramFault}
-use Rattle.pr_interpreter.specs.Expressions.{Done, Stacks, closing_code, expression, operand_code, operator_of, reading, settle}
+use Rattle.pr_interpreter.specs.Expressions.{Done, Stacks, closing_code, expression, operand_code, operator_of}
+use Rattle.pr_interpreter.specs.Expressions.{reading, settle}
 use Rattle.pr_interpreter.specs.Expressions.{turn}
 use Rattle.pr_interpreter.specs.Reading.{Read, and_then, or_fault, repeated, word_code}
 use Rattle.pr_interpreter.specs.Statements.{command, ended, file_items, finished, four_values, further, has_item, item}
@@ -30,7 +34,8 @@ use Rattle.pr_run.specs.Outputs.{no_line}
 use Rattle.pr_run.specs.Plain.{AreParts, IsList, LineSays, Says, digits}
 use Rattle.pr_run.specs.Spelled.{AreGood, Character, IsGood, Listed, Quote, Semi, Spells, SpellsList, SpellsMore}
 use Rattle.pr_run.specs.Spelled.{LinesAreRead, ends_after, item_bytes, item_lexemes, items_bytes, items_lexemes, lexeme}
-use Rattle.pr_run.specs.Spelled.{AreSpelled, Empty, IsSpelled, LinePart, Performs, Remarks, number, parts_lexemes, parts_said}
+use Rattle.pr_run.specs.Spelled.{AreSpelled, Empty, IsSpelled, LinePart, Performs, Remarks, number, parts_lexemes}
+use Rattle.pr_run.specs.Spelled.{parts_said}
 use Rattle.pr_run.proofs.LiteralLemmas.{character_constant, digits_number, string_constant}
 
 -- ---- expressions
@@ -474,7 +479,8 @@ last_read text end at (Performs o ls) good =
       inr (o, [], c.says, refl, refl),
     )
 
-more_parts : (text : List ℕ) (end at : ℕ) (x : LinePart) (y : LinePart × ℕ) (xs : List (LinePart × ℕ)) → IsSpelled text x
+more_parts : (text : List ℕ) (end at : ℕ) (x : LinePart) (y : LinePart × ℕ) (xs : List (LinePart × ℕ))
+    → IsSpelled text x
     → PartsRead text end (y ∷ xs) → PartsRead text end ((x, at) ∷ y ∷ xs)
 unfolding further next_of_line statement finished ended
 more_parts text end at Empty y xs good rest = (

@@ -1,5 +1,6 @@
 -- Trusted: how the lexemes of a line spell output statements with constants, as the grammar of scripts has it.
-use Rattle.std.specs.Prelude.{ℕ, ◌≡◌, ◌⊎◌, ◌-◌, ◌≤◌, Bool, true, false, List, [], ◌∷◌, ◌++◌, length, slice_range, Some, None, Ok}
+use Rattle.std.specs.Prelude.{ℕ, ◌≡◌, ◌⊎◌, ◌-◌, ◌≤◌, Bool, true, false, List, [], ◌∷◌, ◌++◌, length, slice_range}
+use Rattle.std.specs.Prelude.{Some, None, Ok}
 use Rattle.pr_basic.specs.Limits.{byte_limit}
 use Rattle.pr_basic.specs.Text.{Text as Line}
 use Rattle.pr_basic.specs.declared.statement.Statement.{Statement as Output}
