@@ -29,8 +29,8 @@ pub fn plain_programs_run_in_order()
     ensures { PlainRuns }
 {}
 
-/// A law: the lexemes of a line of OPEN, CMD, PRINT, PRINT#, CLOSE with constants and REM, as scripts spell them, are read
-/// as statements that say them.
+/// A law: the lexemes of a line of OPEN, CMD, PRINT, PRINT#, CLOSE and REM, with constants, as scripts spell them, are
+/// read as statements that say them.
 pub fn script_lines_are_read()
     ensures { LinesAreRead }
 {}
