@@ -1,11 +1,11 @@
 use Rattle.std.proofs.Common.{◌≡◌, ℕ, zero, suc, ◌+◌, ◌-◌, ◌<◌, ◌≤◌, ◌==◌, false, List, [], ◌∷◌, ◌++◌, length, take}
 use Rattle.std.proofs.Common.{drop, get_or, min, arith, refl, ap, ◌∙◌, sym, add-one, drop-cons, append_assoc}
-use Rattle.std.proofs.Common.{append-nil}
+use Rattle.std.proofs.Common.{append-nil, length-append, slice_get, zero-add}
 use Rattle.std.proofs.lemmas.Bool.{ne_eqb}
 use Rattle.std.proofs.lemmas.List.{drop-drop, drop_all, length-drop, take_all, take_min}
 use Rattle.pr_run.specs.declared.data.DataItem.{DataItem}
 use Rattle.std.specs.Prelude.{slice_range}
-use Rattle.pr_run.specs.Data.{front_item, front_size, items, more_items}
+use Rattle.pr_run.specs.Data.{end_of, front_item, front_size, items, last_end, more_items}
 
 -- an end behind a list is that of the list
 pub clamped : (xs : List ℕ) (start end : ℕ) → slice_range xs start (min end (length xs)) ≡ slice_range xs start end
@@ -123,3 +123,24 @@ items_all line place t bytes old whole h all =
     let none : more_items line 0 (place + t) (drop t bytes) ≡ [] =
     ap (λ (bs : List ℕ). more_items line 0 (place + t) bs) (drop_all t bytes h) ∙ items_none line (place + t) in
     sym (append-nil old) ∙ (ap (λ (ds : List DataItem). old ++ ds) (sym none) ∙ all)
+
+-- ---- the last item
+
+get_behind : (xs zs : List DataItem) (k : ℕ) → slice_get (xs ++ zs) (length xs + k) ≡ slice_get zs k
+get_behind [] zs k = rw zero-add refl
+get_behind (x ∷ xs) zs k =
+    let next : length (x ∷ xs) + k ≡ suc (length xs + k) = omega arith in
+    rw next (get_behind xs zs k)
+
+last_of_two : (xs ys : List DataItem) (y : DataItem) → last_end (xs ++ (y ∷ ys)) ≡ last_end (y ∷ ys)
+last_of_two xs ys y =
+    let at : length (xs ++ (y ∷ ys)) - 1 ≡ length xs + (length (y ∷ ys) - 1) =
+    omega (arith, length-append xs (y ∷ ys)) in
+    rw at (ap end_of (get_behind xs (y ∷ ys) (length (y ∷ ys) - 1)))
+
+-- the last of items that come after others
+pub last_joined : (old new : List DataItem) (line place : ℕ) (bytes : List ℕ) → new ≡ old ++ items line place bytes
+    → last_end new ≡ last_end (items line place bytes)
+unfolding items
+last_joined old new line place bytes e =
+    rw e (last_of_two old (more_items line (front_size bytes) place bytes) (front_item line place bytes))

@@ -2,9 +2,13 @@ pub mod ArrayLemmas
 pub mod CountLemmas
 pub mod DataLemmas
 pub mod ElementLemmas
+pub mod LiteralLemmas
 pub mod OpenedLemmas
+pub mod OriginLemmas
 pub mod PlaceLemmas
+pub mod PlainLemmas
 pub mod ReplacedLemmas
 pub mod RunLawLemmas
+pub mod SpelledLemmas
 pub mod StepLemmas
 pub mod UseLemmas

@@ -1,34 +1,59 @@
-use Rattle.std.proofs.Common.{◌≡◌, inl, inr, ℕ, zero, suc, List, ◌++◌, refl, sym, ap}
-use Rattle.pr_run.specs.declared.ending.Ending.{Ending}
+use Rattle.std.proofs.Common.{◌≡◌, ℕ, zero, suc, ◌+◌, false, List, [], ◌++◌, refl, sym, ap}
+use Rattle.std.proofs.Common.{◌∙◌, append_assoc, append-nil, suc-add, Option, Some, None, slice_get}
+use Rattle.pr_interpreter.specs.declared.program.ProgramLine.{ProgramLine}
 use Rattle.pr_run.specs.declared.outcome.Outcome.{Outcome}
 use Rattle.pr_run.specs.declared.performed.Performed.{Performed}
 use Rattle.pr_run.specs.declared.programs.Program.{Program}
-use Rattle.pr_run.specs.Runs.{Runs, after_turn, run_from}
-use Rattle.pr_run.specs.RunLaws.{outcome}
+use Rattle.pr_run.specs.Places.{found_at}
+use Rattle.pr_run.specs.RunLaws.{is_limit}
+use Rattle.pr_run.specs.Runs.{after_turn, ending_in, outcome, run_from}
 use Rattle.pr_run.specs.States.{State}
 use Rattle.pr_run.specs.Steps.{Ends, Goes, Turn, step}
 
--- what a turn leads to, as the relation has it
-turn_runs : (p : Program) (n : ℕ) (s : State) (t : Turn) → step p s ≡ t
-    → ((u : State) → Runs p n u (run_from p n u).performed (run_from p n u).ending)
-    → Runs p (suc n) s (after_turn t (λ u. run_from p n u)).performed (after_turn t (λ u. run_from p n u)).ending
-turn_runs p n s (Goes u done) e more = inr (u, done, (run_from p n u).performed, e, more u, refl)
-turn_runs p n s (Ends done ending) e more = inl e
+-- ---- greater limits
 
--- each state has a run
-pub run_found : (p : Program) (n : ℕ) (s : State) → Runs p n s (run_from p n s).performed (run_from p n s).ending
-unfolding run_from
-run_found p zero s = (refl, refl)
-run_found p (suc n) s = turn_runs p n s (step p s) refl (λ u. run_found p n u)
+-- a run that has come past the last line has ended, whatever is left
+pub ended_stays : (p : Program) (limit : ℕ) (s : State) (found : Option ProgramLine)
+    → slice_get p.lines s.place.line ≡ found → is_limit (ending_in found) ≡ false
+    → run_from p limit s ≡ outcome [] (ending_in found) s.skipped_poke
+unfolding run_from step found_at
+ended_stays p limit s (Some l) e h = absurd (cc)
+ended_stays p zero s None e h = rw e refl
+ended_stays p (suc n) s None e h = rw e refl
 
--- and no other
-pub run_one : (p : Program) (n : ℕ) (s : State) (performed : List Performed) (ending : Ending)
-    → Runs p n s performed ending → outcome performed ending ≡ run_from p n s
+-- where a turn leads is the same within a greater limit
+turn_agrees : (p : Program) (n more : ℕ) (s : State) (t : Turn)
+    → ((u : State) → is_limit (run_from p n u).ending ≡ false → run_from p (n + more) u ≡ run_from p n u)
+    → is_limit (after_turn s t (λ u. run_from p n u)).ending ≡ false
+    → after_turn s t (λ u. run_from p (n + more) u) ≡ after_turn s t (λ u. run_from p n u)
+turn_agrees p n more s (Goes u done) same h =
+    ap (λ (o : Outcome). outcome (done ++ o.performed) o.ending o.skipped_poke) (same u h)
+turn_agrees p n more s (Ends done ending) same h = refl
+
+-- a run that does not use up its limit is the same within a greater one
+pub limits_agree : (p : Program) (limit more : ℕ) (s : State) → is_limit (run_from p limit s).ending ≡ false
+    → run_from p (limit + more) s ≡ run_from p limit s
 unfolding run_from
-run_one p zero s performed ending r = rw (r.0, r.1) refl
-run_one p (suc n) s performed ending (inl stops) = rw stops refl
-run_one p (suc n) s performed ending (inr r) =
-    let rest = run_one p n r.0 r.2 ending r.4 in
-    let put : after_turn (Goes r.0 r.1) (λ u. run_from p n u) ≡ outcome (r.1 ++ r.2) ending =
-    ap (λ (o : Outcome). outcome (r.1 ++ o.performed) o.ending) (sym rest) in
-    rw (r.3, r.5) (sym put)
+limits_agree p zero more s h = ended_stays p (zero + more) s (slice_get p.lines s.place.line) refl h
+limits_agree p (suc n) more s h =
+    rw (suc-add n more) (turn_agrees p n more s (step p s) (λ u g. limits_agree p n more u g) h)
+
+-- what is performed first, and then more
+abbrev Begins : List Performed → List Performed → Type 0
+Begins first all = (rest : List Performed) × (all ≡ first ++ rest)
+
+turn_goes_on : (p : Program) (n more : ℕ) (s : State) (t : Turn)
+    → ((u : State) → Begins (run_from p n u).performed (run_from p (n + more) u).performed)
+    → Begins (after_turn s t (λ u. run_from p n u)).performed (after_turn s t (λ u. run_from p (n + more) u)).performed
+turn_goes_on p n more s (Goes u done) same =
+    let r = same u in
+    (r.0, ap (λ (ps : List Performed). done ++ ps) r.1 ∙ sym (append_assoc done (run_from p n u).performed r.0))
+turn_goes_on p n more s (Ends done ending) same = ([], sym (append-nil done))
+
+-- within a greater limit a run performs the same, and then perhaps more
+pub limits_go_on : (p : Program) (limit more : ℕ) (s : State)
+    → Begins (run_from p limit s).performed (run_from p (limit + more) s).performed
+unfolding run_from
+limits_go_on p zero more s = ((run_from p (zero + more) s).performed, refl)
+limits_go_on p (suc n) more s =
+    rw (suc-add n more) (turn_goes_on p n more s (step p s) (λ u. limits_go_on p n more u))

@@ -1,42 +1,41 @@
 use Rattle.std.proofs.Common.{◌≡◌, inl, inr, ℕ, ◌+◌, ◌-◌, ◌<◌, ◌≤◌, false, arith, List, [], ◌++◌, refl, sym, ap, ◌∙◌}
 use Rattle.std.proofs.Common.{add-one, append_assoc, append-nil, Option, Some, None}
+use Rattle.std.specs.List.{slice_get}
 use Rattle.std.specs.Option.{option_to_list}
 use Rattle.pr_run.specs.declared.ending.Ending.{Ending}
-use Rattle.pr_run.specs.declared.ending.Ending.TheVariants.{TooManySteps}
 use Rattle.pr_run.specs.declared.outcome.Outcome.{Outcome}
 use Rattle.pr_run.specs.declared.performed.Performed.{Performed}
 use Rattle.pr_run.specs.declared.programs.Program.{Program}
 use Rattle.pr_run.specs.declared.state.Run.{Run}
 use Rattle.pr_run.specs.declared.steps.Done.{Done}
 use Rattle.pr_run.specs.Endings.{is_memory}
-use Rattle.pr_run.specs.RunLaws.{outcome}
-use Rattle.pr_run.specs.Runs.{after_turn, run_from}
+use Rattle.pr_run.specs.Runs.{after_turn, ending_in, outcome, run_from}
 use Rattle.pr_run.specs.Seen.{LeadsOn, TurnEndsAs, joined, rest_of, state_of, turned, turned_by}
 use Rattle.pr_run.specs.Steps.{Ends, step}
-use Rattle.pr_run.specs.Uses.{line_at}
 
 -- what was performed before joins what a turn leads to
-turn_joins : (p : Program) (n : ℕ) (before done : List Performed) (ending : Option Ending) (r : Run)
-    → joined before (after_turn (turned_by done ending (state_of r)) (λ t. run_from p n t))
-    ≡ rest_of p n (before ++ done) ending r
-turn_joins p n before done None r =
-    let rest = run_from p n (state_of r) in
-    sym (ap (λ (ps : List Performed). outcome ps rest.ending) (append_assoc before done rest.performed))
-turn_joins p n before done (Some e) r = refl
+turn_joins : (p : Program) (n : ℕ) (before done : List Performed) (ending : Option Ending) (old new : Run)
+    → joined before (after_turn (state_of old) (turned_by done ending (state_of new)) (λ t. run_from p n t))
+    ≡ rest_of p n old (before ++ done) ending new
+turn_joins p n before done None old new =
+    let rest = run_from p n (state_of new) in
+    sym (ap (λ (ps : List Performed). outcome ps rest.ending rest.skipped_poke)
+    (append_assoc before done rest.performed))
+turn_joins p n before done (Some e) old new = refl
 
 -- a step leads on
 pub step_leads : (p : Program) (before after : List Performed) (old new : Run) (d : Done)
     → step p (state_of old) ≡ turned d new → after ≡ before ++ option_to_list d.performed
     → LeadsOn p before old after new d.ending
 unfolding run_from
-step_leads p before after old new d e put n = rw (add-one, e, put) (turn_joins p n before _ d.ending new)
+step_leads p before after old new d e put n = rw (add-one, e, put) (turn_joins p n before _ d.ending old new)
 
 -- a step that ends the run leads on
 step_ended : (p : Program) (before : List Performed) (old new : Run) (ending : Ending)
     → step p (state_of old) ≡ Ends [] ending → LeadsOn p before old before new (Some ending)
 unfolding run_from
 step_ended p before old new ending e n =
-    rw (add-one, e) (ap (λ (ps : List Performed). outcome ps ending) (append-nil before))
+    rw (add-one, e) (ap (λ (ps : List Performed). outcome ps ending old.skipped_poke) (append-nil before))
 
 -- memory did not run out
 pub step_stops : (p : Program) (before : List Performed) (old new : Run) (ending : Ending)
@@ -58,7 +57,7 @@ runs_on p left before after old new whole h leads all =
 -- it ends the run
 pub runs_ended : (p : Program) (left : ℕ) (before after : List Performed) (old new : Run) (ending : Ending)
     (whole : Outcome) → 0 < left → LeadsOn p before old after new (Some ending)
-    → joined before (run_from p left (state_of old)) ≡ whole → outcome after ending ≡ whole
+    → joined before (run_from p left (state_of old)) ≡ whole → outcome after ending old.skipped_poke ≡ whole
 runs_ended p left before after old new ending whole h leads all =
     let same : left - 1 + 1 ≡ left = omega arith in
     sym (leads (left - 1)) ∙ (ap (λ (n : ℕ). joined before (run_from p n (state_of old))) same ∙ all)
@@ -66,10 +65,11 @@ runs_ended p left before after old new ending whole h leads all =
 -- no step is left
 pub runs_out : (p : Program) (left : ℕ) (before : List Performed) (r : Run) (whole : Outcome) → left ≤ 0
     → joined before (run_from p left (state_of r)) ≡ whole
-    → outcome before (TooManySteps (line_at p (state_of r))) ≡ whole
+    → outcome before (ending_in (slice_get p.lines r.place.line)) r.skipped_poke ≡ whole
 unfolding run_from
 runs_out p left before r whole h all =
     let none : left ≡ 0 = omega arith in
     let last : joined before (run_from p 0 (state_of r)) ≡ whole =
     ap (λ (n : ℕ). joined before (run_from p n (state_of r))) (sym none) ∙ all in
-    sym (ap (λ (ps : List Performed). outcome ps (TooManySteps (line_at p (state_of r)))) (append-nil before)) ∙ last
+    let ends = ending_in (slice_get p.lines r.place.line) in
+    sym (ap (λ (ps : List Performed). outcome ps ends r.skipped_poke) (append-nil before)) ∙ last

@@ -1,7 +1,7 @@
 -- Trusted: the items of the DATA statements of a program, in the order of its lines.
-use Rattle.std.specs.Prelude.{ℕ, zero, suc, ◌+◌, ◌==◌, ◌||◌, Bool, true, List, [], ◌∷◌, ◌++◌, length, drop, nat_lt}
-use Rattle.std.specs.Prelude.{slice_range, if◌then◌else◌}
-use Rattle.std.specs.List.{position_or_len}
+use Rattle.std.specs.Prelude.{ℕ, zero, suc, ◌+◌, ◌-◌, ◌==◌, ◌||◌, Bool, true, false, List, [], ◌∷◌, ◌++◌, length, drop, nat_lt}
+use Rattle.std.specs.Prelude.{slice_range, if◌then◌else◌, Option, Some, None}
+use Rattle.std.specs.List.{position_or_len, slice_get}
 use Rattle.pr_interpreter.specs.declared.lexemes.Lexeme.{Lexeme}
 use Rattle.pr_interpreter.specs.declared.lexemes.Word.{Word}
 use Rattle.pr_interpreter.specs.declared.lexemes.Word.TheVariants.{Code, Comparison, Constant, Items, Named, Remark}
@@ -62,11 +62,34 @@ word_items text line (Named name) = []
 word_items text line (Text start end) = []
 word_items text line Remark = []
 
+-- where the last of items ends
+abbrev pub end_of : Option DataItem → ℕ
+end_of None = 0
+end_of (Some i) = i.end
+
+abbrev pub last_end : List DataItem → ℕ
+last_end is = end_of (slice_get is (length is - 1))
+
+-- The items of a word end before it does: at a colon in quotes that begin in mid-item. The machine looks for DATA from
+-- that colon on, where quotes count the other way, and finds none in the rest of the line.
+abbrev pub word_cut : List ℕ → ℕ → Word → Bool
+word_cut text line (Items start end) = let bytes = slice_range text start end in
+    nat_lt (last_end (items line start bytes)) (start + length bytes)
+word_cut text line (Code c) = false
+word_cut text line (Comparison o) = false
+word_cut text line (Constant c) = false
+word_cut text line (Named name) = false
+word_cut text line (Text start end) = false
+word_cut text line Remark = false
+
 -- the items of lexemes: those of a DATA that begins a statement
 abbrev pub lexeme_items : List ℕ → ℕ → Bool → List Lexeme → List DataItem
 lexeme_items text line begins [] = []
 lexeme_items text line begins (l ∷ ls) =
-    (if begins then word_items text line l.word else []) ++ lexeme_items text line (word_code l.word == 58) ls
+    if begins
+    then word_items text line l.word
+    ++ (if word_cut text line l.word then [] else lexeme_items text line (word_code l.word == 58) ls)
+    else lexeme_items text line (word_code l.word == 58) ls
 
 -- the items of a line
 unfoldable pub line_items : List ℕ → Line → List DataItem

@@ -7,9 +7,11 @@ pub mod Lists
 pub mod Opened
 pub mod Outputs
 pub mod Places
+pub mod Plain
 pub mod RunLaws
 pub mod Runs
 pub mod Seen
+pub mod Spelled
 pub mod States
 pub mod Steps
 pub mod Uses

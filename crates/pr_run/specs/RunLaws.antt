@@ -1,21 +1,57 @@
--- What is certain of runs: from each state on there is one.
-use Rattle.std.specs.Prelude.{ℕ, ◌≡◌, List}
+-- What is certain of runs: greater limits of steps change nothing, and what is performed comes from the program.
+use Rattle.std.specs.Prelude.{ℕ, ◌≡◌, ◌+◌, ◌++◌, Bool, true, false, IsTrue, List}
+use Rattle.std.specs.List.{All}
+use Rattle.pr_basic.specs.declared.statement.Statement.{Statement as Output}
+use Rattle.pr_basic.specs.declared.statement.Statement.TheVariants.{CloseFile, Cmd, OpenFile, Print as Printed, PrintTo}
+use Rattle.pr_interpreter.specs.declared.statements.Statement.{Statement}
+use Rattle.pr_interpreter.specs.declared.statements.Statement.TheVariants.{Close, Command, Open, Print, PrintFile}
 use Rattle.pr_run.specs.declared.ending.Ending.{Ending}
-use Rattle.pr_run.specs.declared.outcome.Outcome.{Outcome}
+use Rattle.pr_run.specs.declared.ending.Ending.TheVariants.{Break, End, Error, LastLine, OutOfMemory, Refused}
+use Rattle.pr_run.specs.declared.ending.Ending.TheVariants.{TooManySteps}
 use Rattle.pr_run.specs.declared.performed.Performed.{Performed}
+use Rattle.pr_run.specs.declared.place.Place.{Place}
 use Rattle.pr_run.specs.declared.programs.Program.{Program}
-use Rattle.pr_run.specs.Runs.{Runs, run_from}
-use Rattle.pr_run.specs.States.{State}
+use Rattle.pr_run.specs.Places.{Doing, found_at, number_at}
+use Rattle.pr_run.specs.Runs.{run}
 
-abbrev pub outcome : List Performed → Ending → Outcome
-outcome performed ending = record { performed = performed; ending = ending }
+-- ---- limits of steps
 
--- every run ends, within each limit of steps
-abbrev pub RunsEnd : Type 0
-RunsEnd = (p : Program) (limit : ℕ) (s : State)
-    → Runs p limit s (run_from p limit s).performed (run_from p limit s).ending
+-- the limit is used up
+abbrev pub is_limit : Ending → Bool
+is_limit (TooManySteps line) = true
+is_limit LastLine = false
+is_limit (End line) = false
+is_limit (Break line) = false
+is_limit (Error e line) = false
+is_limit (Refused r place) = false
+is_limit OutOfMemory = false
 
--- and there is no other
-abbrev pub RunsAreOne : Type 0
-RunsAreOne = (p : Program) (limit : ℕ) (s : State) (performed : List Performed) (ending : Ending)
-    → Runs p limit s performed ending → outcome performed ending ≡ run_from p limit s
+-- a run that does not use up its limit is the same within each greater limit
+abbrev pub LimitsAgree : Type 0
+LimitsAgree = (p : Program) (limit more : ℕ) → is_limit (run limit p).ending ≡ false
+    → run (limit + more) p ≡ run limit p
+
+-- within a greater limit a run performs the same, and then perhaps more
+abbrev pub LimitsGoOn : Type 0
+LimitsGoOn = (p : Program) (limit more : ℕ)
+    → (rest : List Performed) × ((run (limit + more) p).performed ≡ (run limit p).performed ++ rest)
+
+-- ---- what is performed
+
+-- a statement of the program performs an output statement of its own kind
+abbrev pub is_kind : Statement → Output → Bool
+is_kind (Open values) (OpenFile file device second) = true
+is_kind (Command file items) (Cmd number line) = true
+is_kind (Print items) (Printed line) = true
+is_kind (PrintFile file items) (PrintTo number line) = true
+is_kind (Close values) (CloseFile file) = true
+is_kind s o = false
+
+-- it comes from a statement of its kind at a place of the program, in the line of its number
+abbrev pub ComesFrom : Program → Performed → Type 0
+ComesFrom p d = (place : Place) × (s : Statement)
+    × (found_at p.lines place ≡ Doing s) × (d.line ≡ number_at p.lines place) × IsTrue (is_kind s d.statement)
+
+-- so does each output statement that a run performs
+abbrev pub AllComeFrom : Type 0
+AllComeFrom = (p : Program) (limit : ℕ) → All (ComesFrom p) (run limit p).performed

@@ -20,7 +20,7 @@ use Rattle.pr_run.specs.declared.steps.Done.{Done}
 use Rattle.pr_run.specs.Jumps.{Passed, Again, Over}
 use Rattle.pr_run.specs.Opened.{caller_of, loop_of}
 use Rattle.pr_run.specs.Outputs.{Output}
-use Rattle.pr_run.specs.Runs.{run_from}
+use Rattle.pr_run.specs.Runs.{outcome, run_from}
 use Rattle.pr_run.specs.States.{State}
 use Rattle.pr_run.specs.Steps.{Ends, Goes, Turn}
 use Rattle.pr_run.specs.Uses.{Valued, Worked}
@@ -38,6 +38,7 @@ state_of r = record {
   channel = r.channel;
   at_left = r.at_left;
   has_sent = r.has_sent;
+  skipped_poke = r.skipped_poke;
 }
 
 -- a value and a run
@@ -110,14 +111,14 @@ TurnEndsAs ending wanted = (ending ≡ OutOfMemory) ⊎ (wanted ≡ Ends [] endi
 
 -- what was performed comes before what else is
 abbrev pub joined : List Performed → Outcome → Outcome
-joined before o = record { performed = before ++ o.performed; ending = o.ending }
+joined before o = record o { performed = before ++ o.performed }
 
--- a run goes on with so many steps, or has ended
-abbrev pub rest_of : Program → ℕ → List Performed → Option Ending → Run → Outcome
-rest_of p n performed None r = joined performed (run_from p n (state_of r))
-rest_of p n performed (Some ending) r = record { performed = performed; ending = ending }
+-- a run goes on with so many steps, or has ended in a step from an old one
+abbrev pub rest_of : Program → ℕ → Run → List Performed → Option Ending → Run → Outcome
+rest_of p n old performed None new = joined performed (run_from p n (state_of new))
+rest_of p n old performed (Some ending) new = outcome performed ending old.skipped_poke
 
 -- what was performed and a run lead on as others did a step before
 abbrev pub LeadsOn : Program → List Performed → Run → List Performed → Run → Option Ending → Type 0
 LeadsOn p before old after new ending =
-    (n : ℕ) → joined before (run_from p (n + 1) (state_of old)) ≡ rest_of p n after ending new
+    (n : ℕ) → joined before (run_from p (n + 1) (state_of old)) ≡ rest_of p n old after ending new

@@ -1,5 +1,5 @@
 -- Trusted: the states of a run.
-use Rattle.std.specs.Prelude.{ℕ, Bool, true, false, List, []}
+use Rattle.std.specs.Prelude.{ℕ, Bool, true, false, List, [], Option, None}
 use Rattle.pr_interpreter.specs.declared.memory.Arrays.{Arrays}
 use Rattle.pr_interpreter.specs.declared.memory.Function.{Function}
 use Rattle.pr_interpreter.specs.declared.memory.Variable.{Variable}
@@ -11,7 +11,8 @@ use Rattle.pr_run.specs.Places.{after_line}
 -- A state of a run: the place of the next statement (while a statement is performed, that is the one after it); the
 -- variables that have a value, the arrays and the functions; the loops and calls that are open, the last first; how
 -- many items of DATA were read; the numbers of the open files; the number of the file that has the output, 0 for the
--- screen; whether all that is on the screen ends with a return; and whether something was sent to a file.
+-- screen; whether all that is on the screen ends with a return; whether something was sent to a file; and the number of
+-- the line of the first POKE that was left out.
 pub record State : Type 0 where
   pub place : Place
   pub variables : List Variable
@@ -23,6 +24,7 @@ pub record State : Type 0 where
   pub channel : ℕ
   pub at_left : Bool
   pub has_sent : Bool
+  pub skipped_poke : Option ℕ
 
 -- no variable has a value, and nothing is open, from a place on
 abbrev pub cleared : State → State
@@ -45,4 +47,5 @@ first_state = record {
   channel = 0;
   at_left = true;
   has_sent = false;
+  skipped_poke = None;
 }

@@ -1,5 +1,5 @@
 -- Trusted: one step of a run.
-use Rattle.std.specs.Prelude.{ℕ, ◌≡◌, ◌||◌, ◌&&◌, Bool, List, [], ◌∷◌, nat_le, if◌then◌else◌, Option, Some, None, Ok}
+use Rattle.std.specs.Prelude.{ℕ, ◌||◌, ◌&&◌, Bool, List, [], ◌∷◌, nat_le, if◌then◌else◌, Option, Some, None, Ok}
 use Rattle.std.specs.Prelude.{Err}
 use Rattle.pr_interpreter.specs.declared.expressions.Placed.{Placed}
 use Rattle.pr_interpreter.specs.declared.memory.Function.{Function}
@@ -8,7 +8,8 @@ use Rattle.pr_interpreter.specs.declared.names.Kind.TheVariants.{Number as Numer
 use Rattle.pr_interpreter.specs.declared.names.Name.{Name}
 use Rattle.pr_interpreter.specs.declared.statements.Statement.{Statement}
 use Rattle.pr_interpreter.specs.declared.statements.Statement.TheVariants.{Clear, Close, Command, Define, Dim, End, For}
-use Rattle.pr_interpreter.specs.declared.statements.Statement.TheVariants.{Go, If, Let, Next, Nothing, On, Open, Poke}
+use Rattle.pr_interpreter.specs.declared.statements.Statement.TheVariants.{Go, If, Let, Next, NoStatement, Nothing}
+use Rattle.pr_interpreter.specs.declared.statements.Statement.TheVariants.{NotTaken, On, Open, Poke}
 use Rattle.pr_interpreter.specs.declared.statements.Statement.TheVariants.{Print, PrintFile, Read, Restore, Return}
 use Rattle.pr_interpreter.specs.declared.statements.Statement.TheVariants.{Stop}
 use Rattle.pr_interpreter.specs.declared.values.BasicError.{BasicError}
@@ -16,7 +17,7 @@ use Rattle.pr_interpreter.specs.declared.values.BasicError.TheVariants.{Syntax, 
 use Rattle.pr_interpreter.specs.Memory.{same_name}
 use Rattle.pr_run.specs.declared.ending.Ending.{Ending}
 use Rattle.pr_run.specs.declared.ending.Ending.TheVariants.{Break, End as Ended, Error, LastLine, Refused}
-use Rattle.pr_run.specs.declared.ending.Refusal.TheVariants.{Poke as Poked}
+use Rattle.pr_run.specs.declared.ending.Refusal.TheVariants.{NotTaken as Unknown, Poke as Poked}
 use Rattle.pr_run.specs.declared.performed.Performed.{Performed}
 use Rattle.pr_run.specs.Items.{read_statement, restore_statement}
 use Rattle.pr_run.specs.Jumps.{for_statement, if_statement, jump, next_statement, on_statement, return_statement}
@@ -26,7 +27,8 @@ use Rattle.pr_run.specs.Places.{Found, Doing, LineEnd, ProgramEnd, after_stateme
 use Rattle.pr_run.specs.declared.programs.Program.{Program}
 use Rattle.pr_run.specs.States.{State, next_line}
 use Rattle.pr_run.specs.Assignments.{clear_statement, dim_statement, is_system, let_statement, replaced}
-use Rattle.pr_run.specs.Uses.{Worked, line_at, statement_place}
+use Rattle.pr_run.specs.declared.uses.Use.{Use}
+use Rattle.pr_run.specs.Uses.{Worked, line_at, statement_place, statement_use}
 use Rattle.pr_run.specs.Worked.{then_on, whole}
 
 -- ---- DEF FN and POKE
@@ -65,13 +67,21 @@ define_statement p s name variable nodes =
 abbrev pub is_harmless : ℕ → Bool
 is_harmless a = (nat_le 1024 a && nat_le a 2023) || (nat_le 53248 a && nat_le a 56319)
 
-abbrev pub poke_at : ℕ → ℕ → State → Worked State
-poke_at place a s = if is_harmless a then Ok s else Err (Refused (Poked a) place)
+abbrev pub or_else : Option ℕ → ℕ → Option ℕ
+or_else (Some first) n = Some first
+or_else None n = Some n
+
+-- a POKE of a line is left out: the line of the first one is kept
+abbrev pub poke_skipped : ℕ → State → State
+poke_skipped line s = record s { skipped_poke = or_else s.skipped_poke line }
+
+abbrev pub poke_at : Use → ℕ → State → Worked State
+poke_at u a s = if is_harmless a then Ok (poke_skipped u.line s) else Err (Refused (Poked a) u.place)
 
 -- POKE is left out where it cannot change what is printed
 unfoldable pub poke_statement : Program → State → List Placed → List Placed → Worked State
 poke_statement p s address value =
-    then_on (whole 65535 p s address) (λ a t. then_on (whole 255 p t value) (λ b u. poke_at (statement_place p u) a u))
+    then_on (whole 65535 p s address) (λ a t. then_on (whole 255 p t value) (λ b u. poke_at (statement_use p u) a u))
 
 -- ---- steps
 
@@ -94,29 +104,36 @@ abbrev pub output : ℕ → Worked Output → Turn
 output line (Ok o) = output_turn line o.error o
 output line (Err ending) = Ends [] ending
 
--- what a statement does in a state whose place is the one after it
+-- the state after a statement that is none for output, in a state whose place is the one after it
+unfoldable pub changed : Program → State → Statement → Worked State
+changed p s Nothing = Ok s
+changed p s (Let target value) = let_statement p s target value
+changed p s (If condition line) = if_statement p s condition line
+changed p s (For variable from to step) = for_statement p s variable from to step
+changed p s (Next variables) = next_statement p s variables
+changed p s (Go way line) = jump p way line s
+changed p s Return = return_statement p s
+changed p s (On choice way lines) = on_statement p s choice way lines
+changed p s (Read targets) = read_statement p s targets
+changed p s Restore = Ok (restore_statement s)
+changed p s (Dim arrays) = dim_statement p s arrays
+changed p s (Define name variable value) = define_statement p s name variable value
+changed p s (Poke address value) = poke_statement p s address value
+changed p s Clear = clear_statement p s
+changed p s Stop = Err (Break (line_at p s))
+changed p s End = Err (Ended (line_at p s))
+changed p s NoStatement = Err (Error Syntax (line_at p s))
+changed p s NotTaken = Err (Refused Unknown (statement_place p s))
+changed p s output = Ok s
+
+-- what a statement does in such a state
 unfoldable pub turn : Program → State → Statement → Turn
-turn p s Nothing = Goes s []
-turn p s (Let target value) = quiet (let_statement p s target value)
-turn p s (If condition line) = quiet (if_statement p s condition line)
-turn p s (For variable from to step) = quiet (for_statement p s variable from to step)
-turn p s (Next variables) = quiet (next_statement p s variables)
-turn p s (Go way line) = quiet (jump p way line s)
-turn p s Return = quiet (return_statement p s)
-turn p s (On choice way lines) = quiet (on_statement p s choice way lines)
-turn p s (Read targets) = quiet (read_statement p s targets)
-turn p s Restore = Goes (restore_statement s) []
-turn p s (Dim arrays) = quiet (dim_statement p s arrays)
-turn p s (Define name variable value) = quiet (define_statement p s name variable value)
 turn p s (Print items) = output (line_at p s) (print_statement p s items)
 turn p s (PrintFile file items) = output (line_at p s) (print_file_statement p s file items)
 turn p s (Command file items) = output (line_at p s) (command_statement p s file items)
 turn p s (Open values) = output (line_at p s) (open_statement p s values)
 turn p s (Close values) = output (line_at p s) (close_statement p s values)
-turn p s (Poke address value) = quiet (poke_statement p s address value)
-turn p s Clear = quiet (clear_statement p s)
-turn p s Stop = Ends [] (Break (line_at p s))
-turn p s End = Ends [] (Ended (line_at p s))
+turn p s other = quiet (changed p s other)
 
 abbrev pub turn_at : Program → State → Found → Turn
 turn_at p s (Doing statement) = turn p (record s { place = after_statement s.place }) statement
@@ -126,11 +143,3 @@ turn_at p s ProgramEnd = Ends [] LastLine
 -- a step: a statement, or from the end of a line to the next one
 unfoldable pub step : Program → State → Turn
 step p s = turn_at p s (found_at p.lines s.place)
-
--- a step leads from a state to another one, and performs these statements: one, or none
-abbrev pub Steps : Program → State → List Performed → State → Type 0
-Steps p s performed t = step p s ≡ Goes t performed
-
--- a run ends in a state, after it performs these statements
-abbrev pub Stops : Program → State → List Performed → Ending → Type 0
-Stops p s performed ending = step p s ≡ Ends performed ending

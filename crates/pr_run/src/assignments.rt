@@ -1,11 +1,16 @@
 //! What is assigned to: variables, and elements of arrays. DIM and CLR.
 
-ghost use Rattle.std.specs.Prelude.{◌≡◌, ◌+◌, ◌-◌, ◌<◌, ◌≤◌, ◌++◌, length, replicate, IfErr, IfOk, IfSome, MatchOption, OnOk, Ok};
+ghost use Rattle.std.specs.Prelude.{◌≡◌, ◌+◌, ◌-◌, ◌<◌, ◌≤◌, ◌++◌, length, replicate, IfErr, IfOk, IfSome};
+ghost use Rattle.std.specs.Prelude.{MatchOption, OnOk, Ok};
 ghost use Rattle.std.specs.List.{position_or_len};
 ghost use Rattle.std.specs.Option.{option_copied};
 ghost use Rattle.pr_interpreter.specs.Memory.{array_of, first_value, same_name, with_array};
 ghost use Rattle.pr_run.specs.Seen.{EndsAs, gives, state_of};
-ghost use Rattle.pr_run.specs.Assignments.{array_with, clear_statement, dim_statement, dimension, dimensioned, element_count, element_in, index, indices, is_system, let_statement, made_array, made_undimensioned, place_in, stored, system_ending, target_place, with_element, with_element_of, with_its_array, with_value_at, with_variable};
+ghost use Rattle.pr_run.specs.Assignments.{array_with, clear_statement, dim_statement, dimension, dimensioned};
+ghost use Rattle.pr_run.specs.Assignments.{element_count, element_in, index, indices, is_system, let_statement};
+ghost use Rattle.pr_run.specs.Assignments.{made_array, made_undimensioned, place_in, stored, system_ending};
+ghost use Rattle.pr_run.specs.Assignments.{target_place, with_element, with_element_of, with_its_array, with_value_at};
+ghost use Rattle.pr_run.specs.Assignments.{with_variable};
 ghost use Rattle.pr_run.specs.Worked.{valued};
 
 use crate::ending::{Ending, Refusal};

@@ -3,7 +3,8 @@
 ghost use Rattle.std.specs.Prelude.{◌≡◌, ◌++◌, ◌+◌, ◌<◌, ◌≤◌, ◌==◌, ◌^◌, IfOk, OnOk, length, slice_range, true};
 ghost use Rattle.pr_interpreter.specs.Lines.{blanks};
 ghost use Rattle.pr_interpreter.specs.Reading.{word_code};
-ghost use Rattle.pr_run.specs.Data.{data_of, front_item, front_size, item_size, items, lexeme_items, line_items, plain_size, string_size, word_items};
+ghost use Rattle.pr_run.specs.Data.{data_of, front_item, front_size, item_size, items, last_end, lexeme_items};
+ghost use Rattle.pr_run.specs.Data.{line_items, plain_size, string_size, word_cut, word_items};
 
 use pr_interpreter::{Lexeme, Line, Word, Writing, lexemes_of};
 use std::alloc::{AllocError, Global};
@@ -131,18 +132,39 @@ fn put_items(
     Ok(())
 }
 
-/// Adds the items of a word of a line.
-fn put_word(found: &mut Vec<DataItem>, text: &[u8], line: u16, word: Word) -> Result<(), AllocError>
-    ensures { OnOk result (found.new.items ≡ found.old.items ++ word_items text.now line word) }
+/// Returns where the last of items ends.
+fn last_end(items: &[DataItem]) -> usize
+    ensures { result ≡ last_end items.now }
+{
+    match items.last() {
+        Some(item) => item.end,
+        None => 0,
+    }
+}
+
+/// Adds the items of a word of a line. Returns whether they end before the word does.
+#[tactic(auto, using(crate::proofs::DataLemmas::last_joined))]
+fn put_word(
+    found: &mut Vec<DataItem>,
+    text: &[u8],
+    line: u16,
+    word: Word,
+) -> Result<bool, AllocError>
+    ensures items { OnOk result (found.new.items ≡ found.old.items ++ word_items text.now line word) }
+    ensures cut { IfOk result (λ cut. cut ≡ word_cut text.now line word) }
 {
     match word {
-        Word::Items { start, end } => put_items(found, line, start, slice_of(text, start, end)),
+        Word::Items { start, end } => {
+            let bytes = slice_of(text, start, end);
+            put_items(found, line, start, bytes)?;
+            Ok(last_end(found.as_slice()) < start + bytes.len())
+        }
         Word::Code(_)
         | Word::Comparison(_)
         | Word::Constant(_)
         | Word::Named(_)
         | Word::Text { .. }
-        | Word::Remark => Ok(()),
+        | Word::Remark => Ok(false),
     }
 }
 
@@ -172,8 +194,8 @@ fn put_lexemes(
 {
     let mut begins = true;
     'each: for lexeme in lexemes {
-        if begins {
-            put_word(found, text, line, lexeme.word)?;
+        if begins && put_word(found, text, line, lexeme.word)? {
+            return Ok(());
         }
         begins = is_colon(lexeme.word);
     }

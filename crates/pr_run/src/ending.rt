@@ -7,7 +7,7 @@ use pr_interpreter::BasicError;
 pub enum Refusal {
     /// What the machine would do is not certain: a value, or the screen's column.
     NotCertain,
-    /// A function or a variable is not known, as RND or TI.
+    /// A function, a variable or a statement is not known, as RND, TI or INPUT.
     NotTaken,
     /// POKE to this address may change what is printed.
     Poke(u16),
@@ -40,7 +40,7 @@ pub enum Ending {
     Error { error: BasicError, line: u16 },
     /// Something is not run, at a place: the number of bytes before it in the text.
     Refused { refusal: Refusal, place: usize },
-    /// After so many steps, in a line.
+    /// After so many steps, in a line; a run that has come past the last line is over.
     TooManySteps(u16),
     /// Memory ran out.
     OutOfMemory,

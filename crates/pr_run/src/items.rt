@@ -6,7 +6,9 @@ ghost use Rattle.std.specs.Option.{option_copied};
 ghost use Rattle.pr_interpreter.specs.Functions.{is_solid};
 ghost use Rattle.pr_interpreter.specs.Symbols.{is_quote};
 ghost use Rattle.pr_run.specs.Assignments.{assigned};
-ghost use Rattle.pr_run.specs.Items.{is_blank, item_kept, item_value, number_by, number_in, number_item, quoted_item, read_item, read_statement, read_target, restore_statement, text_item, text_within, with_sign};
+ghost use Rattle.pr_run.specs.Items.{is_blank, item_kept, item_value, number_by, number_in, number_item, quoted_item};
+ghost use Rattle.pr_run.specs.Items.{read_item, read_statement, read_target, restore_statement, text_item};
+ghost use Rattle.pr_run.specs.Items.{text_within, with_sign};
 ghost use Rattle.pr_run.specs.Seen.{EndsAs, state_of};
 
 use crate::assignments::{store, target_place};

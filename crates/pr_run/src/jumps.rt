@@ -2,7 +2,10 @@
 
 ghost use Rattle.std.specs.Prelude.{◌≡◌, ◌<◌, ◌≤◌, ◌-◌, ◌^◌, IfErr, IfOk, OnOk, Ok};
 ghost use Rattle.pr_interpreter.specs.Memory.{variable_value};
-ghost use Rattle.pr_run.specs.Jumps.{advanced, begun, branch, chosen, for_kind, for_statement, for_variable, go_to, if_statement, jump, jump_if, left_loop, next_last, next_of, next_statement, next_variable, next_variables, number_or_zero, on_statement, return_statement, step_of, step_use, with_limit, with_open, with_room, with_step};
+ghost use Rattle.pr_run.specs.Jumps.{advanced, begun, branch, chosen, for_kind, for_statement, for_variable, go_to};
+ghost use Rattle.pr_run.specs.Jumps.{if_statement, jump, jump_if, left_loop, next_last, next_of, next_statement};
+ghost use Rattle.pr_run.specs.Jumps.{next_variable, next_variables, number_or_zero, on_statement, return_statement};
+ghost use Rattle.pr_run.specs.Jumps.{step_of, step_use, with_limit, with_open, with_room, with_step};
 ghost use Rattle.pr_interpreter.specs.Numbers.{sum};
 ghost use Rattle.pr_interpreter.specs.Values.{calculated};
 ghost use Rattle.pr_run.specs.Opened.{loop_of, stack_limit};

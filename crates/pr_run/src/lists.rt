@@ -2,7 +2,9 @@
 
 ghost use Rattle.std.specs.Prelude.{◌≡◌, ◌++◌, ◌∷◌, ◌≤◌, [], IfErr, IfOk, OnOk, length, true};
 ghost use Rattle.pr_basic.specs.Limits.{byte_limit};
-ghost use Rattle.pr_run.specs.Lists.{at_column, at_left_after, ends_after, fitting, is_value, number_bytes, part_bytes, printed, shown, step_byte, steps_right, tab_bytes, space_bytes, value_bytes, with_part, with_parts};
+ghost use Rattle.pr_run.specs.Lists.{at_column, at_left_after, ends_after, fitting, is_value, number_bytes};
+ghost use Rattle.pr_run.specs.Lists.{part_bytes, printed, shown, step_byte, steps_right, tab_bytes, space_bytes};
+ghost use Rattle.pr_run.specs.Lists.{value_bytes, with_part, with_parts};
 ghost use Rattle.pr_run.specs.Seen.{EndsAs, gives, state_of};
 ghost use Rattle.pr_run.specs.Uses.{used};
 ghost use Rattle.pr_interpreter.specs.Functions.{number_text};

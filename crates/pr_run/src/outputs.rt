@@ -2,7 +2,9 @@
 
 ghost use Rattle.std.specs.Prelude.{◌≡◌, ◌==◌, not, [], IfErr, IfOk, Ok, drop, take};
 ghost use Rattle.std.specs.List.{filter};
-ghost use Rattle.pr_run.specs.Outputs.{close_statement, close_with, command_statement, command_to, directed, file_numbers, is_open, no_line, numbers, open_error, open_file, open_statement, open_with, print_file_statement, print_statement, print_to, value_place};
+ghost use Rattle.pr_run.specs.Outputs.{close_statement, close_with, command_statement, command_to, directed};
+ghost use Rattle.pr_run.specs.Outputs.{file_numbers, is_open, no_line, numbers, open_error, open_file, open_statement};
+ghost use Rattle.pr_run.specs.Outputs.{open_with, print_file_statement, print_statement, print_to, value_place};
 ghost use Rattle.pr_run.specs.Uses.{statement_place};
 ghost use Rattle.pr_run.specs.Worked.{whole};
 ghost use Rattle.pr_run.specs.Seen.{EndsAs, IsDevice, IsSecond, gives, puts, state_of};

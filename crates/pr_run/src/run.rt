@@ -2,7 +2,8 @@
 
 ghost use Rattle.std.specs.Prelude.{◌≡◌, ◌++◌, IfOk, OnOk};
 ghost use Rattle.std.specs.Option.{option_to_list};
-ghost use Rattle.pr_run.specs.Runs.{run};
+ghost use Rattle.std.specs.List.{slice_get};
+ghost use Rattle.pr_run.specs.Runs.{ending_in, run};
 ghost use Rattle.pr_run.specs.Endings.{is_memory};
 ghost use Rattle.pr_run.specs.Seen.{LeadsOn};
 
@@ -12,7 +13,6 @@ use crate::performed::Performed;
 use crate::programs::Program;
 use crate::state::Run;
 use crate::steps::step;
-use crate::worked::line_at;
 use pr_page::Sequence;
 use std::alloc::{AllocError, Global};
 
@@ -68,8 +68,18 @@ fn advance(
     }
 }
 
+/// Returns how a run ends that has no step left: in a line the limit is used up; after the last line the run is over.
+fn without_steps(program: &Program, run: &Run) -> Ending
+    ensures { result ≡ ending_in (slice_get program.now.lines run.now.place.line) }
+{
+    match program.lines.as_slice().get(run.place.line) {
+        Some(line) => Ending::TooManySteps(line.number),
+        None => Ending::LastLine,
+    }
+}
+
 /// Runs a program, for so many steps at most: a step is a statement, or goes from the end of a line to the next one.
-/// Returns what it performs, and how it ends.
+/// Returns what it performs, how it ends, and the line of the first POKE that it leaves out.
 ///
 /// # Errors
 ///
@@ -83,15 +93,18 @@ pub fn run_program(alloc: Global, program: &Program, limit: u64) -> Result<Outco
     let mut left = limit;
     'steps: while 0 < left {
         left -= 1;
+        let skipped_poke = run.skipped_poke;
         if let Some(ending) = advance(alloc, program, &mut run, &mut performed)? {
             return Ok(Outcome {
                 performed: Sequence::from_vec(performed),
                 ending,
+                skipped_poke,
             });
         }
     }
     Ok(Outcome {
         performed: Sequence::from_vec(performed),
-        ending: Ending::TooManySteps(line_at(program, &run)),
+        ending: without_steps(program, &run),
+        skipped_poke: run.skipped_poke,
     })
 }

@@ -1,9 +1,36 @@
 //! Laws of the definitions, with nothing to run.
 
-ghost use Rattle.pr_run.specs.RunLaws.{RunsAreOne, RunsEnd};
+ghost use Rattle.pr_run.specs.Plain.{CharactersAreConstant, DigitsAreNumbers, PlainRuns, StringsAreConstant};
+ghost use Rattle.pr_run.specs.RunLaws.{AllComeFrom, LimitsAgree, LimitsGoOn};
+ghost use Rattle.pr_run.specs.Spelled.{LinesAreRead};
 
-/// A law: from each state on there is one run, and it ends, within each limit of steps.
-pub fn runs_are_one()
-    ensures found { RunsEnd }
-    ensures one { RunsAreOne }
+/// A law: a greater limit of steps changes no run that does not use up a smaller one, and what is performed within a
+/// smaller one is performed first within a greater one.
+pub fn limits_agree()
+    ensures same { LimitsAgree }
+    ensures first { LimitsGoOn }
+{}
+
+/// A law: each output statement that a run performs comes from a statement of its kind, in the line of its number.
+pub fn statements_come_from_their_lines()
+    ensures { AllComeFrom }
+{}
+
+/// A law: digits of at most 255, a string between quotes, and CHR$ of such digits are constants.
+pub fn literals_are_constant()
+    ensures digits { DigitsAreNumbers }
+    ensures strings { StringsAreConstant }
+    ensures characters { CharactersAreConstant }
+{}
+
+/// A law: a program of OPEN, CMD, PRINT, PRINT#, CLOSE and REM alone, with constants, performs these statements in
+/// order, up to the first that has an error.
+pub fn plain_programs_run_in_order()
+    ensures { PlainRuns }
+{}
+
+/// A law: the lexemes of a line of OPEN, CMD, PRINT, PRINT#, CLOSE and REM, with constants, as scripts spell them, are
+/// read as statements that say them.
+pub fn script_lines_are_read()
+    ensures { LinesAreRead }
 {}

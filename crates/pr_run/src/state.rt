@@ -30,6 +30,8 @@ pub struct Run {
     pub at_left: bool,
     /// Whether something was sent to a file.
     pub has_sent: bool,
+    /// The number of the line of the first POKE that was left out.
+    pub skipped_poke: Option<u16>,
 }
 
 impl Run {
@@ -51,6 +53,7 @@ impl Run {
             channel: 0,
             at_left: true,
             has_sent: false,
+            skipped_poke: None,
         }
     }
 

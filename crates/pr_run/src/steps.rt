@@ -4,7 +4,9 @@ ghost use Rattle.std.specs.Prelude.{◌≡◌, ◌<◌, ◌-◌, ◌^◌, IfErr,
 ghost use Rattle.std.specs.List.{position_or_len};
 ghost use Rattle.pr_interpreter.specs.Memory.{same_name};
 ghost use Rattle.pr_run.specs.Seen.{EndsAs, TurnEndsAs, ended, nothing, output_done, state_of, turned};
-ghost use Rattle.pr_run.specs.Steps.{define_error, define_statement, kind_error, is_harmless, poke_statement, step, turn, with_function};
+ghost use Rattle.pr_run.specs.Steps.{changed, define_error, define_statement, is_harmless, kind_error, poke_skipped};
+ghost use Rattle.pr_run.specs.Steps.{poke_statement, step, turn, with_function};
+ghost use Rattle.pr_run.specs.Uses.{line_at, statement_place};
 
 use crate::assignments::{clear_statement, dim_statement, is_system, let_statement};
 use crate::ending::{Ending, Refusal};
@@ -20,7 +22,7 @@ use crate::outputs::{
 use crate::performed::Performed;
 use crate::programs::Program;
 use crate::state::Run;
-use crate::worked::{line_at, statement_place, whole};
+use crate::worked::{line_at, statement_place, statement_use, whole};
 use pr_interpreter::{BasicError, Function, Kind, Name, Placed, Statement, same_name};
 use pr_page::Sequence;
 use std::alloc::Global;
@@ -123,6 +125,15 @@ fn is_harmless(address: u16) -> bool
     1024 <= address && address <= 2023 || 53248 <= address && address <= 56319
 }
 
+/// Keeps the line of the first POKE that is left out.
+fn note_poke(line: u16, run: &mut Run)
+    ensures { state_of run.new ≡ poke_skipped line (state_of run.old) }
+{
+    if run.skipped_poke.is_none() {
+        run.skipped_poke = Some(line);
+    }
+}
+
 /// Performs POKE: it is left out where it cannot change what is printed.
 #[tactic(auto, unfolding(crate::specs::Steps::poke_statement))]
 fn poke_statement(
@@ -137,12 +148,14 @@ fn poke_statement(
 {
     let to = whole(alloc, 65535, program, run, address)?;
     let _byte = whole(alloc, 255, program, run, value)?;
+    let at = statement_use(program, run);
     if is_harmless(to) {
+        note_poke(at.line, run);
         return Ok(());
     }
     Err(Ending::Refused {
         refusal: Refusal::Poke(to),
-        place: statement_place(program, run),
+        place: at.place,
     })
 }
 
@@ -180,6 +193,86 @@ fn put_out(line: u16, output: Output) -> Done
     }
 }
 
+/// Returns how a run ends that comes to no statement.
+fn syntax_error(program: &Program, run: &Run) -> Ending
+    ensures { result ≡ Ending.Error BasicError.Syntax (line_at program.now (state_of run.now)) }
+{
+    Ending::Error {
+        error: BasicError::Syntax,
+        line: line_at(program, run),
+    }
+}
+
+/// Returns how a run ends that comes to a statement that is not taken.
+fn not_taken(program: &Program, run: &Run) -> Ending
+    ensures { result ≡ Ending.Refused Refusal.NotTaken (statement_place program.now (state_of run.now)) }
+{
+    Ending::Refused {
+        refusal: Refusal::NotTaken,
+        place: statement_place(program, run),
+    }
+}
+
+/// Performs a statement that is none for output, in a state whose place is the one after it.
+#[tactic(auto, unfolding(crate::specs::Steps::changed))]
+fn change(
+    alloc: Global,
+    program: &Program,
+    run: &mut Run,
+    statement: &Statement,
+) -> Result<(), Ending>
+    requires { run.old.place.line < 2 ^ 64 - 1 }
+    ensures ok { OnOk result (changed program.now (state_of run.old) statement.now ≡ Ok (state_of run.new)) }
+    ensures err { IfErr result (λ e. EndsAs e (changed program.now (state_of run.old) statement.now)) }
+{
+    match statement {
+        Statement::Let { target, value } => {
+            let_statement(alloc, program, run, target, value.as_slice())
+        }
+        Statement::If { condition, line } => {
+            if_statement(alloc, program, run, condition.as_slice(), *line)
+        }
+        Statement::For {
+            variable,
+            from,
+            to,
+            step,
+        } => {
+            let (from, to) = (from.as_slice(), to.as_slice());
+            for_statement(alloc, program, run, *variable, from, to, step)
+        }
+        Statement::Next { variables } => {
+            next_statement(alloc, program, run, variables.as_slice())
+        }
+        Statement::Go { way, line } => jump(program, *way, *line, run),
+        Statement::Return => return_statement(program, run),
+        Statement::On { choice, way, lines } => {
+            let (choice, lines) = (choice.as_slice(), lines.as_slice());
+            on_statement(alloc, program, run, choice, *way, lines)
+        }
+        Statement::Read { targets } => read_statement(alloc, program, run, targets.as_slice()),
+        Statement::Restore => {
+            restore_statement(run);
+            Ok(())
+        }
+        Statement::Dim { arrays } => dim_statement(alloc, program, run, arrays.as_slice()),
+        Statement::Define {
+            name,
+            variable,
+            value,
+        } => define_statement(alloc, program, run, *name, *variable, value.as_slice()),
+        Statement::Poke { address, value } => {
+            poke_statement(alloc, program, run, address.as_slice(), value.as_slice())
+        }
+        Statement::Clear => clear_statement(alloc, program, run),
+        Statement::Stop => Err(Ending::Break(line_at(program, run))),
+        Statement::End => Err(Ending::End(line_at(program, run))),
+        Statement::NoStatement => Err(syntax_error(program, run)),
+        Statement::NotTaken => Err(not_taken(program, run)),
+        _ => Ok(()),
+    }
+}
+
 /// Performs a statement in a state whose place is the one after it.
 #[tactic(auto, unfolding(crate::specs::Steps::turn))]
 fn turn(
@@ -194,75 +287,6 @@ fn turn(
 {
     let line = line_at(program, run);
     match statement {
-        Statement::Nothing => Ok(nothing()),
-        Statement::Let { target, value } => {
-            let_statement(alloc, program, run, target, value.as_slice())?;
-            Ok(nothing())
-        }
-        Statement::If {
-            condition,
-            line: target,
-        } => {
-            if_statement(alloc, program, run, condition.as_slice(), *target)?;
-            Ok(nothing())
-        }
-        Statement::For {
-            variable,
-            from,
-            to,
-            step,
-        } => {
-            let (from, to) = (from.as_slice(), to.as_slice());
-            for_statement(alloc, program, run, *variable, from, to, step)?;
-            Ok(nothing())
-        }
-        Statement::Next { variables } => {
-            next_statement(alloc, program, run, variables.as_slice())?;
-            Ok(nothing())
-        }
-        Statement::Go { way, line: target } => {
-            jump(program, *way, *target, run)?;
-            Ok(nothing())
-        }
-        Statement::Return => {
-            return_statement(program, run)?;
-            Ok(nothing())
-        }
-        Statement::On { choice, way, lines } => {
-            let (choice, lines) = (choice.as_slice(), lines.as_slice());
-            on_statement(alloc, program, run, choice, *way, lines)?;
-            Ok(nothing())
-        }
-        Statement::Read { targets } => {
-            read_statement(alloc, program, run, targets.as_slice())?;
-            Ok(nothing())
-        }
-        Statement::Restore => {
-            restore_statement(run);
-            Ok(nothing())
-        }
-        Statement::Dim { arrays } => {
-            dim_statement(alloc, program, run, arrays.as_slice())?;
-            Ok(nothing())
-        }
-        Statement::Define {
-            name,
-            variable,
-            value,
-        } => {
-            define_statement(alloc, program, run, *name, *variable, value.as_slice())?;
-            Ok(nothing())
-        }
-        Statement::Poke { address, value } => {
-            poke_statement(alloc, program, run, address.as_slice(), value.as_slice())?;
-            Ok(nothing())
-        }
-        Statement::Clear => {
-            clear_statement(alloc, program, run)?;
-            Ok(nothing())
-        }
-        Statement::Stop => Ok(ended(Ending::Break(line))),
-        Statement::End => Ok(ended(Ending::End(line))),
         Statement::Print { items } => {
             let put = print_statement(alloc, program, run, items.as_slice())?;
             Ok(put_out(line, put))
@@ -284,6 +308,10 @@ fn turn(
         Statement::Close { values } => {
             let put = close_statement(alloc, program, run, values.as_slice())?;
             Ok(put_out(line, put))
+        }
+        _ => {
+            change(alloc, program, run, statement)?;
+            Ok(nothing())
         }
     }
 }

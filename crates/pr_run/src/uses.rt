@@ -1,7 +1,9 @@
 //! What the values of a statement give.
 
 ghost use Rattle.std.specs.Prelude.{◌≡◌, ◌≤◌, IfOk};
-ghost use Rattle.pr_run.specs.Uses.{direction_by, ending_of, ends_loop, first_place, halted, is_long, kept, may_end, may_go_on, number_of, number_value, place_from, short_of, short_value, truth_of, used, whole_of};
+ghost use Rattle.pr_run.specs.Uses.{direction_by, ending_of, ends_loop, first_place, halted, is_long, kept, may_end};
+ghost use Rattle.pr_run.specs.Uses.{may_go_on, number_of, number_value, place_from, short_of, short_value, truth_of};
+ghost use Rattle.pr_run.specs.Uses.{used, whole_of};
 
 use crate::ending::{Ending, Refusal};
 use crate::opened::Direction;
