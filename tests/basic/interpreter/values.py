@@ -198,10 +198,10 @@ def power(a: Number, b: Number) -> Number:
         raise NotCertain
     sign = 1
     if a.sign < 0:
+        if b.low.denominator != 1 and math.floor(b.low) == math.floor(b.high):  # no value is whole
+            raise BasicError("ILLEGAL QUANTITY")
         if b.low != b.high:
             raise NotCertain
-        if b.low.denominator != 1:
-            raise BasicError("ILLEGAL QUANTITY")
         sign = -1 if b.low.numerator % 2 else 1
     corners = [it for base in {low, high} for exponent in {b.low, b.high} for it in real_power(base, exponent)]
     return near(sign, min(corners), max(corners), 24)
