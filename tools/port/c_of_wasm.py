@@ -77,7 +77,7 @@ class Value:
 
     def condition(self):
         """As a condition, of which only counts whether it is 0."""
-        return self.text[2:] if re.fullmatch(r"!!\w+(\(\w+\))?", self.text) else self.text
+        return self.text[2:] if re.fullmatch(r"!!\w+(\([^()]*\))?", self.text) else self.text
 
     def compared(self):
         """As an operand of a comparison, beside which a sum needs no parentheses."""
