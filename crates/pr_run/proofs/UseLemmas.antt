@@ -3,8 +3,9 @@ use Rattle.std.proofs.Common.{Ok}
 use Rattle.std.proofs.lemmas.Bool.{cases_Bool, leb-true}
 use Rattle.pr_interpreter.specs.declared.values.Stop.{Stop}
 use Rattle.pr_interpreter.specs.declared.whole_numbers.Whole.{Whole}
-use Rattle.pr_interpreter.specs.Functions.{is_negative, whole_to, whole_within}
+use Rattle.pr_interpreter.specs.Functions.{whole_to, whole_within}
 use Rattle.pr_interpreter.specs.Numbers.{Known, floor, order_of, whole_number, zero_number}
+use Rattle.pr_interpreter.specs.Values.{is_below}
 
 abbrev pub whole_found : ℕ → Result ℕ Stop
 whole_found k = Ok k
@@ -27,7 +28,7 @@ within_fits greatest k (Some w) e =
 pub whole_fits : (greatest k : ℕ) (n : Known) → whole_to greatest n ≡ whole_found k → k ≤ greatest
 unfolding whole_to
 whole_fits greatest k n e =
-    let low = is_negative (order_of n zero_number) in
+    let low = is_below (order_of n zero_number) in
     let high = not (order_of n (whole_number false (greatest + 1))).less in
     elim (cases_Bool (low || high)) [
       | inl hit ↦ let none = rw hit at e in absurd (cc)
