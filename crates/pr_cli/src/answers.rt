@@ -1,10 +1,11 @@
 //! A task done: its files opened, its job done over them, and what there is to say on standard error.
 
-ghost use Rattle.std.specs.Prelude.{◌≡◌, None, take, IfErr, IfOk, IfSome};
+ghost use Rattle.std.specs.Prelude.{◌≡◌, ◌≤◌, None, length, take, IfErr, IfOk, IfSome};
 ghost use Rattle.std.specs.Io.KnownBytes.{Consumes};
 ghost use Rattle.pr_input.specs.Watched.{wrapped};
 ghost use Rattle.pr_cli.specs.Answered.{EndsTask};
-ghost use Rattle.pr_cli.specs.Jobs.{EndsJob, EndsListing, EndsRecording, EndsWork, finds_format, first_bytes, form_of, found_job, started_job, strict_of};
+ghost use Rattle.pr_jobs.specs.Pages.{script_limit};
+ghost use Rattle.pr_cli.specs.Jobs.{EndsEither, EndsInput, EndsJob, EndsListing, EndsProgram, EndsRecording, EndsRun, EndsWork, finds_format, first_bytes, form_of, found_job, started_job, strict_of};
 ghost use Rattle.pr_cli.specs.Statuses.{answer_end, fault_status, job_end, status_of, strict_end};
 ghost use Rattle.pr_cli.specs.declared.statuses.End.TheVariants as end;
 
@@ -17,6 +18,7 @@ use crate::notes::{
     note_stop, petcat_note, program_note, text_note, view_of,
 };
 use crate::outside::Outside;
+use crate::programs::{is_explainable, tell_basic, tell_ran};
 use crate::progress::{Progress, clear};
 use crate::refusals::{refuse, refuse_same};
 use crate::shown::Shown;
@@ -28,9 +30,10 @@ use crate::told::{
 };
 use pr_dots::Shapes;
 use pr_files::{Noting, Unsaved, save};
-use pr_jobs::{CliFault, PictureFault, RunEnd, SCRIPT_LIMIT, TeeReader, Watched};
+use pr_jobs::{CliFault, PictureFault, RunEnd, SCRIPT_LIMIT, TeeReader, Watched, read_whole};
 use pr_listing::{ListingForm, TextFault, plain_form, read_text};
 use pr_options::{DecodeOutput, Job, PagesOutput, Task};
+use pr_programs::{BasicFault, Form, is_run, made_script, typed_program};
 use pr_render::Format;
 use pr_serial::Present;
 use std::alloc::Global;
@@ -105,6 +108,8 @@ struct Reporting<'a> {
     is_quiet: bool,
     /// What is to be noted of the listing of which a script was made.
     note: ListingNote,
+    /// The script came of a program, so its lines are not the user's.
+    is_made: bool,
     /// The input can be read a second time for that: it is a file by name, and no pipe or device. Any other is kept.
     is_file: bool,
     /// How many bytes have come of the input.
@@ -172,6 +177,7 @@ fn open_input(
         is_noted: !around.is_quiet && (around.is_explained || around.terminals.error),
         is_quiet: around.is_quiet,
         note: ListingNote::Nothing,
+        is_made: false,
         is_file: false,
         count: &count,
         is_shown: &is_shown,
@@ -241,6 +247,7 @@ pub fn answer_given(
         is_noted: telling.is_explained && !telling.is_quiet,
         is_quiet: telling.is_quiet,
         note: ListingNote::Nothing,
+        is_made: false,
         is_file: false,
         count: &count,
         is_shown: &is_shown,
@@ -295,7 +302,10 @@ fn is_standard_output(name: &str) -> bool {
 /// Says on standard error what a run waits for whose input comes from a terminal.
 pub fn tell_waiting(rt: &impl Eprint, job: &Job<'_>) {
     let input = match job {
-        Job::Pages(..) | Job::Bus(..) => "a script",
+        Job::Pages(Form::Program { .. }, _, _, _, _)
+        | Job::Bus(Form::Program { .. }, _, _, _, _)
+        | Job::Script(Form::Program { .. }) => "a program",
+        Job::Pages(..) | Job::Bus(..) | Job::Script(_) => "a script",
         Job::Check { .. } => "a trace",
         Job::Decode { .. } => "a recording",
         Job::Raw { .. } => "a printer's bytes",
@@ -371,26 +381,159 @@ fn choose_form<R: Read + Drop, W: Write + Drop>(
         return answer_recording(rt, reader, writer, names, work, aside);
     }
     match form_of(&work.job) {
-        ListingForm::Text => run_job(rt, reader, writer, names, None, work, aside),
-        ListingForm::Program => {
-            answer_listing(rt, reader, writer, names, ListingForm::Program, work, aside)
+        Form::Listing(ListingForm::Text) => {
+            run_job(rt, reader, writer, names, None, work, aside)
         }
-        ListingForm::Petcat => {
-            answer_listing(rt, reader, writer, names, ListingForm::Petcat, work, aside)
+        Form::Listing(form) => answer_listing(rt, reader, writer, names, form, work, aside),
+        form => answer_program(rt, reader, writer, names, form, work, aside),
+    }
+}
+
+/// Does a job over what a program prints, or over the text itself where that may be a script and is one, or is neither.
+fn answer_program<R: Read + Drop, W: Write + Drop>(
+    rt: &(impl Outside + Eprint + AllocGlobal),
+    reader: R,
+    writer: W,
+    names: Names<'_>,
+    form: Form,
+    work: Work<'_>,
+    aside: Reporting<'_>,
+) -> (End, W)
+    ensures { IfSome (R.remaining reader) (λ bytes. EndsInput work.entry.is_located work.entry.shapes.now work.entry.job form bytes
+        (W.contents writer) (W.contents result.1) result.0) }
+{
+    let mut input = Watched::new(Noting::new(reader));
+    let aside = Reporting {
+        is_file: false,
+        ..aside
+    };
+    match read_whole(rt.alloc(), &mut input, SCRIPT_LIMIT) {
+        Ok(bytes) => answer_read(rt, bytes.as_slice(), writer, names, form, work, aside),
+        Err(fault) => {
+            let error = input.into_inner().error();
+            clear(rt, aside.is_shown);
+            let fault = CliFault::from(fault);
+            let end = tell_failed(rt, fault, names.input, error);
+            match form {
+                Form::Program { .. } => (End::Basic(unread_fault(fault)), writer),
+                Form::Either { .. } | Form::Listing(_) => (end, writer),
+            }
         }
-        ListingForm::Magazine => {
-            answer_listing(
-                rt,
-                reader,
-                writer,
-                names,
-                ListingForm::Magazine,
-                work,
-                aside,
-            )
+    }
+}
+
+/// Does a job over a text that was read, in this form.
+fn answer_read<W: Write + Drop>(
+    rt: &(impl Outside + Eprint + AllocGlobal),
+    bytes: &[u8],
+    writer: W,
+    names: Names<'_>,
+    form: Form,
+    work: Work<'_>,
+    aside: Reporting<'_>,
+) -> (End, W) {
+    match form {
+        Form::Program { steps } => run_program(rt, bytes, writer, names, steps, work, aside),
+        Form::Either { steps } => answer_either(rt, bytes, writer, names, steps, work, aside),
+        Form::Listing(_) => run_job(rt, bytes, writer, names, None, work, aside),
+    }
+}
+
+/// The fault of a program that was not read.
+fn unread_fault(fault: CliFault) -> BasicFault {
+    match fault {
+        CliFault::TooLarge => BasicFault::TooLarge,
+        CliFault::ReadFailed => BasicFault::ReadFailed,
+        _ => BasicFault::NoMemory,
+    }
+}
+
+/// Does a job over a text that is a script, or else over what it prints as a program, if it is one.
+fn answer_either<W: Write + Drop>(
+    rt: &(impl Outside + Eprint + AllocGlobal),
+    bytes: &[u8],
+    writer: W,
+    names: Names<'_>,
+    steps: u64,
+    work: Work<'_>,
+    aside: Reporting<'_>,
+) -> (End, W)
+    ensures { EndsEither work.entry.is_located work.entry.shapes.now work.entry.job steps bytes.now
+        (W.contents writer) (W.contents result.1) result.0 }
+{
+    match is_run(rt.alloc(), bytes) {
+        Ok(false) => run_job(rt, bytes, writer, names, None, work, aside),
+        Ok(true) => {
+            let aside = Reporting {
+                note: ListingNote::Run,
+                ..aside
+            };
+            run_program(rt, bytes, writer, names, steps, work, aside)
         }
-        ListingForm::Auto => {
-            answer_listing(rt, reader, writer, names, ListingForm::Auto, work, aside)
+        Err(_) => {
+            clear(rt, aside.is_shown);
+            (tell(rt, CliFault::NoMemory), writer)
+        }
+    }
+}
+
+/// Runs a program, which may be a saved one, and does a job over the script that comes of it.
+fn run_program<W: Write + Drop>(
+    rt: &(impl Outside + Eprint + AllocGlobal),
+    bytes: &[u8],
+    writer: W,
+    names: Names<'_>,
+    steps: u64,
+    work: Work<'_>,
+    aside: Reporting<'_>,
+) -> (End, W)
+    requires { length bytes.now ≤ script_limit }
+    ensures { EndsProgram work.entry.is_located work.entry.shapes.now work.entry.job steps bytes.now
+        (W.contents writer) (W.contents result.1) result.0 }
+{
+    match typed_program(rt.alloc(), bytes) {
+        Ok(Some(text)) => run_text(rt, text.as_slice(), writer, names, steps, work, aside),
+        Ok(None) => run_text(rt, bytes, writer, names, steps, work, aside),
+        Err(fault) => {
+            clear(rt, aside.is_shown);
+            tell_basic(rt, bytes, fault, aside.is_explained);
+            (End::Basic(fault), writer)
+        }
+    }
+}
+
+/// Runs a program that is typed, and does a job over the script that comes of it.
+fn run_text<W: Write + Drop>(
+    rt: &(impl Outside + Eprint + AllocGlobal),
+    bytes: &[u8],
+    writer: W,
+    names: Names<'_>,
+    steps: u64,
+    work: Work<'_>,
+    aside: Reporting<'_>,
+) -> (End, W)
+    ensures { EndsRun work.entry.is_located work.entry.shapes.now work.entry.job steps bytes.now
+        (W.contents writer) (W.contents result.1) result.0 }
+{
+    match made_script(rt.alloc(), bytes, steps) {
+        Ok(made) => {
+            let script = made.text.as_slice();
+            let aside = Reporting {
+                is_made: true,
+                ..aside
+            };
+            let (end, writer) = run_job(rt, script, writer, names, None, work, aside);
+            let end = end.after(made.ran);
+            tell_ran(rt, bytes, made.ran, end, aside.is_explained, aside.is_noted);
+            (end, writer)
+        }
+        Err(fault) => {
+            clear(rt, aside.is_shown);
+            tell_basic(rt, bytes, fault, aside.is_explained);
+            if aside.is_advised && is_explainable(fault) {
+                advise(rt);
+            }
+            (End::Basic(fault), writer)
         }
     }
 }
@@ -565,12 +708,14 @@ fn advise(rt: &impl Eprint) {
 }
 
 /// The form of the listing that a job reads; an input that is no listing is read as it is.
-fn form_of(job: &Job<'_>) -> ListingForm
+fn form_of(job: &Job<'_>) -> Form
     ensures { result ≡ form_of job.now }
 {
     match job {
-        Job::Pages(form, _, _, _, _) | Job::Bus(form, _, _, _, _) => *form,
-        Job::Check { .. } | Job::Decode { .. } | Job::Raw { .. } => ListingForm::Text,
+        Job::Pages(form, _, _, _, _) | Job::Bus(form, _, _, _, _) | Job::Script(form) => *form,
+        Job::Check { .. } | Job::Decode { .. } | Job::Raw { .. } => {
+            Form::Listing(ListingForm::Text)
+        }
     }
 }
 
@@ -700,6 +845,9 @@ fn tell_bytes(
     }
     note_listing(rt, aside.note);
     let is_whole = aside.is_explained || aside.count.get() <= NOTED;
+    if aside.is_made {
+        return None;
+    }
     tell_notes(rt, bytes, is_whole, subject);
     blank_reason(bytes)
 }
