@@ -1,0 +1,3 @@
+pub mod ItemLemmas
+pub mod SavedLemmas
+pub mod TypedLemmas

@@ -1,5 +1,5 @@
 -- Trusted: what comes of the text of a program that is run: a script, and how the run ended; or why there is no script.
-use Rattle.std.specs.Prelude.{◌≡◌, ◌⊎◌, ℕ, ◌+◌, ◌&&◌, ◌||◌, ◌==◌, Bool, false, not, List, [], ◌∷◌, length, take, Option, Some, None, Ok, Err, if◌then◌else◌}
+use Rattle.std.specs.Prelude.{ℕ, List, Result, Ok, Err}
 use Rattle.pr_interpreter.specs.declared.fault.ProgramFault.{ProgramFault}
 use Rattle.pr_interpreter.specs.declared.fault.ProgramFault.TheVariants as program
 use Rattle.pr_interpreter.specs.Lines.{column}
@@ -10,8 +10,9 @@ use Rattle.pr_programs.specs.declared.fault.Reason.TheVariants as reason
 use Rattle.pr_programs.specs.declared.made.Made.{Made}
 use Rattle.pr_programs.specs.declared.made.Ran.{Ran}
 use Rattle.pr_programs.specs.declared.made.Ran.TheVariants as ran
+use Rattle.pr_programs.specs.Rows.{row}
 use Rattle.pr_programs.specs.Scripts.{script_text}
-use Rattle.pr_programs.specs.Typed.{typed}
+use Rattle.pr_programs.specs.Typed.{Typed, place_of, typed}
 use Rattle.pr_run.specs.declared.ending.Ending.{Ending}
 use Rattle.pr_run.specs.declared.ending.Ending.TheVariants as ending
 use Rattle.pr_run.specs.declared.ending.Refusal.{Refusal}
@@ -20,43 +21,24 @@ use Rattle.pr_run.specs.declared.outcome.Outcome.{Outcome}
 use Rattle.pr_run.specs.declared.programs.Program.{Program}
 use Rattle.pr_run.specs.Runs.{program_of, run}
 
--- ---- places
-
-abbrev pub begins_with_feed : List ℕ → Bool
-begins_with_feed [] = false
-begins_with_feed (b ∷ bs) = b == 10
-
--- how many rows end in a text: at byte 10, or at a byte 13 before no byte 10
-abbrev pub row_ends : List ℕ → ℕ
-row_ends [] = 0
-row_ends (b ∷ bs) = (if b == 10 || (b == 13 && not (begins_with_feed bs)) then 1 else 0) + row_ends bs
-
--- the row of a place of a text, counted from 1
-unfoldable pub row : List ℕ → ℕ → ℕ
-row text place = row_ends (take place text) + 1
-
--- a place of a typed text, of which the text before it makes so many bytes of the program
-abbrev pub IsPlaceOf : List ℕ → (made place : ℕ) → Type 0
-IsPlaceOf text made place = (front : List ℕ) × (typed (take place text) ≡ Ok front) × (length front ≡ made)
-
 -- ---- why there is no script
 
 -- what is refused at a place of the typed text
 abbrev pub refused_at : List ℕ → ℕ → Reason → BasicFault
 refused_at text place why = Refused (row text place) (column text place) why
 
--- a fault of the program's text is at the place of the typed text that makes it
-abbrev pub IsRefusedAt : List ℕ → ℕ → Reason → BasicFault → Type 0
-IsRefusedAt text made why fault = (place : ℕ) × IsPlaceOf text made place × (fault ≡ refused_at text place why)
+-- what is refused at a place of the program that the text makes: it is where the text makes that
+abbrev pub refused_in : List ℕ → ℕ → Reason → BasicFault
+refused_in text made why = refused_at text (place_of text made) why
 
 -- a text that is no program, or has a statement that is not taken
-abbrev pub IsUnread : List ℕ → ProgramFault → BasicFault → Type 0
-IsUnread text program.OutOfMemory fault = fault ≡ NoMemory
-IsUnread text (program.NoLineNumber made) fault = IsRefusedAt text made reason.NoLineNumber fault
-IsUnread text (program.LargeLineNumber made) fault = IsRefusedAt text made reason.LargeLineNumber fault
-IsUnread text (program.NoExpression made) fault = IsRefusedAt text made reason.NoExpression fault
-IsUnread text (program.NoStatement made) fault = IsRefusedAt text made reason.NoStatement fault
-IsUnread text (program.NotTaken made) fault = IsRefusedAt text made reason.Statement fault
+abbrev pub unread : List ℕ → ProgramFault → BasicFault
+unread text program.OutOfMemory = NoMemory
+unread text (program.NoLineNumber made) = refused_in text made reason.NoLineNumber
+unread text (program.LargeLineNumber made) = refused_in text made reason.LargeLineNumber
+unread text (program.NoExpression made) = refused_in text made reason.NoExpression
+unread text (program.NoStatement made) = refused_in text made reason.NoStatement
+unread text (program.NotTaken made) = refused_in text made reason.Statement
 
 -- why a statement is not run
 abbrev pub reason_of : Refusal → Reason
@@ -73,39 +55,33 @@ reason_of refusal.FullMemory = reason.FullMemory
 
 -- ---- what comes of a run
 
--- the run of a program whose bytes the text makes, within so many steps
-pub record IsRunOf (steps : ℕ) (text : List ℕ) (outcome : Outcome) : Type 0 where
-  pub bytes : List ℕ
-  pub read : Program
-  pub is_typed : typed text ≡ Ok bytes
-  pub is_program : program_of bytes ≡ Ok read
-  pub is_run : outcome ≡ run steps read
+-- how a run ended of which there is a script: what is performed before an error is kept, what is performed before a
+-- refusal is not
+abbrev pub ran_to : List ℕ → Ending → Result Ran BasicFault
+ran_to text ending.LastLine = Ok ran.Ended
+ran_to text (ending.End line) = Ok ran.Ended
+ran_to text (ending.Break line) = Ok (ran.Break line)
+ran_to text (ending.Error error line) = Ok (ran.Error error line)
+ran_to text (ending.Refused why made) = Err (refused_in text made (reason_of why))
+ran_to text (ending.TooManySteps line) = Err (TooManySteps line)
+ran_to text ending.OutOfMemory = Err NoMemory
 
--- how a run ended of which there is a script; what is performed before an error is kept
-abbrev pub ran_by : Ending → Option Ran
-ran_by ending.LastLine = Some ran.Ended
-ran_by (ending.End line) = Some ran.Ended
-ran_by (ending.Break line) = Some (ran.Break line)
-ran_by (ending.Error error line) = Some (ran.Error error line)
-ran_by (ending.Refused why place) = None
-ran_by (ending.TooManySteps line) = None
-ran_by ending.OutOfMemory = None
+abbrev pub with_script : List ℕ → Result Ran BasicFault → Result Made BasicFault
+with_script script (Ok ended) = Ok (record { text = script; ran = ended })
+with_script script (Err fault) = Err fault
 
--- why there is no script of a run that ended so; what is performed before a refusal is not kept
-abbrev pub IsUnrun : List ℕ → Ending → BasicFault → Type 0
-IsUnrun text (ending.Refused why made) fault = IsRefusedAt text made (reason_of why) fault
-IsUnrun text (ending.TooManySteps line) fault = fault ≡ TooManySteps line
-IsUnrun text ending.OutOfMemory fault = fault ≡ NoMemory
-IsUnrun text _ fault = ⊥
+-- what comes of a run of the program of a text
+abbrev pub made_of : List ℕ → Outcome → Result Made BasicFault
+made_of text outcome = with_script (script_text outcome.performed) (ran_to text outcome.ending)
 
--- a script comes of a text as a program, within so many steps
-abbrev pub IsMade : (steps : ℕ) → List ℕ → Made → Type 0
-IsMade steps text found = (outcome : Outcome) × IsRunOf steps text outcome
-    × (found.text ≡ script_text outcome.performed) × (ran_by outcome.ending ≡ Some found.ran)
+abbrev pub made_by : (steps : ℕ) → List ℕ → Result Program ProgramFault → Result Made BasicFault
+made_by steps text (Ok program) = made_of text (run steps program)
+made_by steps text (Err fault) = Err (unread text fault)
 
--- why no script comes of it: a string is not typed so, it is no program, or the run was not to its end
-abbrev pub IsUnmade : (steps : ℕ) → List ℕ → BasicFault → Type 0
-IsUnmade steps text fault =
-    ((place : ℕ) × (why : Reason) × (typed text ≡ Err (place, why)) × (fault ≡ refused_at text place why))
-    ⊎ ((bytes : List ℕ) × (why : ProgramFault) × (typed text ≡ Ok bytes) × (program_of bytes ≡ Err why) × IsUnread text why fault)
-    ⊎ ((outcome : Outcome) × IsRunOf steps text outcome × IsUnrun text outcome.ending fault)
+abbrev pub made_from : (steps : ℕ) → List ℕ → Typed → Result Made BasicFault
+made_from steps text (Ok bytes) = made_by steps text (program_of bytes)
+made_from steps text (Err (place, why)) = Err (refused_at text place why)
+
+-- what comes of the text of a program that is run for so many steps at most
+unfoldable pub made : (steps : ℕ) → List ℕ → Result Made BasicFault
+made steps text = made_from steps text (typed text)

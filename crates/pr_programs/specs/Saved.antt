@@ -1,5 +1,5 @@
 -- Trusted: the text of a saved program as it is typed.
-use Rattle.std.specs.Prelude.{◌≡◌, ◌⊎◌, ℕ, ◌+◌, ◌/◌, ◌%◌, ◌&&◌, ◌||◌, ◌==◌, not, Bool, List, [], ◌∷◌, ◌++◌, codes, decimal, nat_le, Option, Some, None, if◌then◌else◌}
+use Rattle.std.specs.Prelude.{◌≡◌, ◌⊎◌, ℕ, ◌+◌, ◌/◌, ◌%◌, ◌&&◌, ◌||◌, ◌==◌, not, Bool, List, [], ◌∷◌, ◌++◌, decimal, nat_le, Option, Some, None, if◌then◌else◌}
 use Rattle.pr_basic.specs.Grammar.{is_printable}
 use Rattle.pr_listing.specs.Containers.{program_in}
 use Rattle.pr_listing.specs.Found.{found_form}
@@ -31,7 +31,7 @@ digit n = if nat_le n 9 then n + 48 else n + 55
 
 -- a byte of a string: {$8E} where it is none that is typed
 abbrev pub key_text : ℕ → List ℕ
-key_text b = if is_plain b then b ∷ [] else codes "{$" ++ digit (b / 16) ∷ digit (b % 16) ∷ codes "}"
+key_text b = if is_plain b then b ∷ [] else 123 ∷ 36 ∷ digit (b / 16) ∷ digit (b % 16) ∷ 125 ∷ []
 
 -- a byte of a statement: a token is its keyword; a space follows a keyword and a letter
 abbrev pub spelled : ℕ → List ℕ
@@ -48,15 +48,22 @@ abbrev pub bytes_text : Mode → List ℕ → List ℕ
 bytes_text mode [] = []
 bytes_text mode (b ∷ bs) = byte_text mode b ++ bytes_text (mode_after mode b) bs
 
+-- a line: its number, a space, its bytes, and byte 10
+abbrev pub line_text : Line → List ℕ
+line_text l = decimal l.number ++ 32 ∷ bytes_text Plain l.bytes ++ 10 ∷ []
+
 abbrev pub lines_text : List Line → List ℕ
 lines_text [] = []
-lines_text (l ∷ ls) = decimal l.number ++ 32 ∷ bytes_text Plain l.bytes ++ 10 ∷ lines_text ls
+lines_text (l ∷ ls) = line_text l ++ lines_text ls
+
+-- a file is a saved program whose lines have this text
+abbrev pub IsSavedText : List ℕ → List ℕ → Type 0
+IsSavedText file text = (lines : List Line) × IsProgram lines file × (text ≡ lines_text lines)
 
 -- the text of a saved program; of any other bytes there is none
 abbrev pub IsTypedProgram : List ℕ → Option (List ℕ) → Type 0
 IsTypedProgram bytes None = found_form bytes ≡ Saved → ⊥
-IsTypedProgram bytes (Some text) = (lines : List Line) × (found_form bytes ≡ Saved)
-    × IsProgram lines (program_in bytes) × (text ≡ lines_text lines)
+IsTypedProgram bytes (Some text) = (found_form bytes ≡ Saved) × IsSavedText (program_in bytes) text
 
 -- why a saved program has no text
 abbrev pub IsUnsaved : List ℕ → BasicFault → Type 0

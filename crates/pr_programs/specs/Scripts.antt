@@ -1,6 +1,6 @@
 -- Trusted: the script of what a run of a program performs: each output statement is a line of it, with the number of the
 -- program's line that it came from.
-use Rattle.std.specs.Prelude.{ℕ, List, [], ◌∷◌, ◌++◌, codes, decimal, Some, None, if◌then◌else◌}
+use Rattle.std.specs.Prelude.{ℕ, ◌||◌, Bool, not, List, [], ◌∷◌, ◌++◌, codes, decimal, length, nat_lt, Option, Some, None, if◌then◌else◌}
 use Rattle.pr_basic.specs.Grammar.{Item, Semi, Quote, Code}
 use Rattle.pr_basic.specs.Text.{Text}
 use Rattle.pr_basic.specs.declared.statement.Statement.{Statement}
@@ -33,20 +33,26 @@ joined (i ∷ j ∷ is) = item_text i ++ 59 ∷ joined (j ∷ is)
 unfoldable pub list_text : Text → List ℕ
 list_text line = joined (items_of line.bytes) ++ (if line.ends then [] else 59 ∷ [])
 
--- a list with a byte before it, if there is a list
-abbrev pub after : ℕ → List ℕ → List ℕ
-after b [] = []
-after b list = b ∷ list
+-- a statement has a list where it has bytes, or no return follows
+abbrev pub has_list : Text → Bool
+has_list line = nat_lt 0 (length line.bytes) || not line.ends
+
+-- a byte and the list of a statement, if it has one
+abbrev pub listed : ℕ → Text → List ℕ
+listed b line = if has_list line then b ∷ list_text line else []
+
+-- OPEN, with a secondary address or without
+abbrev pub open_text : (file device : ℕ) → Option ℕ → List ℕ
+open_text file device None = codes "OPEN " ++ decimal file ++ 44 ∷ decimal device
+open_text file device (Some second) = codes "OPEN " ++ decimal file ++ 44 ∷ decimal device ++ 44 ∷ decimal second
 
 -- a statement: OPEN 4,4,7 or PRINT#4,"A";CHR$(13)
 unfoldable pub statement_text : Statement → List ℕ
-statement_text (OpenFile file device None) = codes "OPEN " ++ decimal file ++ 44 ∷ decimal device
-statement_text (OpenFile file device (Some second)) =
-    codes "OPEN " ++ decimal file ++ 44 ∷ decimal device ++ 44 ∷ decimal second
+statement_text (OpenFile file device second) = open_text file device second
 statement_text (CloseFile file) = codes "CLOSE " ++ decimal file
-statement_text (Cmd file line) = codes "CMD " ++ decimal file ++ after 44 (list_text line)
-statement_text (PrintTo file line) = codes "PRINT#" ++ decimal file ++ after 44 (list_text line)
-statement_text (Print line) = codes "PRINT" ++ after 32 (list_text line)
+statement_text (Cmd file line) = codes "CMD " ++ decimal file ++ listed 44 line
+statement_text (PrintTo file line) = codes "PRINT#" ++ decimal file ++ listed 44 line
+statement_text (Print line) = codes "PRINT" ++ listed 32 line
 statement_text Rem = codes "REM"
 
 -- a line of the script

@@ -1,9 +1,14 @@
 //! The words of the errors of BASIC.
 
+ghost use Rattle.std.specs.Prelude.{◌≡◌};
+ghost use Rattle.pr_programs.specs.Errors.{error_name};
+
 use pr_interpreter::BasicError;
 
 /// Returns what the machine prints of an error, between `?` and ` ERROR`.
-pub fn error_name(error: BasicError) -> &'static str {
+pub fn error_name(error: BasicError) -> &'static str
+    ensures { result.now ≡ error_name error }
+{
     match error {
         BasicError::Syntax => "SYNTAX",
         BasicError::TypeMismatch => "TYPE MISMATCH",

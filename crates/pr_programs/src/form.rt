@@ -10,7 +10,7 @@ use pr_listing::ListingForm;
 use pr_run::program_of;
 use std::alloc::{AllocError, Global};
 
-/// How many steps a run has at most, if nobody says more (profile).
+/// The steps that a run has at most, if nobody says otherwise (profile).
 pub const STEPS: u64 = 10_000_000;
 
 /// The form of what a script is made of.
@@ -37,12 +37,12 @@ pub fn is_run(alloc: Global, text: &[u8]) -> Result<bool, AllocError>
         Err(ScriptFault::NoMemory) => return Err(AllocError),
         Err(_) => {}
     }
-    let typed = match typed_text(alloc, text) {
-        Ok(typed) => typed,
+    let bytes = match typed_text(alloc, text) {
+        Ok(bytes) => bytes,
         Err(TypedFault::At(_, _)) => return Ok(false),
         Err(TypedFault::NoMemory) => return Err(AllocError),
     };
-    match program_of(alloc, &typed.text) {
+    match program_of(alloc, bytes.as_slice()) {
         Ok(_) => Ok(true),
         Err(ProgramFault::OutOfMemory) => Err(AllocError),
         Err(_) => Ok(false),

@@ -1,9 +1,10 @@
 //! The list of a statement, as a script has it.
 
-ghost use Rattle.std.specs.Prelude.{◌≡◌, ◌++◌, ◌≤◌, decimal, length, OnOk};
+ghost use Rattle.std.specs.Prelude.{◌≡◌, ◌++◌, ◌<◌, ◌≤◌, decimal, length, IfOk, OnOk};
 ghost use Rattle.std.specs.List.{prefix_len};
 ghost use Rattle.pr_listing.specs.Listing.{is_held};
-ghost use Rattle.pr_programs.specs.Scripts.{items_of, joined, list_text};
+ghost use Rattle.pr_programs.specs.Scripts.{has_list, items_of, joined, list_text};
+ghost use Rattle.pr_programs.specs.Seen.{IsItemAdded};
 
 use itoa::Buffer;
 use pr_basic::Line;
@@ -38,7 +39,10 @@ fn held_count(bytes: &[u8]) -> usize
 }
 
 /// Adds the item at the front of some bytes, of which there is one. Returns the bytes after it.
-fn add_item<'a>(text: &mut Vec<u8>, bytes: &'a [u8]) -> Result<&'a [u8], AllocError> {
+fn add_item<'a>(text: &mut Vec<u8>, bytes: &'a [u8]) -> Result<&'a [u8], AllocError>
+    requires { 0 < length bytes.now }
+    ensures { IfOk result (λ rest. IsItemAdded bytes.now rest.now text.old.items text.new.items) }
+{
     let count = held_count(bytes);
     if count > 0 {
         text.push(b'"')?;
@@ -52,21 +56,34 @@ fn add_item<'a>(text: &mut Vec<u8>, bytes: &'a [u8]) -> Result<&'a [u8], AllocEr
     Ok(&bytes[1..])
 }
 
+/// Adds the item at the front of some bytes, of which there is one, and a semicolon if more follow. Returns the bytes after
+/// it.
+fn add_next<'a>(text: &mut Vec<u8>, bytes: &'a [u8]) -> Result<&'a [u8], AllocError>
+    requires { 0 < length bytes.now }
+    ensures text { IfOk result (λ rest. text.new.items ++ joined (items_of rest.now) ≡ text.old.items ++ joined (items_of bytes.now)) }
+    ensures less { IfOk result (λ rest. length rest.now < length bytes.now) }
+{
+    let rest = add_item(text, bytes)?;
+    if rest.is_empty() {
+        return Ok(rest);
+    }
+    text.push(b';')?;
+    Ok(rest)
+}
+
 /// Adds the items of some bytes, with a semicolon between each two.
 fn add_items(text: &mut Vec<u8>, bytes: &[u8]) -> Result<(), AllocError>
     ensures { OnOk result (text.new.items ≡ text.old.items ++ joined (items_of bytes.now)) }
 {
     let mut rest = bytes;
     while !rest.is_empty() {
-        rest = add_item(text, rest)?;
-        if !rest.is_empty() {
-            text.push(b';')?;
-        }
+        rest = add_next(text, rest)?;
     }
     Ok(())
 }
 
 /// Adds the list of a statement.
+#[tactic(auto, unfolding(crate::specs::Scripts::list_text))]
 pub fn add_list(text: &mut Vec<u8>, line: &Line) -> Result<(), AllocError>
     ensures { OnOk result (text.new.items ≡ text.old.items ++ list_text line.now) }
 {
@@ -78,6 +95,8 @@ pub fn add_list(text: &mut Vec<u8>, line: &Line) -> Result<(), AllocError>
 }
 
 /// Returns whether a statement has a list: bytes, or a semicolon.
-pub fn has_list(line: &Line) -> bool {
+pub fn has_list(line: &Line) -> bool
+    ensures { result ≡ has_list line.now }
+{
     !line.bytes.is_empty() || !line.ends
 }

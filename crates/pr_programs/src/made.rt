@@ -1,12 +1,13 @@
 //! What comes of a program.
 
-ghost use Rattle.std.specs.Prelude.{◌≡◌, ◌⊎◌, IfErr, IfOk};
-ghost use Rattle.pr_programs.specs.Made.{IsMade, IsUnmade, reason_of, refused_at};
+ghost use Rattle.std.specs.Prelude.{◌≡◌, IfErr, IfOk, Ok};
+ghost use Rattle.pr_programs.specs.Made.{made, made_of, ran_to, reason_of, refused_at, refused_in, unread};
+ghost use Rattle.pr_programs.specs.Seen.{FaultsAs};
 
 use crate::fault::{BasicFault, Reason};
 use crate::places::row_of;
 use crate::scripts::script_text;
-use crate::typed::{Typed, TypedFault, typed_text};
+use crate::typed::{TypedFault, place_of, typed_text};
 use pr_interpreter::{BasicError, ProgramFault, column_of};
 use pr_page::Sequence;
 use pr_run::{Ending, Outcome, Refusal, program_of, run_program};
@@ -32,7 +33,7 @@ pub struct Made {
     pub ran: Ran,
 }
 
-/// The fault of what is refused at a place of a text.
+/// Returns the fault of what is refused at a place of a text.
 fn refused_at(text: &[u8], place: usize, reason: Reason) -> BasicFault
     ensures { result ≡ refused_at text.now place reason }
 {
@@ -43,20 +44,28 @@ fn refused_at(text: &[u8], place: usize, reason: Reason) -> BasicFault
     }
 }
 
-/// The fault of a text that is not read as a program.
-fn unread(text: &[u8], typed: &Typed, fault: ProgramFault) -> BasicFault {
-    let (place, reason) = match fault {
-        ProgramFault::OutOfMemory => return BasicFault::NoMemory,
-        ProgramFault::NoLineNumber(place) => (place, Reason::NoLineNumber),
-        ProgramFault::LargeLineNumber(place) => (place, Reason::LargeLineNumber),
-        ProgramFault::NoExpression(place) => (place, Reason::NoExpression),
-        ProgramFault::NoStatement(place) => (place, Reason::NoStatement),
-        ProgramFault::NotTaken(place) => (place, Reason::Statement),
-    };
-    refused_at(text, typed.place_of(place), reason)
+/// Returns the fault of what is refused at a place of the program that a text makes.
+fn refused_in(text: &[u8], made: usize, reason: Reason) -> BasicFault
+    ensures { result ≡ refused_in text.now made reason }
+{
+    refused_at(text, place_of(text, made), reason)
 }
 
-/// Why a statement is not run.
+/// Returns the fault of a text that is not read as a program.
+fn unread(text: &[u8], fault: ProgramFault) -> BasicFault
+    ensures { result ≡ unread text.now fault }
+{
+    match fault {
+        ProgramFault::OutOfMemory => BasicFault::NoMemory,
+        ProgramFault::NoLineNumber(made) => refused_in(text, made, Reason::NoLineNumber),
+        ProgramFault::LargeLineNumber(made) => refused_in(text, made, Reason::LargeLineNumber),
+        ProgramFault::NoExpression(made) => refused_in(text, made, Reason::NoExpression),
+        ProgramFault::NoStatement(made) => refused_in(text, made, Reason::NoStatement),
+        ProgramFault::NotTaken(made) => refused_in(text, made, Reason::Statement),
+    }
+}
+
+/// Returns why a statement is not run.
 fn reason_of(refusal: Refusal) -> Reason
     ensures { result ≡ reason_of refusal }
 {
@@ -74,30 +83,29 @@ fn reason_of(refusal: Refusal) -> Reason
     }
 }
 
-/// How a run ended, if there is a script of it.
-fn ran_so(text: &[u8], typed: &Typed, ending: Ending) -> Result<Ran, BasicFault> {
+/// Returns how a run ended of which there is a script.
+fn ran_to(text: &[u8], ending: Ending) -> Result<Ran, BasicFault>
+    ensures { result ≡ ran_to text.now ending }
+{
     match ending {
         Ending::LastLine | Ending::End(_) => Ok(Ran::Ended),
         Ending::Break(line) => Ok(Ran::Break(line)),
         Ending::Error { error, line } => Ok(Ran::Error { error, line }),
-        Ending::Refused { refusal, place } => {
-            let place = typed.place_of(place);
-            Err(refused_at(text, place, reason_of(refusal)))
-        }
+        Ending::Refused { refusal, place } => Err(refused_in(text, place, reason_of(refusal))),
         Ending::TooManySteps(line) => Err(BasicFault::TooManySteps(line)),
         Ending::OutOfMemory => Err(BasicFault::NoMemory),
     }
 }
 
-/// What comes of a run of the program of a text.
-fn made_of(
-    alloc: Global,
-    text: &[u8],
-    typed: &Typed,
-    outcome: Outcome,
-) -> Result<Made, BasicFault> {
-    let ran = ran_so(text, typed, outcome.ending)?;
-    let script = script_text(alloc, outcome.performed.as_slice())?;
+/// Makes what comes of a run of the program of a text.
+fn made_of(alloc: Global, text: &[u8], outcome: Outcome) -> Result<Made, BasicFault>
+    ensures ok { IfOk result (λ found. made_of text.now outcome ≡ Ok found) }
+    ensures err { IfErr result (λ fault. FaultsAs fault (made_of text.now outcome)) }
+{
+    let ran = ran_to(text, outcome.ending)?;
+    let Ok(script) = script_text(alloc, outcome.performed.as_slice()) else {
+        return Err(BasicFault::NoMemory);
+    };
     Ok(Made {
         text: Sequence::from_vec(script),
         ran,
@@ -113,19 +121,22 @@ fn made_of(
 ///   is no script of what was performed before.
 /// - [`BasicFault::TooManySteps`]: the run does not end within the steps.
 /// - [`BasicFault::NoMemory`]: memory was refused.
+#[tactic(auto, unfolding(crate::specs::Made::made))]
 pub fn made_script(alloc: Global, text: &[u8], steps: u64) -> Result<Made, BasicFault>
-    ensures ok { IfOk result (λ found. IsMade steps text.now found) }
-    ensures err { IfErr result (λ fault. (fault ≡ BasicFault.NoMemory) ⊎ IsUnmade steps text.now fault) }
+    ensures ok { IfOk result (λ found. made steps text.now ≡ Ok found) }
+    ensures err { IfErr result (λ fault. FaultsAs fault (made steps text.now)) }
 {
-    let typed = match typed_text(alloc, text) {
-        Ok(typed) => typed,
+    let bytes = match typed_text(alloc, text) {
+        Ok(bytes) => bytes,
         Err(TypedFault::At(place, reason)) => return Err(refused_at(text, place, reason)),
         Err(TypedFault::NoMemory) => return Err(BasicFault::NoMemory),
     };
-    let program = match program_of(alloc, &typed.text) {
+    let program = match program_of(alloc, bytes.as_slice()) {
         Ok(program) => program,
-        Err(fault) => return Err(unread(text, &typed, fault)),
+        Err(fault) => return Err(unread(text, fault)),
     };
-    let outcome = run_program(alloc, &program, steps)?;
-    made_of(alloc, text, &typed, outcome)
+    let Ok(outcome) = run_program(alloc, &program, steps) else {
+        return Err(BasicFault::NoMemory);
+    };
+    made_of(alloc, text, outcome)
 }

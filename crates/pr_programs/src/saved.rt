@@ -1,12 +1,15 @@
 //! Saved programs as programs that are typed.
 
-ghost use Rattle.std.specs.Prelude.{◌≡◌, ◌++◌, ◌∷◌, [], ◌⊎◌, None, IfErr, IfOk, OnOk};
-ghost use Rattle.pr_listing.specs.Found.{found_form};
-ghost use Rattle.pr_programs.specs.Saved.{IsTypedProgram, IsUnsaved, byte_text, is_plain, key_text, mode_after, spelled};
+ghost use Rattle.std.specs.Prelude.{◌≡◌, ◌++◌, ◌∷◌, ◌<◌, [], ◌⊎◌, IfErr, IfOk, OnOk};
+ghost use Rattle.pr_listing.specs.Keywords.{is_token};
+ghost use Rattle.pr_listing.specs.Listing.{is_letter};
+ghost use Rattle.pr_listing.specs.Program.{IsProgramFault};
+ghost use Rattle.pr_programs.specs.Saved.{IsSavedText, IsTypedProgram, IsUnsaved, byte_text, bytes_text, digit, is_plain, key_text, line_text, mode_after, spelled};
 
 use crate::fault::BasicFault;
 use crate::lists::add_number;
 use pr_listing::{Front, ListingFault, ListingForm, found_form, front_of, program_in, token_name};
+use pr_page::Sequence;
 use std::alloc::{AllocError, Global};
 
 /// Where a byte of a line is.
@@ -49,11 +52,26 @@ fn is_plain(b: u8) -> bool
     b >= b' ' && b <= b'~' && b != b'{'
 }
 
-/// Adds a hexadecimal digit.
-fn add_digit(text: &mut Vec<u8>, digit: u8) -> Result<(), AllocError> {
-    let first = if digit < 10 { b'0' } else { b'A' - 10 };
-    text.push(first + digit)?;
-    Ok(())
+/// Returns whether a byte of a statement is a token.
+fn is_token(b: u8) -> bool
+    ensures { result ≡ is_token b }
+{
+    b >= 128 && b <= 203
+}
+
+/// Returns whether a byte of a statement is a letter.
+fn is_letter(b: u8) -> bool
+    ensures { result ≡ is_letter b }
+{
+    (b >= b'A' && b <= b'Z') || (b >= b'a' && b <= b'z')
+}
+
+/// Returns the hexadecimal digit of a number below 16.
+fn digit(n: u8) -> u8
+    requires { n < 16 }
+    ensures { result ≡ digit n }
+{
+    if n <= 9 { n + b'0' } else { n + (b'A' - 10) }
 }
 
 /// Adds a byte of a string, or the quote at its end: others than those of ASCII have a name.
@@ -64,11 +82,7 @@ fn add_quoted(text: &mut Vec<u8>, b: u8) -> Result<(), AllocError>
         text.push(b)?;
         return Ok(());
     }
-    text.extend_from_slice(b"{$")?;
-    add_digit(text, b / 16)?;
-    add_digit(text, b % 16)?;
-    text.push(b'}')?;
-    Ok(())
+    text.extend_from_slice(&[b'{', b'$', digit(b / 16), digit(b % 16), b'}'])
 }
 
 /// Adds a byte of a statement: a keyword's token as the keyword. A space follows a keyword and a letter, so that letters
@@ -76,13 +90,13 @@ fn add_quoted(text: &mut Vec<u8>, b: u8) -> Result<(), AllocError>
 fn add_spelled(text: &mut Vec<u8>, b: u8) -> Result<(), AllocError>
     ensures { OnOk result (text.new.items ≡ text.old.items ++ spelled b) }
 {
-    if b >= 128 && b <= 203 {
+    if is_token(b) {
         text.extend_from_slice(token_name(b))?;
         text.push(b' ')?;
         return Ok(());
     }
     text.push(b)?;
-    if b.is_ascii_alphabetic() {
+    if is_letter(b) {
         text.push(b' ')?;
     }
     Ok(())
@@ -106,23 +120,36 @@ fn add_byte(text: &mut Vec<u8>, mode: Mode, b: u8) -> Result<(), AllocError>
     }
 }
 
-/// Adds a line of a saved program.
-fn add_line(text: &mut Vec<u8>, number: u32, bytes: &[u8]) -> Result<(), AllocError> {
-    add_number(text, number)?;
-    text.push(b' ')?;
+/// Adds the bytes of a line.
+fn add_bytes(text: &mut Vec<u8>, bytes: &[u8]) -> Result<(), AllocError>
+    ensures { OnOk result (text.new.items ≡ text.old.items ++ bytes_text Mode.Plain bytes.now) }
+{
     let mut mode = Mode::Plain;
     for b in bytes {
         add_byte(text, mode, *b)?;
         mode = mode.after(*b);
     }
+    Ok(())
+}
+
+/// Adds a line of a saved program.
+fn add_line(text: &mut Vec<u8>, number: u32, bytes: &[u8]) -> Result<(), AllocError>
+    ensures { OnOk result (text.new.items ≡ text.old.items ++ line_text (record { number = number; bytes = bytes.now })) }
+{
+    add_number(text, number)?;
+    text.push(b' ')?;
+    add_bytes(text, bytes)?;
     text.push(b'\n')?;
     Ok(())
 }
 
 /// Makes the text of a saved program as it is typed, a line for each line.
-fn saved_text(alloc: Global, file: &[u8]) -> Result<Vec<u8>, BasicFault> {
+fn saved_text(alloc: Global, file: &[u8]) -> Result<Vec<u8>, ListingFault>
+    ensures ok { IfOk result (λ text. IsSavedText file.now text.items) }
+    ensures err { IfErr result (λ fault. (fault ≡ ListingFault.NoMemory) ⊎ IsProgramFault file.now fault) }
+{
     if file.len() < 2 {
-        return Err(BasicFault::Listing(ListingFault::NoAddress));
+        return Err(ListingFault::NoAddress);
     }
     let mut text = Vec::new(alloc);
     let mut rest = &file[2..];
@@ -134,13 +161,15 @@ fn saved_text(alloc: Global, file: &[u8]) -> Result<Vec<u8>, BasicFault> {
                 bytes,
                 rest: more,
             } => {
-                add_line(&mut text, line, bytes)?;
+                if let Err(_) = add_line(&mut text, line, bytes) {
+                    return Err(ListingFault::NoMemory);
+                }
                 number += 1;
                 rest = more;
             }
-            Front::End if number == 1 => return Err(BasicFault::Listing(ListingFault::NoLine)),
+            Front::End if number == 1 => return Err(ListingFault::NoLine),
             Front::End => return Ok(text),
-            Front::CutOff => return Err(BasicFault::Listing(ListingFault::CutOff(number))),
+            Front::CutOff => return Err(ListingFault::CutOff(number)),
         }
     }
 }
@@ -152,13 +181,16 @@ fn saved_text(alloc: Global, file: &[u8]) -> Result<Vec<u8>, BasicFault> {
 ///
 /// - [`BasicFault::Listing`]: the file is no whole saved program.
 /// - [`BasicFault::NoMemory`]: memory was refused.
-pub fn typed_program(alloc: Global, bytes: &[u8]) -> Result<Option<Vec<u8>>, BasicFault>
+pub fn typed_program(alloc: Global, bytes: &[u8]) -> Result<Option<Sequence<u8>>, BasicFault>
     ensures ok { IfOk result (λ found. IsTypedProgram bytes.now found) }
     ensures err { IfErr result (λ fault. (fault ≡ BasicFault.NoMemory) ⊎ IsUnsaved bytes.now fault) }
 {
     if found_form(bytes) != ListingForm::Program {
         return Ok(None);
     }
-    let text = saved_text(alloc, program_in(bytes))?;
-    Ok(Some(text))
+    match saved_text(alloc, program_in(bytes)) {
+        Ok(text) => Ok(Some(Sequence::from_vec(text))),
+        Err(ListingFault::NoMemory) => Err(BasicFault::NoMemory),
+        Err(fault) => Err(BasicFault::Listing(fault)),
+    }
 }

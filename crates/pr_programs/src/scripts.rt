@@ -1,7 +1,7 @@
 //! The script of what a run performs.
 
 ghost use Rattle.std.specs.Prelude.{◌≡◌, ◌++◌, codes, decimal, IfOk, OnOk};
-ghost use Rattle.pr_programs.specs.Scripts.{after, list_text, performed_text, script_text, statement_text};
+ghost use Rattle.pr_programs.specs.Scripts.{listed, open_text, performed_text, script_text, statement_text};
 
 use crate::lists::{add_list, add_number, has_list};
 use pr_basic::{Device, Line, Second, Statement};
@@ -9,8 +9,8 @@ use pr_run::Performed;
 use std::alloc::{AllocError, Global};
 
 /// Adds a byte and the list of a statement, if it has one.
-fn add_after(text: &mut Vec<u8>, b: u8, line: &Line) -> Result<(), AllocError>
-    ensures { OnOk result (text.new.items ≡ text.old.items ++ after b (list_text line.now)) }
+fn add_listed(text: &mut Vec<u8>, b: u8, line: &Line) -> Result<(), AllocError>
+    ensures { OnOk result (text.new.items ≡ text.old.items ++ listed b line.now) }
 {
     if !has_list(line) {
         return Ok(());
@@ -33,7 +33,9 @@ fn add_open(
     file: u8,
     device: Device,
     second: Option<Second>,
-) -> Result<(), AllocError> {
+) -> Result<(), AllocError>
+    ensures { OnOk result (text.new.items ≡ text.old.items ++ open_text file device second) }
+{
     add_file(text, b"OPEN ", file)?;
     text.push(b',')?;
     add_number(text, u32::from(device.get()))?;
@@ -45,6 +47,7 @@ fn add_open(
 }
 
 /// Adds a statement.
+#[tactic(auto, unfolding(crate::specs::Scripts::statement_text))]
 fn add_statement(text: &mut Vec<u8>, statement: &Statement) -> Result<(), AllocError>
     ensures { OnOk result (text.new.items ≡ text.old.items ++ statement_text statement.now) }
 {
@@ -57,21 +60,22 @@ fn add_statement(text: &mut Vec<u8>, statement: &Statement) -> Result<(), AllocE
         Statement::CloseFile { file } => add_file(text, b"CLOSE ", *file),
         Statement::Cmd { file, line } => {
             add_file(text, b"CMD ", *file)?;
-            add_after(text, b',', line)
+            add_listed(text, b',', line)
         }
         Statement::PrintTo { file, line } => {
             add_file(text, b"PRINT#", *file)?;
-            add_after(text, b',', line)
+            add_listed(text, b',', line)
         }
         Statement::Print { line } => {
             text.extend_from_slice(b"PRINT")?;
-            add_after(text, b' ', line)
+            add_listed(text, b' ', line)
         }
         Statement::Rem => text.extend_from_slice(b"REM"),
     }
 }
 
 /// Adds the line of the script that has a statement.
+#[tactic(auto, unfolding(crate::specs::Scripts::performed_text))]
 fn add_performed(text: &mut Vec<u8>, performed: &Performed) -> Result<(), AllocError>
     ensures { OnOk result (text.new.items ≡ text.old.items ++ performed_text performed.now) }
 {
@@ -88,6 +92,7 @@ fn add_performed(text: &mut Vec<u8>, performed: &Performed) -> Result<(), AllocE
 /// # Errors
 ///
 /// Memory was refused.
+#[tactic(auto, unfolding(crate::specs::Scripts::script_text))]
 pub fn script_text(alloc: Global, performed: &[Performed]) -> Result<Vec<u8>, AllocError>
     ensures { IfOk result (λ text. text.items ≡ script_text performed.now) }
 {

@@ -1,28 +1,25 @@
 //! Programs whose strings are typed, with names of keys in braces.
 
-ghost use Rattle.std.specs.Prelude.{◌≡◌, ◌∷◌, ◌++◌, [], Ok, IfErr, IfOk, OnOk};
-ghost use Rattle.pr_programs.specs.Typed.{ends_row, is_kept, quoted_after, typed};
+ghost use Rattle.std.specs.Prelude.{◌≡◌, ◌++◌, ◌+◌, ◌<◌, ◌≤◌, IfErr, IfOk, Ok, OnOk, drop, get_or, length, replicate};
+ghost use Rattle.pr_programs.specs.Seen.{TypedFaultsAs};
+ghost use Rattle.pr_programs.specs.Typed.{ends_row, is_kept, key, name_size, piece, place_of, quoted_after, typed};
 
 use crate::fault::Reason;
 use pr_listing::{Brackets, Spelling, bracketed};
 use std::alloc::{AllocError, Global};
 
-/// A name of a key: where what comes after it begins, in the program's text and in the typed one.
+/// A piece of a typed text.
 #[derive(Clone, Copy, Debug, PartialEq, Eq)]
-struct Shift {
-    made: usize,
-    typed: usize,
+pub struct Piece {
+    /// The byte of the program.
+    pub byte: u8,
+    /// How many times it is there.
+    pub count: u32,
+    /// How many bytes the text has for it.
+    pub size: usize,
 }
 
-/// The text of a program, of which the strings were typed.
-#[derive(Drop)]
-pub struct Typed {
-    /// The text, with the bytes of keys instead of their names.
-    pub text: Vec<u8>,
-    shifts: Vec<Shift>,
-}
-
-/// Why there is no such text.
+/// Why a typed text is no text of a program.
 #[derive(Clone, Copy, Debug, PartialEq, Eq)]
 pub enum TypedFault {
     /// At this place, the number of bytes before it, a string has what it cannot have.
@@ -39,45 +36,21 @@ impl From<AllocError> for TypedFault {
     }
 }
 
-impl Typed {
-    /// The place in the typed text of a place in the program's text.
-    pub fn place_of(&self, place: usize) -> usize {
-        let mut found = place;
-        for shift in self.shifts.as_slice() {
-            if shift.made <= place {
-                found = place - shift.made + shift.typed;
-            }
-        }
-        found
-    }
-}
-
-/// Adds an item at the end of a list.
-fn put<T: Drop>(found: &mut Vec<T>, item: T) -> Result<(), TypedFault>
-    ensures ok { OnOk result (found.new.items ≡ found.old.items ++ item ∷ []) }
-    ensures err { IfErr result (λ e. e ≡ TypedFault.NoMemory) }
-{
-    match found.push(item) {
-        Ok(()) => Ok(()),
-        Err(_) => Err(TypedFault::NoMemory),
-    }
-}
-
-/// Whether a byte ends a row.
+/// Returns whether a byte ends a row.
 fn ends_row(b: u8) -> bool
     ensures { result ≡ ends_row b }
 {
-    matches!(b, b'\n' | b'\r')
+    b == b'\n' || b == b'\r'
 }
 
-/// Whether a line of a program can have a byte of a key in a string.
+/// Returns whether a line of a program can have a byte of a key in a string.
 fn is_kept(b: u8) -> bool
     ensures { result ≡ is_kept b }
 {
     !(b == 0 || ends_row(b) || b == b'"')
 }
 
-/// Whether a string goes on after a byte.
+/// Returns whether a string goes on after a byte.
 fn quoted_after(quoted: bool, b: u8) -> bool
     ensures { result ≡ quoted_after quoted b }
 {
@@ -88,8 +61,11 @@ fn quoted_after(quoted: bool, b: u8) -> bool
     }
 }
 
-/// How many bytes are before a closing brace.
-fn name_size(bytes: &[u8]) -> usize {
+/// Returns how many bytes are before a closing brace.
+fn name_size(bytes: &[u8]) -> usize
+    ensures value { result ≡ name_size bytes.now }
+    ensures within { result ≤ length bytes.now }
+{
     for (i, b) in bytes.iter().enumerate() {
         if *b == b'}' {
             return i;
@@ -98,52 +74,64 @@ fn name_size(bytes: &[u8]) -> usize {
     bytes.len()
 }
 
-/// The key after an opening brace: how many times it is typed, its byte, and how many bytes its name has with the braces.
-fn key(bytes: &[u8]) -> Option<(u32, u8, usize)> {
+/// Returns the key after an opening brace.
+#[tactic(auto, unfolding(crate::specs::Typed::key))]
+fn key(bytes: &[u8]) -> Result<Piece, Reason>
+    ensures value { result ≡ key bytes.now }
+    ensures some { IfOk result (λ piece. 0 < piece.size) }
+    ensures within { IfOk result (λ piece. piece.size ≤ length bytes.now + 1) }
+{
     let size = name_size(bytes);
     if size == bytes.len() {
-        return None;
+        return Err(Reason::Name);
     }
-    let (count, b) = bracketed(Spelling::Petcat, Brackets::Curly, &bytes[..size])?;
-    if !is_kept(b) {
-        return None;
+    let Some((count, byte)) = bracketed(Spelling::Petcat, Brackets::Curly, &bytes[..size]) else {
+        return Err(Reason::Name);
+    };
+    if !is_kept(byte) {
+        return Err(Reason::Name);
     }
-    Some((count, b, size + 2))
+    Ok(Piece {
+        byte,
+        count,
+        size: size + 2,
+    })
 }
 
-/// Adds the key at the front of some bytes, which begin with a brace. Returns how many bytes its name has.
-fn add_key(typed: &mut Typed, place: usize, bytes: &[u8]) -> Result<usize, TypedFault> {
-    let Some((count, b, size)) = key(&bytes[1..]) else {
-        return Err(TypedFault::At(place, Reason::Name));
+/// Returns the piece at the front of some bytes, of which there is one.
+#[tactic(auto, unfolding(crate::specs::Typed::piece))]
+fn piece(quoted: bool, bytes: &[u8]) -> Result<Piece, Reason>
+    requires { 0 < length bytes.now }
+    ensures value { result ≡ piece quoted (get_or bytes.now 0 0) (drop 1 bytes.now) }
+    ensures some { IfOk result (λ piece. 0 < piece.size) }
+    ensures within { IfOk result (λ piece. piece.size ≤ length bytes.now) }
+{
+    let byte = bytes[0];
+    let itself = Piece {
+        byte,
+        count: 1,
+        size: 1,
     };
+    if !quoted || ends_row(byte) {
+        return Ok(itself);
+    }
+    if byte == b'{' {
+        return key(&bytes[1..]);
+    }
+    if byte >= b' ' && byte <= b'~' {
+        return Ok(itself);
+    }
+    Err(Reason::Byte)
+}
+
+/// Adds a byte so many times.
+fn add_times(text: &mut Vec<u8>, byte: u8, count: u32) -> Result<(), AllocError>
+    ensures { OnOk result (text.new.items ≡ text.old.items ++ replicate count byte) }
+{
     for _time in 0..count {
-        put(&mut typed.text, b)?;
+        text.push(byte)?;
     }
-    let made = typed.text.len();
-    let shift = Shift {
-        made,
-        typed: place + size,
-    };
-    put(&mut typed.shifts, shift)?;
-    Ok(size)
-}
-
-/// Adds the piece at the front of some bytes, of which there is one. Returns how many bytes it has.
-fn add_piece(
-    typed: &mut Typed,
-    quoted: bool,
-    place: usize,
-    bytes: &[u8],
-) -> Result<usize, TypedFault> {
-    let b = bytes[0];
-    if quoted && b == b'{' {
-        return add_key(typed, place, bytes);
-    }
-    if quoted && !ends_row(b) && (b < b' ' || b > b'~') {
-        return Err(TypedFault::At(place, Reason::Byte));
-    }
-    put(&mut typed.text, b)?;
-    Ok(1)
+    Ok(())
 }
 
 /// Makes the text of a program whose strings are typed: a name of petcat's in braces is the byte of its key, and
@@ -153,20 +141,44 @@ fn add_piece(
 ///
 /// - [`TypedFault::At`]: the first place in a string where a brace begins no name, or a byte is none of 32 to 126.
 /// - [`TypedFault::NoMemory`]: memory was refused.
-pub fn typed_text(alloc: Global, text: &[u8]) -> Result<Typed, TypedFault>
-    ensures ok { IfOk result (λ found. typed text.now ≡ Ok found.text.items) }
+pub fn typed_text(alloc: Global, text: &[u8]) -> Result<Vec<u8>, TypedFault>
+    ensures ok { IfOk result (λ bytes. typed text.now ≡ Ok bytes.items) }
+    ensures err { IfErr result (λ fault. TypedFaultsAs fault (typed text.now)) }
 {
-    let mut typed = Typed {
-        text: Vec::new(alloc),
-        shifts: Vec::new(alloc),
-    };
+    let mut made = Vec::new(alloc);
     let mut place = 0;
     let mut quoted = false;
     while place < text.len() {
-        let b = text[place];
-        let size = add_piece(&mut typed, quoted, place, &text[place..])?;
-        quoted = quoted_after(quoted, b);
-        place += size;
+        match piece(quoted, &text[place..]) {
+            Ok(piece) => {
+                add_times(&mut made, piece.byte, piece.count)?;
+                quoted = quoted_after(quoted, text[place]);
+                place += piece.size;
+            }
+            Err(reason) => return Err(TypedFault::At(place, reason)),
+        }
     }
-    Ok(typed)
+    Ok(made)
+}
+
+/// Returns the place in a typed text of what is at a place of the program that it makes.
+pub fn place_of(text: &[u8], made: usize) -> usize
+    ensures { result ≡ place_of text.now made }
+{
+    let mut left = made;
+    let mut place = 0;
+    let mut quoted = false;
+    while place < text.len() {
+        let Ok(piece) = piece(quoted, &text[place..]) else {
+            return place;
+        };
+        let count = piece.count as usize;
+        if left < count {
+            return place;
+        }
+        left -= count;
+        quoted = quoted_after(quoted, text[place]);
+        place += piece.size;
+    }
+    place
 }
