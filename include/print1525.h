@@ -626,7 +626,8 @@ enum print1525_as {
     PRINT1525_AS_SVG = 7,     /* pages, decode, raw, print, printer_picture: a picture, */
     PRINT1525_AS_PNG = 8,     /* the paper of one printer as a PNG file, */
     PRINT1525_AS_PDF = 9,     /* or a PDF document of all sheets */
-    PRINT1525_AS_BYTES = 10   /* pages, decode: the bytes that a printer hears, for print1525_raw */
+    PRINT1525_AS_BYTES = 10,  /* pages, decode: the bytes that a printer hears, for print1525_raw */
+    PRINT1525_AS_SCRIPT = 11  /* pages, bus: the script that is run */
 };
 /* `from`: what the input is, the program's option --from. AUTO is what its first bytes show. */
 enum print1525_from {
@@ -637,7 +638,9 @@ enum print1525_from {
     PRINT1525_FROM_PETCAT = 4,  /* petcat's text of one, */
     PRINT1525_FROM_MAGAZINE = 5, /* or a listing as magazines print it */
     PRINT1525_FROM_VCD = 6,     /* check, decode, edges: a Value Change Dump, */
-    PRINT1525_FROM_CSV = 7      /* or a table of comma separated values */
+    PRINT1525_FROM_CSV = 7,     /* or a table of comma separated values */
+    PRINT1525_FROM_BASIC = 8,   /* pages, bus: a program in BASIC, which is run, */
+    PRINT1525_FROM_BAS = 9      /* or a script, and such a program where it is none */
 };
 /* `present`: the printers on the bus. */
 enum print1525_present {
@@ -696,7 +699,8 @@ typedef struct {
     const void *characters; /* [22] --characters: the bytes of such a file; an empty one: this project's own (SVG, PNG,
                              * PDF) */
     size_t characters_length;
-    uint64_t reserved[4]; /* [23] 0 */
+    uint64_t steps;     /* [24] --steps: the steps that a program has at most; 0: 10,000,000 (BASIC, BAS) */
+    uint64_t reserved[3]; /* [23] 0 */
 } print1525_settings;
 
 /* All of them 0. `{0}` is the same in C; this is for C++ too. */
@@ -730,7 +734,8 @@ enum print1525_setting {
     PRINT1525_SETTING_DELAYS = 20,
     PRINT1525_SETTING_NAMES = 21,
     PRINT1525_SETTING_CHARACTERS = 22,
-    PRINT1525_SETTING_RESERVED = 23
+    PRINT1525_SETTING_RESERVED = 23,
+    PRINT1525_SETTING_STEPS = 24
 };
 
 /* ------------------------------------------------------------------------------------------- calls for texts -- */

@@ -129,6 +129,7 @@ static const char *setting_name(size_t number) {
         "",      "as",        "from",   "present",   "status", "set",     "device", "paper",
         "holes", "top",       "scale",  "bounds",    "intervals", "invert", "listening", "strict",
         "explain", "sheet",   "from_time", "rate",   "delays", "names",   "characters", "reserved",
+        "steps",
     };
     return number < sizeof names / sizeof *names ? names[number] : "";
 }
@@ -143,9 +144,9 @@ size_t print1525_message(const print1525_details *details, char *text, size_t ca
     if (status == PRINT1525_STOPPED && fault != PRINT1525_FAULT_NONE) {
         add(&to, "?");
         add(&to, print1525_strerror(fault));
-        add(&to, "  ERROR (statement ");
+        add(&to, fault < PRINT1525_STOP_NEXT_WITHOUT_FOR ? "  ERROR (statement " : "  ERROR IN ");
         add_number(&to, place);
-        add(&to, ")");
+        if (fault < PRINT1525_STOP_NEXT_WITHOUT_FOR) add(&to, ")");
     } else if (status != PRINT1525_DONE && fault != PRINT1525_FAULT_NONE) {
         const char *const what = counted(fault);
         if (what != NULL) {

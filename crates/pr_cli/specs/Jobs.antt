@@ -24,7 +24,7 @@ use Rattle.pr_programs.specs.declared.form.Form.{Form}
 use Rattle.pr_programs.specs.declared.form.Form.TheVariants as form
 use Rattle.pr_programs.specs.declared.made.Made.{Made}
 use Rattle.pr_programs.specs.Forms.{IsRun}
-use Rattle.pr_programs.specs.Made.{IsMade, IsUnmade}
+use Rattle.pr_programs.specs.Made.{made}
 use Rattle.pr_programs.specs.Saved.{IsTextOf, IsUnsaved}
 use Rattle.pr_serial.specs.declared.Present.{Present}
 use Rattle.pr_options.specs.declared.command_line.Job.{Job}
@@ -288,9 +288,9 @@ EndsListing located shapes job form bytes old new end =
 -- run ended; or no script comes of it, and nothing is written
 abbrev pub EndsRun : (located : Bool) → Shapes → Job → (steps : ℕ) → List ℕ → Option (List ℕ) → Option (List ℕ) → End → Type 0
 EndsRun located shapes job steps text old new end =
-    ((found : Made) × (ended : End) × IsMade steps text found
+    ((found : Made) × (ended : End) × (made steps text ≡ Ok found)
     × EndsJob located shapes job found.text old new ended × (end ≡ ended_after found.ran ended))
-    ⊎ ((fault : BasicFault) × (fault ≡ basic.NoMemory ⊎ IsUnmade steps text fault) × (new ≡ old) × (end ≡ Basic fault))
+    ⊎ ((fault : BasicFault) × ((fault ≡ basic.NoMemory) ⊎ (made steps text ≡ Err fault)) × (new ≡ old) × (end ≡ Basic fault))
 
 -- why an input has no text of a program; or it was not read
 abbrev pub IsNoProgram : List ℕ → BasicFault → Type 0

@@ -1,4 +1,4 @@
--- Trusted: what the machine prints of an error of BASIC, between `?` and ` ERROR`.
+-- Trusted: what the machine prints of an error of BASIC, between `?` and `  ERROR`.
 use Rattle.std.specs.Prelude.{ℕ, List, codes}
 use Rattle.pr_interpreter.specs.declared.values.BasicError.{BasicError}
 use Rattle.pr_interpreter.specs.declared.values.BasicError.TheVariants.{Syntax, TypeMismatch, IllegalQuantity, Overflow, DivisionByZero, StringTooLong, FormulaTooComplex, BadSubscript, RedimensionedArray, UndefinedFunction, UndefinedStatement, OutOfData, ReturnWithoutGosub, NextWithoutFor, FileOpen, FileNotOpen, NotInputFile, TooManyFiles}

@@ -5,7 +5,7 @@ ghost use Rattle.pr_programs.specs.Errors.{error_name};
 
 use pr_interpreter::BasicError;
 
-/// Returns what the machine prints of an error, between `?` and ` ERROR`.
+/// Returns what the machine prints of an error, between `?` and `  ERROR`.
 pub fn error_name(error: BasicError) -> &'static str
     ensures { result.now ≡ error_name error }
 {
