@@ -114,13 +114,11 @@ text_status listing.TooLarge = 2
 text_status listing.ReadFailed = 3
 text_status listing.NoMemory = 3
 
--- 2 when a program is refused, 3 when memory was refused, or a read failed
+-- 2 when a program is refused, 3 when memory was refused
 abbrev pub basic_status : BasicFault → ℕ
 basic_status (basic.Refused row column reason) = 2
 basic_status (basic.Listing why) = 2
 basic_status (basic.TooManySteps line) = 2
-basic_status basic.TooLarge = 2
-basic_status basic.ReadFailed = 3
 basic_status basic.NoMemory = 3
 
 -- 2 when a file of characters is refused, 3 when memory was refused, or a read failed

@@ -60,10 +60,7 @@ pub fn tell_basic(rt: &impl Eprint, text: &[u8], fault: BasicFault, is_explained
                 Some("the program may run for ever; --steps NUMBER gives it more steps"),
             );
         }
-        BasicFault::Listing(_)
-        | BasicFault::TooLarge
-        | BasicFault::ReadFailed
-        | BasicFault::NoMemory => {}
+        BasicFault::Listing(_) | BasicFault::NoMemory => {}
     }
 }
 

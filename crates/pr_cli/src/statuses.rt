@@ -164,9 +164,8 @@ fn basic_status(fault: BasicFault) -> u8
     match fault {
         BasicFault::Refused { .. }
         | BasicFault::Listing(_)
-        | BasicFault::TooManySteps(_)
-        | BasicFault::TooLarge => REFUSED,
-        BasicFault::ReadFailed | BasicFault::NoMemory => FAILED,
+        | BasicFault::TooManySteps(_) => REFUSED,
+        BasicFault::NoMemory => FAILED,
     }
 }
 

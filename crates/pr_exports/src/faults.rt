@@ -251,7 +251,6 @@ fn basic_numbers(fault: BasicFault) -> (usize, usize, usize)
         } => reason_numbers(row, column, reason),
         BasicFault::Listing(fault) => listing_numbers(fault),
         BasicFault::TooManySteps(line) => (148, usize::from(line), 0),
-        BasicFault::TooLarge => (TOO_LARGE, 0, 0),
-        BasicFault::ReadFailed | BasicFault::NoMemory => (NO_MEMORY, 0, 0),
+        BasicFault::NoMemory => (NO_MEMORY, 0, 0),
     }
 }

@@ -31,12 +31,13 @@ none_more b bs e = rw e refl
 held_run : (b : ℕ) (bs : List ℕ) → is_held b ≡ true → items_of (b ∷ bs) ≡ run (suc (prefix_len is_held bs)) (b ∷ bs)
 unfolding items_of
 held_run b [] e = held b [] e
-held_run b (c ∷ cs) e = step (is_held c) refl
+held_run b (c ∷ cs) e = step (is_held c) refl (λ k. held_run c cs k)
   where
-    step : (t : Bool) → is_held c ≡ t → items_of (b ∷ c ∷ cs) ≡ run (suc (prefix_len is_held (c ∷ cs))) (b ∷ c ∷ cs)
-    step true k =
-        held b (c ∷ cs) e ∙ (ap (onto_string b) (held_run c cs k) ∙ sym (ap (λ n. run (suc n) (b ∷ c ∷ cs)) (one_more c cs k)))
-    step false k =
+    step : (t : Bool) → is_held c ≡ t → (is_held c ≡ true → items_of (c ∷ cs) ≡ run (suc (prefix_len is_held cs)) (c ∷ cs))
+        → items_of (b ∷ c ∷ cs) ≡ run (suc (prefix_len is_held (c ∷ cs))) (b ∷ c ∷ cs)
+    step true k more =
+        held b (c ∷ cs) e ∙ (ap (onto_string b) (more k) ∙ sym (ap (λ n. run (suc n) (b ∷ c ∷ cs)) (one_more c cs k)))
+    step false k more =
         held b (c ∷ cs) e
         ∙ (ap (onto_string b) (not_held c cs k)
         ∙ (ap (λ is. Quote (b ∷ []) ∷ is) (sym (not_held c cs k)) ∙ sym (ap (λ n. run (suc n) (b ∷ c ∷ cs)) (none_more c cs k))))
@@ -87,3 +88,14 @@ next_item bytes rest old mid new h k e = added (some_items rest k)
         append_assoc (old ++ item_text h.item) (59 ∷ []) (joined (j ∷ js)) ∙ append_assoc old (item_text h.item) (59 ∷ joined (j ∷ js))
         in
         here ∙ (moved ∙ ap (λ v. old ++ v) (sym all))
+
+-- no bytes have no items
+pub no_items : (text bs : List ℕ) → length bs ≡ 0 → text ++ joined (items_of bs) ≡ text
+unfolding items_of
+no_items text [] h = append-nil text
+no_items text (b ∷ bs) h = absurd (omega arith)
+
+-- three parts are added
+pub three_added : (old a s b p q new : List ℕ) → p ≡ old ++ a → q ≡ p ++ s → new ≡ q ++ b → new ≡ old ++ ((a ++ s) ++ b)
+three_added old a s b p q new e f g =
+    g ∙ (ap (λ v. v ++ b) (f ∙ (ap (λ v. v ++ s) e ∙ append_assoc old a s)) ∙ append_assoc old (a ++ s) b)

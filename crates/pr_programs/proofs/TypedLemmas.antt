@@ -1,6 +1,7 @@
 -- The text of a typed program, piece by piece.
-use Rattle.std.proofs.Common.{◌≡◌, ℕ, zero, suc, ◌+◌, ◌-◌, ◌<◌, ◌≤◌, Bool, List, [], ◌∷◌, ◌++◌, length, get_or, take, drop, replicate, Ok, Err, refl, ap, sym, ◌∙◌, arith, append_assoc, append-nil, add-zero, if◌then◌else◌}
-use Rattle.std.proofs.lemmas.Grind.{common_steps}
+use Rattle.std.proofs.Common.{◌≡◌, ℕ, zero, suc, ◌+◌, ◌-◌, ◌<◌, ◌≤◌, Bool, List, [], ◌∷◌, ◌++◌, length, get_or, take, drop, replicate, Ok, Err, refl, ap, sym, ◌∙◌, arith, append_assoc, append-nil, add-zero, length-drop}
+use Rattle.std.specs.Prelude.{if◌then◌else◌}
+use Rattle.std.proofs.lemmas.List.{drop-drop, get_or-drop}
 use Rattle.std.proofs.lemmas.Bool.{le-ltb, lt-ltb}
 use Rattle.pr_programs.specs.declared.fault.Reason.{Reason}
 use Rattle.pr_programs.specs.declared.typed.Piece.{Piece}
@@ -43,19 +44,40 @@ typed_refused place quoted b bs why e = ap (λ r. after_piece place r (λ size. 
 
 -- what is left of a list from a place on
 left_at : (text : List ℕ) (place size : ℕ) → place < length text → 0 < size → drop (size - 1) (drop 1 (drop place text)) ≡ drop (place + size) text
-left_at text place size h k = grind (arith, common_steps)
+left_at text place size h k =
+    let n : place + 1 + (size - 1) ≡ place + size = omega arith in
+    ap (drop (size - 1)) (drop-drop 1 place text) ∙ (drop-drop (size - 1) (place + 1) text ∙ ap (λ m. drop m text) n)
 
 -- the first byte of what is left, and the bytes after it
 cut_at : (text : List ℕ) (place : ℕ) → place < length text → drop place text ≡ get_or (drop place text) 0 0 ∷ drop 1 (drop place text)
-cut_at text place h = grind (arith, common_steps)
+cut_at text place h = first (drop place text) (omega (arith, length-drop place text))
+  where
+    first : (bs : List ℕ) → 0 < length bs → bs ≡ get_or bs 0 0 ∷ drop 1 bs
+    first [] k = absurd (omega arith)
+    first (b ∷ bs) k = refl
+
+-- its first byte, by the place
+byte_at : (text : List ℕ) (place : ℕ) → get_or (drop place text) 0 0 ≡ get_or text place 0
+byte_at text place = get_or-drop place text 0 0 ∙ ap (λ n. get_or text n 0) (add-zero place)
 
 -- a piece is taken at a place
-pub typed_step : (text : List ℕ) (place : ℕ) (quoted : Bool) (p : Piece) → place < length text → Ok p ≡ piece quoted (get_or (drop place text) 0 0) (drop 1 (drop place text)) → 0 < p.size
+taken_at : (text : List ℕ) (place : ℕ) (quoted : Bool) (p : Piece) → place < length text → Ok p ≡ piece quoted (get_or (drop place text) 0 0) (drop 1 (drop place text)) → 0 < p.size
     → typed_from place 0 quoted (drop place text) ≡ with_front (replicate p.count p.byte) (typed_from (place + p.size) 0 (quoted_after quoted (get_or (drop place text) 0 0)) (drop (place + p.size) text))
-typed_step text place quoted p h e k =
+taken_at text place quoted p h e k =
     ap (typed_from place 0 quoted) (cut_at text place h)
     ∙ (typed_piece place quoted (get_or (drop place text) 0 0) (drop 1 (drop place text)) p (sym e) k
     ∙ ap (λ v. with_front (replicate p.count p.byte) (typed_from (place + p.size) 0 (quoted_after quoted (get_or (drop place text) 0 0)) v)) (left_at text place p.size h k))
+
+pub typed_step : (text made new : List ℕ) (place : ℕ) (quoted next : Bool) (p : Piece) → place < length text → Ok p ≡ piece quoted (get_or (drop place text) 0 0) (drop 1 (drop place text)) → 0 < p.size
+    → new ≡ made ++ replicate p.count p.byte → next ≡ quoted_after quoted (get_or text place 0) → typed text ≡ with_front made (typed_from place 0 quoted (drop place text))
+    → typed text ≡ with_front new (typed_from (place + p.size) 0 next (drop (place + p.size) text))
+typed_step text made new place quoted next p h e k added goes leads =
+    let went : quoted_after quoted (get_or (drop place text) 0 0) ≡ next = ap (quoted_after quoted) (byte_at text place) ∙ sym goes in
+    leads
+    ∙ (ap (with_front made) (taken_at text place quoted p h e k)
+    ∙ (with_fronts made (replicate p.count p.byte) (typed_from (place + p.size) 0 (quoted_after quoted (get_or (drop place text) 0 0)) (drop (place + p.size) text))
+    ∙ (ap (λ v. with_front v (typed_from (place + p.size) 0 (quoted_after quoted (get_or (drop place text) 0 0)) (drop (place + p.size) text))) (sym added)
+    ∙ ap (λ v. with_front new (typed_from (place + p.size) 0 v (drop (place + p.size) text))) went)))
 
 -- a text is refused at a place
 pub typed_stop : (text : List ℕ) (place : ℕ) (quoted : Bool) (why : Reason) → place < length text → Err why ≡ piece quoted (get_or (drop place text) 0 0) (drop 1 (drop place text))
@@ -105,14 +127,18 @@ place_refused place quoted made b bs why e =
     ap (λ r. in_piece place made r (λ size left. place_from (place + 1) (size - 1) (quoted_after quoted b) left bs)) e
 
 -- a piece is passed at a place
-pub place_step : (text : List ℕ) (place : ℕ) (quoted : Bool) (made : ℕ) (p : Piece) → place < length text → Ok p ≡ piece quoted (get_or (drop place text) 0 0) (drop 1 (drop place text)) → 0 < p.size → p.size ≤ length (drop place text) → p.count ≤ made
-    → place_from place 0 quoted made (drop place text) ≡ place_from (place + p.size) 0 (quoted_after quoted (get_or (drop place text) 0 0)) (made - p.count) (drop (place + p.size) text)
-place_step text place quoted made p h e k l m =
-    let within : p.size ≤ length (drop 1 (drop place text)) + 1 = grind (arith, common_steps) in
+pub place_step : (text : List ℕ) (place : ℕ) (quoted next : Bool) (made : ℕ) (p : Piece) → place < length text → Ok p ≡ piece quoted (get_or (drop place text) 0 0) (drop 1 (drop place text)) → 0 < p.size → p.size ≤ length (drop place text) → p.count ≤ made
+    → next ≡ quoted_after quoted (get_or text place 0)
+    → place_from place 0 quoted made (drop place text) ≡ place_from (place + p.size) 0 next (made - p.count) (drop (place + p.size) text)
+place_step text place quoted next made p h e k l m goes =
+    let within : p.size ≤ length (drop 1 (drop place text)) + 1 = omega (arith, length-drop 1 (drop place text)) in
+    let went : quoted_after quoted (get_or (drop place text) 0 0) ≡ next = ap (quoted_after quoted) (byte_at text place) ∙ sym goes in
     ap (place_from place 0 quoted made) (cut_at text place h)
     ∙ (place_after place quoted made (get_or (drop place text) 0 0) (drop 1 (drop place text)) p (sym e) k within m
-    ∙ ap (place_from (place + p.size) 0 (quoted_after quoted (get_or (drop place text) 0 0)) (made - p.count)) (left_at text place p.size h k))
+    ∙ (ap (place_from (place + p.size) 0 (quoted_after quoted (get_or (drop place text) 0 0)) (made - p.count)) (left_at text place p.size h k)
+    ∙ ap (λ v. place_from (place + p.size) 0 v (made - p.count) (drop (place + p.size) text)) went))
 
+-- the byte is in the piece at a place
 pub place_found : (text : List ℕ) (place : ℕ) (quoted : Bool) (made : ℕ) (p : Piece) → place < length text → Ok p ≡ piece quoted (get_or (drop place text) 0 0) (drop 1 (drop place text)) → made < p.count
     → place_from place 0 quoted made (drop place text) ≡ place
 place_found text place quoted made p h e m =

@@ -78,12 +78,6 @@ pub enum BasicFault {
     /// The run has as many steps as it may have, and is in this line of the program.
     #[error("line {0}: too many steps")]
     TooManySteps(u16),
-    /// The text has more bytes than the limit.
-    #[error("input too large")]
-    TooLarge,
-    /// A read failed.
-    #[error("read failed")]
-    ReadFailed,
     /// Memory was refused.
     #[error("out of memory")]
     NoMemory,

@@ -18,7 +18,6 @@
 mod errors;
 mod fault;
 mod form;
-pub mod laws;
 mod lists;
 mod made;
 mod places;

@@ -28,14 +28,6 @@ pub enum TypedFault {
     NoMemory,
 }
 
-impl From<AllocError> for TypedFault {
-    fn from(_refused: AllocError) -> TypedFault
-        ensures { result ≡ TypedFault.NoMemory }
-    {
-        TypedFault::NoMemory
-    }
-}
-
 /// Returns whether a byte ends a row.
 fn ends_row(b: u8) -> bool
     ensures { result ≡ ends_row b }
@@ -100,7 +92,7 @@ fn key(bytes: &[u8]) -> Result<Piece, Reason>
 
 /// Returns the piece at the front of some bytes, of which there is one.
 #[tactic(auto, unfolding(crate::specs::Typed::piece))]
-fn piece(quoted: bool, bytes: &[u8]) -> Result<Piece, Reason>
+fn front_piece(quoted: bool, bytes: &[u8]) -> Result<Piece, Reason>
     requires { 0 < length bytes.now }
     ensures value { result ≡ piece quoted (get_or bytes.now 0 0) (drop 1 bytes.now) }
     ensures some { IfOk result (λ piece. 0 < piece.size) }
@@ -149,9 +141,11 @@ pub fn typed_text(alloc: Global, text: &[u8]) -> Result<Vec<u8>, TypedFault>
     let mut place = 0;
     let mut quoted = false;
     while place < text.len() {
-        match piece(quoted, &text[place..]) {
+        match front_piece(quoted, &text[place..]) {
             Ok(piece) => {
-                add_times(&mut made, piece.byte, piece.count)?;
+                if let Err(_) = add_times(&mut made, piece.byte, piece.count) {
+                    return Err(TypedFault::NoMemory);
+                }
                 quoted = quoted_after(quoted, text[place]);
                 place += piece.size;
             }
@@ -169,16 +163,18 @@ pub fn place_of(text: &[u8], made: usize) -> usize
     let mut place = 0;
     let mut quoted = false;
     while place < text.len() {
-        let Ok(piece) = piece(quoted, &text[place..]) else {
-            return place;
-        };
-        let count = piece.count as usize;
-        if left < count {
-            return place;
+        match front_piece(quoted, &text[place..]) {
+            Ok(piece) => {
+                let count = piece.count as usize;
+                if left < count {
+                    return place;
+                }
+                left -= count;
+                quoted = quoted_after(quoted, text[place]);
+                place += piece.size;
+            }
+            Err(_reason) => return place,
         }
-        left -= count;
-        quoted = quoted_after(quoted, text[place]);
-        place += piece.size;
     }
     place
 }
