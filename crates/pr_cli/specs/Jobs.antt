@@ -1,7 +1,8 @@
 -- Trusted: what the program answers for each job, what it leaves in the reader and in the writer,
 -- and how it ends. The answer uses the printers present, the delays, the mode, the input, the character set
 -- and the output of the job, and the shapes of characters that it is given.
-use Rattle.std.specs.Prelude.{◌≡◌, ◌⊎◌, ◌<◌, ◌≤◌, ◌-◌, ℕ, Bool, true, false, List, length, Option, Some, None, take, Result, Ok, Err, if◌then◌else◌}
+use Rattle.std.specs.Prelude.{◌≡◌, ◌⊎◌, ◌<◌, ◌≤◌, ◌-◌, ℕ, Bool, true, false, List, length, Option, Some, None, take, Result, Ok, Err, Vec, if◌then◌else◌}
+use Rattle.std.specs.Global.{Global}
 use Rattle.pr_capture.specs.declared.format.InputFormat.{InputFormat}
 use Rattle.pr_capture.specs.declared.format.InputFormat.TheVariants as source
 use Rattle.pr_capture.specs.declared.format.OutputFormat.{OutputFormat}
@@ -311,6 +312,11 @@ IsNotRead bytes TooLarge = script_limit < length bytes
 IsNotRead bytes NoMemory = Unit {0}
 IsNotRead bytes ReadFailed = Unit {0}
 IsNotRead bytes _ = ⊥
+
+-- an input is read whole, or how the program ends where it is not
+abbrev pub IsReadWhole : List ℕ → Result (Vec ℕ Global) End → Type 0
+IsReadWhole bytes (Ok read) = (read.items ≡ bytes) × (length bytes ≤ script_limit)
+IsReadWhole bytes (Err end) = (fault : CliFault) × IsNotRead bytes fault × (end ≡ Failed fault)
 
 -- how it ends a job on bytes that are read whole first, as this says
 abbrev pub EndsWhole : (List ℕ → Type 0) → List ℕ → Option (List ℕ) → Option (List ℕ) → End → Type 0

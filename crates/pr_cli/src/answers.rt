@@ -1,11 +1,10 @@
 //! A task done: its files opened, its job done over them, and what there is to say on standard error.
 
-ghost use Rattle.std.specs.Prelude.{◌≡◌, ◌≤◌, None, length, take, IfErr, IfOk, IfSome};
+ghost use Rattle.std.specs.Prelude.{◌≡◌, None, take, IfErr, IfOk, IfSome};
 ghost use Rattle.std.specs.Io.KnownBytes.{Consumes};
 ghost use Rattle.pr_input.specs.Watched.{wrapped};
 ghost use Rattle.pr_cli.specs.Answered.{EndsTask};
-ghost use Rattle.pr_jobs.specs.Pages.{script_limit};
-ghost use Rattle.pr_cli.specs.Jobs.{EndsEither, EndsInput, EndsJob, EndsListing, EndsProgram, EndsRecording, EndsRun, EndsWork, finds_format, first_bytes, form_of, found_job, started_job, strict_of};
+ghost use Rattle.pr_cli.specs.Jobs.{EndsEither, EndsJob, EndsListing, EndsProgram, EndsRecording, EndsRun, EndsWhole, EndsWork, IsReadWhole, finds_format, first_bytes, form_of, found_job, started_job, strict_of};
 ghost use Rattle.pr_cli.specs.Statuses.{answer_end, fault_status, job_end, status_of, strict_end};
 ghost use Rattle.pr_cli.specs.declared.statuses.End.TheVariants as end;
 
@@ -385,71 +384,71 @@ fn choose_form<R: Read + Drop, W: Write + Drop>(
             run_job(rt, reader, writer, names, None, work, aside)
         }
         Form::Listing(form) => answer_listing(rt, reader, writer, names, form, work, aside),
-        form => answer_program(rt, reader, writer, names, form, work, aside),
+        Form::Program { steps } => answer_program(rt, reader, writer, names, steps, work, aside),
+        Form::Either { steps } => answer_either(rt, reader, writer, names, steps, work, aside),
     }
 }
 
-/// Does a job over what a program prints, or over the text itself where that may be a script and is one, or is neither.
+/// Reads an input whole, or says why that is not done, and gives how the program ends.
+fn read_bytes<R: Read + Drop>(
+    rt: &(impl Outside + Eprint + AllocGlobal),
+    reader: R,
+    name: Option<&str>,
+    is_shown: &Cell<bool>,
+) -> Result<Vec<u8>, End>
+    ensures { IfSome (R.remaining reader) (λ bytes. IsReadWhole bytes result) }
+{
+    let mut input = Watched::new(Noting::new(reader));
+    match read_whole(rt.alloc(), &mut input, SCRIPT_LIMIT) {
+        Ok(bytes) => Ok(bytes),
+        Err(fault) => {
+            let error = input.into_inner().error();
+            clear(rt, is_shown);
+            Err(tell_failed(rt, CliFault::from(fault), name, error))
+        }
+    }
+}
+
+/// Does a job over what a program prints.
 fn answer_program<R: Read + Drop, W: Write + Drop>(
     rt: &(impl Outside + Eprint + AllocGlobal),
     reader: R,
     writer: W,
     names: Names<'_>,
-    form: Form,
+    steps: u64,
     work: Work<'_>,
     aside: Reporting<'_>,
 ) -> (End, W)
-    ensures { IfSome (R.remaining reader) (λ bytes. EndsInput work.entry.is_located work.entry.shapes.now work.entry.job form bytes
-        (W.contents writer) (W.contents result.1) result.0) }
+    ensures { IfSome (R.remaining reader) (λ bytes. EndsWhole (λ whole. EndsProgram work.entry.is_located work.entry.shapes.now work.entry.job steps whole
+        (W.contents writer) (W.contents result.1) result.0) bytes (W.contents writer) (W.contents result.1) result.0) }
 {
-    let mut input = Watched::new(Noting::new(reader));
-    let aside = Reporting {
-        is_file: false,
-        ..aside
-    };
-    match read_whole(rt.alloc(), &mut input, SCRIPT_LIMIT) {
-        Ok(bytes) => answer_read(rt, bytes.as_slice(), writer, names, form, work, aside),
-        Err(fault) => {
-            let error = input.into_inner().error();
-            clear(rt, aside.is_shown);
-            let fault = CliFault::from(fault);
-            let end = tell_failed(rt, fault, names.input, error);
-            match form {
-                Form::Program { .. } => (End::Basic(unread_fault(fault)), writer),
-                Form::Either { .. } | Form::Listing(_) => (end, writer),
-            }
-        }
-    }
-}
-
-/// Does a job over a text that was read, in this form.
-fn answer_read<W: Write + Drop>(
-    rt: &(impl Outside + Eprint + AllocGlobal),
-    bytes: &[u8],
-    writer: W,
-    names: Names<'_>,
-    form: Form,
-    work: Work<'_>,
-    aside: Reporting<'_>,
-) -> (End, W) {
-    match form {
-        Form::Program { steps } => run_program(rt, bytes, writer, names, steps, work, aside),
-        Form::Either { steps } => answer_either(rt, bytes, writer, names, steps, work, aside),
-        Form::Listing(_) => run_job(rt, bytes, writer, names, None, work, aside),
-    }
-}
-
-/// The fault of a program that was not read.
-fn unread_fault(fault: CliFault) -> BasicFault {
-    match fault {
-        CliFault::TooLarge => BasicFault::TooLarge,
-        CliFault::ReadFailed => BasicFault::ReadFailed,
-        _ => BasicFault::NoMemory,
+    match read_bytes(rt, reader, names.input, aside.is_shown) {
+        Ok(bytes) => run_program(rt, bytes.as_slice(), writer, names, steps, work, aside),
+        Err(end) => (end, writer),
     }
 }
 
 /// Does a job over a text that is a script, or else over what it prints as a program, if it is one.
-fn answer_either<W: Write + Drop>(
+fn answer_either<R: Read + Drop, W: Write + Drop>(
+    rt: &(impl Outside + Eprint + AllocGlobal),
+    reader: R,
+    writer: W,
+    names: Names<'_>,
+    steps: u64,
+    work: Work<'_>,
+    aside: Reporting<'_>,
+) -> (End, W)
+    ensures { IfSome (R.remaining reader) (λ bytes. EndsWhole (λ whole. EndsEither work.entry.is_located work.entry.shapes.now work.entry.job steps whole
+        (W.contents writer) (W.contents result.1) result.0) bytes (W.contents writer) (W.contents result.1) result.0) }
+{
+    match read_bytes(rt, reader, names.input, aside.is_shown) {
+        Ok(bytes) => run_either(rt, bytes.as_slice(), writer, names, steps, work, aside),
+        Err(end) => (end, writer),
+    }
+}
+
+/// Does a job over a text that was read: a script, or else what it prints as a program, if it is one.
+fn run_either<W: Write + Drop>(
     rt: &(impl Outside + Eprint + AllocGlobal),
     bytes: &[u8],
     writer: W,
@@ -462,7 +461,13 @@ fn answer_either<W: Write + Drop>(
         (W.contents writer) (W.contents result.1) result.0 }
 {
     match is_run(rt.alloc(), bytes) {
-        Ok(false) => run_job(rt, bytes, writer, names, None, work, aside),
+        Ok(false) => {
+            let aside = Reporting {
+                is_file: false,
+                ..aside
+            };
+            run_job(rt, bytes, writer, names, None, work, aside)
+        }
         Ok(true) => {
             let aside = Reporting {
                 note: ListingNote::Run,
@@ -487,7 +492,6 @@ fn run_program<W: Write + Drop>(
     work: Work<'_>,
     aside: Reporting<'_>,
 ) -> (End, W)
-    requires { length bytes.now ≤ script_limit }
     ensures { EndsProgram work.entry.is_located work.entry.shapes.now work.entry.job steps bytes.now
         (W.contents writer) (W.contents result.1) result.0 }
 {
@@ -520,6 +524,7 @@ fn run_text<W: Write + Drop>(
             let script = made.text.as_slice();
             let aside = Reporting {
                 is_made: true,
+                is_file: false,
                 ..aside
             };
             let (end, writer) = run_job(rt, script, writer, names, None, work, aside);

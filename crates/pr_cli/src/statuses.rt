@@ -162,9 +162,8 @@ fn basic_status(fault: BasicFault) -> u8
     ensures { result ≡ basic_status fault }
 {
     match fault {
-        BasicFault::Refused { .. }
-        | BasicFault::Listing(_)
-        | BasicFault::TooManySteps(_) => REFUSED,
+        BasicFault::Refused { .. } | BasicFault::Listing(_) | BasicFault::TooManySteps(_) =>
+            REFUSED,
         BasicFault::NoMemory => FAILED,
     }
 }

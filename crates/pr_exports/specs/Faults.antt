@@ -169,8 +169,6 @@ abbrev pub basic_numbers : BasicFault → ℕ × ℕ × ℕ
 basic_numbers (basic.Refused row column why) = reason_numbers row column why
 basic_numbers (basic.Listing why) = listing_numbers why
 basic_numbers (basic.TooManySteps line) = (148, line, 0)
-basic_numbers basic.TooLarge = (9, 0, 0)
-basic_numbers basic.ReadFailed = (90, 0, 0)
 basic_numbers basic.NoMemory = (90, 0, 0)
 
 -- how the program ends: the number of its fault, 0 for none, or 100 and that of the BASIC error that stopped a run; its place, the
