@@ -1,8 +1,14 @@
 -- Lines of a saved program that are read one by one.
-use Rattle.std.proofs.Common.{◌≡◌, ℕ, ◌+◌, List, [], ◌∷◌, ◌++◌, length, refl, ap, sym, ◌∙◌, arith, subst, append_assoc, append-nil, length-append}
-use Rattle.pr_listing.specs.Program.{BeginsWith, BeginsWithLines, Line}
-use Rattle.pr_programs.specs.Saved.{line_text, lines_text}
-use Rattle.pr_programs.specs.Seen.{IsReadTo}
+use Rattle.std.proofs.Common.{◌≡◌, ℕ, ◌+◌, List, [], ◌∷◌, ◌++◌, length, ◌⊎◌, inl, inr, refl, ap, sym, ◌∙◌, arith, subst, append_assoc, append-nil, length-append}
+use Rattle.pr_listing.specs.Found.{found_form}
+use Rattle.pr_listing.specs.Containers.{program_in}
+use Rattle.pr_listing.specs.Program.{BeginsWith, BeginsWithLines, IsProgramFault, Line}
+use Rattle.pr_listing.specs.declared.fault.ListingFault.{ListingFault}
+use Rattle.pr_listing.specs.declared.fault.ListingFault.TheVariants as listing
+use Rattle.pr_listing.specs.declared.form.ListingForm.TheVariants.{Program as Saved}
+use Rattle.pr_programs.specs.declared.fault.BasicFault.TheVariants.{NoMemory}
+use Rattle.pr_programs.specs.Saved.{IsUnsaved, line_text, lines_text}
+use Rattle.pr_programs.specs.Seen.{IsReadTo, unsaved}
 
 -- one line more at the end
 begins-one_more : (ls : List Line) (l : Line) (bytes rest after : List ℕ) → BeginsWithLines ls bytes rest → BeginsWith l rest after → BeginsWithLines (ls ++ l ∷ []) bytes after
@@ -22,3 +28,13 @@ read-one_more file text rest after number l more h b e = record {
   is_text = e ∙ ap (λ t. t ++ line_text l) h.is_text ∙ sym (text-one_more h.lines l);
   numbered = omega (arith, h.numbered, length-append h.lines (l ∷ []));
 }
+
+-- why a saved program has no text
+pub unsaved_is : (bytes : List ℕ) (f : ListingFault) → found_form bytes ≡ Saved → (f ≡ listing.NoMemory) ⊎ IsProgramFault (program_in bytes) f → (unsaved f ≡ NoMemory) ⊎ IsUnsaved bytes (unsaved f)
+unsaved_is bytes f is (inl e) = inl (ap unsaved e)
+unsaved_is bytes listing.NoMemory is (inr h) = inl refl
+unsaved_is bytes listing.NoAddress is (inr h) = inr (listing.NoAddress, is, h, refl)
+unsaved_is bytes listing.NoLine is (inr h) = inr (listing.NoLine, is, h, refl)
+unsaved_is bytes (listing.CutOff n) is (inr h) = inr (listing.CutOff n, is, h, refl)
+unsaved_is bytes (listing.UnknownName l c) is (inr h) = inr (listing.UnknownName l c, is, h, refl)
+unsaved_is bytes (listing.BadByte l c) is (inr h) = inr (listing.BadByte l c, is, h, refl)

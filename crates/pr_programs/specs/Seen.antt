@@ -2,8 +2,10 @@
 use Rattle.std.specs.Prelude.{ℕ, suc, ◌≡◌, ◌⊎◌, ◌<◌, ⊤, List, ◌∷◌, ◌++◌, Result, Err, length}
 use Rattle.pr_basic.specs.Grammar.{Item}
 use Rattle.pr_listing.specs.Program.{Holds, Line}
+use Rattle.pr_listing.specs.declared.fault.ListingFault.{ListingFault}
+use Rattle.pr_listing.specs.declared.fault.ListingFault.TheVariants as listing
 use Rattle.pr_programs.specs.declared.fault.BasicFault.{BasicFault}
-use Rattle.pr_programs.specs.declared.fault.BasicFault.TheVariants.{NoMemory}
+use Rattle.pr_programs.specs.declared.fault.BasicFault.TheVariants.{Listing, NoMemory}
 use Rattle.pr_programs.specs.declared.typed.TypedFault.{TypedFault}
 use Rattle.pr_programs.specs.declared.typed.TypedFault.TheVariants as typed_fault
 use Rattle.pr_programs.specs.Saved.{lines_text}
@@ -32,3 +34,8 @@ pub record IsReadTo (file text rest : List ℕ) (number : ℕ) : Type 0 where
   pub held : Holds lines file rest
   pub is_text : text ≡ lines_text lines
   pub numbered : number ≡ suc (length lines)
+
+-- the fault of a saved program that has no text
+abbrev pub unsaved : ListingFault → BasicFault
+unsaved listing.NoMemory = NoMemory
+unsaved why = Listing why

@@ -4,6 +4,7 @@ ghost use Rattle.std.specs.Prelude.{◌≡◌, ◌++◌, ◌∷◌, ◌<◌, [],
 ghost use Rattle.pr_listing.specs.Keywords.{is_token};
 ghost use Rattle.pr_listing.specs.Listing.{is_letter};
 ghost use Rattle.pr_listing.specs.Program.{IsProgramFault};
+ghost use Rattle.pr_programs.specs.Seen.{unsaved};
 ghost use Rattle.pr_programs.specs.Saved.{IsSavedText, IsTypedProgram, IsUnsaved, byte_text, bytes_text, digit, is_plain, key_text, line_text, mode_after, spelled};
 
 use crate::fault::BasicFault;
@@ -174,6 +175,16 @@ fn saved_text(alloc: Global, file: &[u8]) -> Result<Vec<u8>, ListingFault>
     }
 }
 
+/// Returns the fault of a saved program that has no text.
+fn unsaved(fault: ListingFault) -> BasicFault
+    ensures { result ≡ unsaved fault }
+{
+    match fault {
+        ListingFault::NoMemory => BasicFault::NoMemory,
+        _ => BasicFault::Listing(fault),
+    }
+}
+
 /// Makes the text of a program as it is typed, where the first bytes show that it is a saved one, as it is or in a P00 or
 /// T64 file. None for any other text.
 ///
@@ -185,12 +196,12 @@ pub fn typed_program(alloc: Global, bytes: &[u8]) -> Result<Option<Sequence<u8>>
     ensures ok { IfOk result (λ found. IsTypedProgram bytes.now found) }
     ensures err { IfErr result (λ fault. (fault ≡ BasicFault.NoMemory) ⊎ IsUnsaved bytes.now fault) }
 {
-    if found_form(bytes) != ListingForm::Program {
-        return Ok(None);
+    match found_form(bytes) {
+        ListingForm::Program => {}
+        _ => return Ok(None),
     }
     match saved_text(alloc, program_in(bytes)) {
         Ok(text) => Ok(Some(Sequence::from_vec(text))),
-        Err(ListingFault::NoMemory) => Err(BasicFault::NoMemory),
-        Err(fault) => Err(BasicFault::Listing(fault)),
+        Err(fault) => Err(unsaved(fault)),
     }
 }

@@ -4,8 +4,8 @@ use Rattle.pr_programs.proofs.places.row_of.Goals as goal
 
 pub loop-b-preserved : goal.loop-b-preserved
 loop-b-preserved c = record {
-  rows = omega (arith, c.loop-b.invariant.rows, c.row_end.ensures.value, row_passed _ c.loop-b.b-index c.loop-b.after_return c.loop-b-test.true);
-  few = omega (arith, c.loop-b.invariant.few, c.row_end.ensures.most);
+  rows = omega (arith, c.loop-b.invariant.rows, c.row_end-row.ensures.value, row_passed _ c.loop-b.b-index c.loop-b.after_return c.loop-b-test.true);
+  few = omega (arith, c.loop-b.invariant.few, c.row_end-row.ensures.most);
 }
 
 pub returns : goal.returns
