@@ -1,5 +1,5 @@
 -- Lines of a saved program that are read one by one.
-use Rattle.std.proofs.Common.{◌≡◌, ℕ, ◌+◌, List, [], ◌∷◌, ◌++◌, length, ◌⊎◌, inl, inr, refl, ap, sym, ◌∙◌, arith, subst, append_assoc, append-nil, length-append}
+use Rattle.std.proofs.Common.{◌≡◌, ℕ, ◌+◌, List, [], ◌∷◌, ◌++◌, ◌⊎◌, inl, inr, refl, ap, sym, ◌∙◌, arith, subst, append_assoc, append-nil, length-append}
 use Rattle.pr_listing.specs.Found.{found_form}
 use Rattle.pr_listing.specs.Containers.{program_in}
 use Rattle.pr_listing.specs.Program.{BeginsWith, BeginsWithLines, IsProgramFault, Line}

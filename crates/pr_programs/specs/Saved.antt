@@ -1,5 +1,5 @@
 -- Trusted: the text of a saved program as it is typed.
-use Rattle.std.specs.Prelude.{◌≡◌, ◌⊎◌, ℕ, ◌+◌, ◌/◌, ◌%◌, ◌&&◌, ◌||◌, ◌==◌, not, Bool, List, [], ◌∷◌, ◌++◌, decimal, nat_le, Option, Some, None, if◌then◌else◌}
+use Rattle.std.specs.Prelude.{◌≡◌, ◌⊎◌, ℕ, ◌+◌, ◌/◌, ◌%◌, ◌&&◌, ◌==◌, not, Bool, List, [], ◌∷◌, ◌++◌, decimal, nat_le, Option, Some, None, if◌then◌else◌}
 use Rattle.pr_basic.specs.Grammar.{is_printable}
 use Rattle.pr_listing.specs.Containers.{program_in}
 use Rattle.pr_listing.specs.Found.{found_form}

@@ -1,7 +1,7 @@
-use Rattle.std.proofs.Common.{◌≡◌, ◌∙◌, ap, arith, drop, length, length-drop, sym}
+use Rattle.std.proofs.Common.{◌≡◌, ◌∙◌, ap, arith, drop, length, length-drop}
 use Rattle.std.proofs.lemmas.List.{take_rest}
 use Rattle.pr_programs.specs.Typed.{with_front}
-use Rattle.pr_programs.proofs.TypedLemmas.{typed_end, typed_step, typed_stop, with_nothing}
+use Rattle.pr_programs.proofs.TypedLemmas.{typed_end, typed_step, typed_stop}
 use Rattle.pr_programs.proofs.typed.typed_text.Goals as goal
 
 pub loop-place-preserved : goal.loop-place-preserved
