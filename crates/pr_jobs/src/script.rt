@@ -3,6 +3,7 @@
 ghost use Rattle.std.specs.Prelude.{IfSome};
 ghost use Rattle.pr_input.specs.Watched.{wrapped};
 ghost use Rattle.pr_jobs.specs.Does.{AreFresh, DoesJob};
+ghost use Rattle.pr_jobs.specs.Outcomes.{GivesScript};
 ghost use Rattle.pr_jobs.specs.Pages.{IsRunFault, ReadsToEnd, WritesNothing};
 ghost use Rattle.pr_jobs.specs.Script.{AnswersScript};
 
@@ -12,6 +13,14 @@ use pr_basic::read_script;
 use pr_input::{Watched, WriteFault, read_whole, write_whole};
 use std::alloc::Global;
 use std::io::{Read, Write};
+
+/// Reads the statements of a text, if it is a script.
+fn check_script(alloc: Global, text: &[u8]) -> Result<(), CliFault>
+    ensures { GivesScript text.now result }
+{
+    let _statements = read_script(alloc, text)?;
+    Ok(())
+}
 
 /// Reads a text to its end and writes it, if it is a script.
 ///
@@ -40,7 +49,7 @@ pub fn script_over<R: Read, W: Write>(
     ensures does { DoesJob IsRunFault input.new output.new result }
 {
     let text = read_whole(alloc, input, SCRIPT_LIMIT)?;
-    let _statements = read_script(alloc, &text)?;
+    check_script(alloc, &text)?;
     match write_whole(output, &text) {
         Ok(()) => Ok(()),
         Err(WriteFault) => Err(CliFault::WriteFailed),
