@@ -52,7 +52,7 @@ use Rattle.pr_jobs.specs.Check.{AnswersCheck, trace_limit}
 use Rattle.pr_jobs.specs.Report.{AnswersReport, IsReportFault, WritesNoReport}
 use Rattle.pr_jobs.specs.Report as check
 use Rattle.pr_jobs.specs.Raw.{AnswersRaw, IsRawFault}
-use Rattle.pr_jobs.specs.Script.{AnswersScript}
+use Rattle.pr_cli.specs.Script.{AnswersScript}
 use Rattle.pr_recording.specs.declared.byte_log.Heard.{Heard}
 use Rattle.pr_recording.specs.declared.bytes.Overheard.{Overheard}
 use Rattle.pr_recording.specs.declared.listening.Listening.{Listening}

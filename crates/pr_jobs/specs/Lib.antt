@@ -2,7 +2,6 @@ pub mod PageText
 pub mod Formats
 pub mod Runs
 pub mod Pages
-pub mod Script
 pub mod Outcomes
 pub mod Tables
 pub mod Faults

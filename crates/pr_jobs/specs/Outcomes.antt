@@ -24,10 +24,3 @@ GivesOutcome start script (Err NoMemory) = Unit {0}
 GivesOutcome start script (Err TooLarge) = ⊥
 GivesOutcome start script (Err ReadFailed) = ⊥
 GivesOutcome start script (Err WriteFailed) = ⊥
-
--- the text is a script, or the fault is its first
-abbrev pub GivesScript : List ℕ → Result (Unit {0}) CliFault → Type 0
-GivesScript text (Ok done) = (statements : List Statement) × IsScript text statements
-GivesScript text (Err (Script f)) = (f ≢ fault.NoMemory) × IsFirstFault text f
-GivesScript text (Err NoMemory) = Unit {0}
-GivesScript text (Err _) = ⊥

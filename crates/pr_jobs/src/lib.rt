@@ -21,7 +21,6 @@
 //! - `check` hands each block to pr_wire's `Checker`, and adds the lines of the frames that come
 //!   (`frame_text`). `report` does so for recordings and stories, with `trace_reporter`, which counts edges from
 //!   where the trace begins (`beginning`), and `reporter`.
-//! - `script` writes a script's text as it is.
 //! - `characters` reads the shapes in which pictures draw characters from a file.
 #![tactic(auto)]
 
@@ -41,7 +40,6 @@ mod raw;
 mod report;
 mod reporter;
 mod run;
-mod script;
 mod short_text;
 mod source_reader;
 mod text;
@@ -66,6 +64,5 @@ pub use raw::{RAW_LIMIT, outcome_with, print_input, raw_over};
 pub use report::{report_input, write_check_report};
 pub use reporter::ReportText;
 pub use run::{Ending, HeldMarks, PagesEnd, PaperEnd, RunEnd, Start};
-pub use script::script_over;
 pub use source_reader::{SourceReader, texts_say_samples};
 pub use text::Text;

@@ -3,14 +3,12 @@
 ghost use Rattle.std.specs.Prelude.{IfSome};
 ghost use Rattle.pr_input.specs.Watched.{wrapped};
 ghost use Rattle.pr_jobs.specs.Does.{AreFresh, DoesJob};
-ghost use Rattle.pr_jobs.specs.Outcomes.{GivesScript};
 ghost use Rattle.pr_jobs.specs.Pages.{IsRunFault, ReadsToEnd, WritesNothing};
-ghost use Rattle.pr_jobs.specs.Script.{AnswersScript};
+ghost use Rattle.pr_cli.specs.Script.{AnswersScript, GivesScript};
 
-use crate::fault::CliFault;
-use crate::pages::SCRIPT_LIMIT;
 use pr_basic::read_script;
-use pr_input::{Watched, WriteFault, read_whole, write_whole};
+use pr_input::{WriteFault, read_whole, write_whole};
+use pr_jobs::{CliFault, SCRIPT_LIMIT, Watched};
 use std::alloc::Global;
 use std::io::{Read, Write};
 
