@@ -32,7 +32,7 @@ use pr_files::{Noting, Unsaved, save};
 use pr_jobs::{CliFault, PictureFault, RunEnd, SCRIPT_LIMIT, TeeReader, Watched, read_whole};
 use pr_listing::{ListingForm, TextFault, plain_form, read_text};
 use pr_options::{DecodeOutput, Job, PagesOutput, Task};
-use pr_programs::{BasicFault, Form, is_run, made_script, typed_program};
+use pr_programs::{Form, is_run, made_script, typed_program};
 use pr_render::Format;
 use pr_serial::Present;
 use std::alloc::Global;
