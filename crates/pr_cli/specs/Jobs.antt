@@ -39,6 +39,7 @@ use Rattle.pr_options.specs.declared.outputs.PagesOutput.{PagesOutput}
 use Rattle.pr_options.specs.declared.outputs.PagesOutput.TheVariants as output
 use Rattle.pr_capture.specs.Found.{found_format}
 use Rattle.pr_jobs.specs.declared.fault.CliFault.{CliFault}
+use Rattle.pr_jobs.specs.declared.fault.CliFault.TheVariants.{NoMemory, ReadFailed, TooLarge}
 use Rattle.pr_jobs.specs.declared.run.Ending.{Ending}
 use Rattle.pr_jobs.specs.declared.run.Ending.TheVariants.{Done}
 use Rattle.pr_jobs.specs.declared.run.PagesEnd.{PagesEnd}
