@@ -4,7 +4,7 @@ ghost use Rattle.std.specs.Prelude.{◌≡◌, None, take, IfErr, IfOk, IfSome};
 ghost use Rattle.std.specs.Io.KnownBytes.{Consumes};
 ghost use Rattle.pr_input.specs.Watched.{wrapped};
 ghost use Rattle.pr_cli.specs.Answered.{EndsTask};
-ghost use Rattle.pr_cli.specs.Jobs.{EndsEither, EndsJob, EndsListing, EndsProgram, EndsRecording, EndsRun, EndsWhole, EndsWork, IsReadWhole, finds_format, first_bytes, form_of, found_job, started_job, strict_of};
+ghost use Rattle.pr_cli.specs.Jobs.{EndsEither, EndsInput, EndsJob, EndsListing, EndsProgram, EndsRecording, EndsRun, EndsWhole, EndsWork, IsReadWhole, finds_format, first_bytes, form_of, found_job, started_job, strict_of};
 ghost use Rattle.pr_cli.specs.Statuses.{answer_end, fault_status, job_end, status_of, strict_end};
 ghost use Rattle.pr_cli.specs.declared.statuses.End.TheVariants as end;
 
@@ -380,12 +380,47 @@ fn choose_form<R: Read + Drop, W: Write + Drop>(
         return answer_recording(rt, reader, writer, names, work, aside);
     }
     match form_of(&work.job) {
-        Form::Listing(ListingForm::Text) => {
-            run_job(rt, reader, writer, names, None, work, aside)
-        }
-        Form::Listing(form) => answer_listing(rt, reader, writer, names, form, work, aside),
+        Form::Listing(form) => answer_text(rt, reader, writer, names, form, work, aside),
         Form::Program { steps } => answer_program(rt, reader, writer, names, steps, work, aside),
         Form::Either { steps } => answer_either(rt, reader, writer, names, steps, work, aside),
+    }
+}
+
+/// Does a job over the text of a script, or of a listing in another form.
+fn answer_text<R: Read + Drop, W: Write + Drop>(
+    rt: &(impl Outside + Eprint + AllocGlobal),
+    reader: R,
+    writer: W,
+    names: Names<'_>,
+    form: ListingForm,
+    work: Work<'_>,
+    aside: Reporting<'_>,
+) -> (End, W)
+    ensures { IfSome (R.remaining reader) (λ bytes. EndsInput work.entry.is_located work.entry.shapes.now work.entry.job (Form.Listing form) bytes
+        (W.contents writer) (W.contents result.1) result.0) }
+{
+    match form {
+        ListingForm::Text => run_job(rt, reader, writer, names, None, work, aside),
+        ListingForm::Program => {
+            answer_listing(rt, reader, writer, names, ListingForm::Program, work, aside)
+        }
+        ListingForm::Petcat => {
+            answer_listing(rt, reader, writer, names, ListingForm::Petcat, work, aside)
+        }
+        ListingForm::Magazine => {
+            answer_listing(
+                rt,
+                reader,
+                writer,
+                names,
+                ListingForm::Magazine,
+                work,
+                aside,
+            )
+        }
+        ListingForm::Auto => {
+            answer_listing(rt, reader, writer, names, ListingForm::Auto, work, aside)
+        }
     }
 }
 
