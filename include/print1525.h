@@ -241,9 +241,9 @@ enum print1525_fault {
 const char *print1525_strerror(int fault);
 
 /* Writes what the program writes of these details, as `line 3: unknown word`, `edge 5: too early`, `out of memory` or
- * `?FILE NOT OPEN  ERROR (statement 3)`, of a program `?SYNTAX  ERROR IN 20`; of a bad setting `setting top: bad setting`. At most capacity - 1 bytes of it,
- * and a zero byte if there is room for one. Returns the length of all of it, as snprintf does. Of NULL and of status 0
- * this is 0. */
+ * `?FILE NOT OPEN  ERROR (statement 3)`, of a program `?SYNTAX  ERROR IN 20`; of a bad setting
+ * `setting top: bad setting`. At most capacity - 1 bytes of it, and a zero byte if there is room for one. Returns the
+ * length of all of it, as snprintf does. Of NULL and of status 0 this is 0. */
 size_t print1525_message(const print1525_details *details, char *text, size_t capacity);
 
 /* PRINT1525_VERSION of the library that is linked. */
@@ -754,12 +754,13 @@ int print1525_answer(const char *const *words, const void *input, size_t input_l
 
 /* Runs a script and gives its pages.
  *
- * Reads: a script of at most 16,777,216 bytes, or a listing that has the text of one.
+ * Reads: a script of at most 16,777,216 bytes, a listing that has the text of one, or a program that prints one.
  * Gives: what `print1525 pages` writes. Status 1 comes with the BASIC error that stopped the run; what was printed
  * until then is in the text.
  * Refuses: settings (82); a text above the limit (9), before it is read; characters, by their first bad line (52); a
- * listing by its first fault (61 to 65), a program by what is refused (131 to 148), and a script (1 to 7); after the run a sheet that does not exist (50), with
- * how many there are, and a document that is too large or a PNG file of more than 1,000,000 lines of pixels (51). */
+ * listing by its first fault (61 to 65), a program by what is refused (131 to 148), and a script (1 to 7); after the
+ * run a sheet that does not exist (50), with how many there are, and a document that is too large or a PNG file of more
+ * than 1,000,000 lines of pixels (51). */
 int print1525_pages(const void *script, size_t script_length, const print1525_settings *settings, void *text,
                     size_t capacity, size_t *length, print1525_details *details);
 
