@@ -1,7 +1,7 @@
 -- Trusted: the value of an expression. Its nodes are worked out from left to right: each takes the last of what was
 -- given before it, and gives something itself. What stops an operand stops what takes it, in the order in which the
 -- machine looks at its operands.
-use Rattle.std.specs.Prelude.{ℕ, zero, suc, ◌+◌, ◌-◌, ◌*◌, ◌^◌, ◌==◌, ◌&&◌, ◌||◌, Bool, true, false, not, List, [], ◌∷◌}
+use Rattle.std.specs.Prelude.{ℕ, zero, suc, ◌+◌, ◌-◌, ◌==◌, ◌&&◌, ◌||◌, Bool, true, false, not, List, [], ◌∷◌}
 use Rattle.std.specs.Prelude.{◌++◌, length, take, drop, count_by, slice_index_or, slice_range, nat_le, nat_lt}
 use Rattle.std.specs.Prelude.{if◌then◌else◌, Option, Some, None, Result, Ok, Err}
 use Rattle.pr_interpreter.specs.declared.given.Given.{Given}
@@ -23,7 +23,7 @@ use Rattle.pr_interpreter.specs.declared.names.Name.{Name}
 use Rattle.pr_interpreter.specs.declared.values.BasicError.TheVariants.{BadSubscript, FormulaTooComplex, Syntax}
 use Rattle.pr_interpreter.specs.declared.values.BasicError.TheVariants.{TypeMismatch, UndefinedFunction}
 use Rattle.pr_interpreter.specs.declared.values.Halt.{Halt}
-use Rattle.pr_interpreter.specs.declared.values.Halt.TheVariants.{Error, NotCertain, NotTaken, OutOfMemory}
+use Rattle.pr_interpreter.specs.declared.values.Halt.TheVariants.{Error, FullMemory, NotCertain, NotTaken, OutOfMemory}
 use Rattle.pr_interpreter.specs.declared.values.Stop.{Stop}
 use Rattle.pr_interpreter.specs.declared.values.Stop.TheVariants.{Error as Reported, NotCertain as Uncertain}
 use Rattle.pr_interpreter.specs.declared.values.Stop.TheVariants.{OutOfMemory as NoMemory}
@@ -33,12 +33,14 @@ use Rattle.pr_interpreter.specs.Constants.{value_of}
 use Rattle.pr_interpreter.specs.ExpressionLaws.{operands}
 use Rattle.pr_interpreter.specs.Functions.{character, first_byte, integer_part, length_of, middle, number_at_front}
 use Rattle.pr_interpreter.specs.Functions.{number_text, part_of, sign_number, square_root, whole_to, with_whole}
-use Rattle.pr_interpreter.specs.Memory.{array_of, element_at, element_bytes, function_of, is_clock, is_status}
-use Rattle.pr_interpreter.specs.Memory.{parameter, parameter_of, place_of, undimensioned, variable_value, with_array}
+use Rattle.pr_interpreter.specs.Memory.{array_of, element_at, function_of, is_clock, is_status, parameter}
+use Rattle.pr_interpreter.specs.Memory.{parameter_of, place_of, undimensioned, undimensioned_bytes, variable_value}
+use Rattle.pr_interpreter.specs.Memory.{with_array}
 use Rattle.pr_interpreter.specs.Numbers.{Known, absolute, order_of, whole_number, zero_number}
 use Rattle.pr_interpreter.specs.Values.{calculated, of_numbers, of_texts}
 
--- what the values of an expression come from: the program's text, and what the machine keeps
+-- what the values of an expression come from: the program's text, and what the machine keeps; and how many bytes of
+-- memory there surely are for arrays
 pub record Scope : Type 0 where
   pub text : List ℕ
   pub parameters : List Parameter
@@ -46,6 +48,7 @@ pub record Scope : Type 0 where
   pub functions : List Function
   pub column : Option ℕ
   pub has_sent : Bool
+  pub memory : ℕ
 
 -- The arrays, which reading an element may make; what was given and is not taken yet, the last at the end; and how many
 -- strings the machine keeps for the expression itself.
@@ -290,19 +293,19 @@ element a is = element_or a (place_of 0 a.bounds is)
 
 -- with one more array
 abbrev pub in_new : ℕ → Array → List ℕ → Working → Option Arrays → Working
-in_new place a is w None = give (Stopped (NotTaken place)) w
+in_new place a is w None = give (Stopped (FullMemory place)) w
 in_new place a is w (Some arrays) = give (element a is) (record w { arrays = arrays })
 
 -- an array that is used before DIM is made
-unfoldable pub in_array : ℕ → Name → List ℕ → Working → Option Array → Working
-in_array place name is w (Some a) = give (element a is) w
-in_array place name is w None =
+unfoldable pub in_array : ℕ → ℕ → Name → List ℕ → Working → Option Array → Working
+in_array room place name is w (Some a) = give (element a is) w
+in_array room place name is w None =
     let a = undimensioned name (length is) in
-    in_new place a is w (with_array a (element_bytes name.kind * 11 ^ length is) w.arrays)
+    in_new place a is w (with_array room a (undimensioned_bytes name.kind (length is)) w.arrays)
 
-abbrev pub indexed : ℕ → Name → Working → Result (List ℕ) Halt → Working
-indexed place name w (Err halt) = give (Stopped halt) w
-indexed place name w (Ok is) = in_array place name is w (array_of name w.arrays.list)
+abbrev pub indexed : ℕ → ℕ → Name → Working → Result (List ℕ) Halt → Working
+indexed room place name w (Err halt) = give (Stopped halt) w
+indexed room place name w (Ok is) = in_array room place name is w (array_of name w.arrays.list)
 
 -- ---- functions of the program
 
@@ -346,7 +349,7 @@ after worker scope w place (Apply op) =
 after worker scope w place (Call (Builtin f) count) =
     give (called f place scope.column (arguments count w)) (without count w)
 after worker scope w place (Call (Element name) count) =
-    indexed place name (without count w) (indices place [] (arguments count w))
+    indexed scope.memory place name (without count w) (indices place [] (arguments count w))
 after worker scope w place (Call (Own name) count) =
     own worker place scope (without 1 w) name (number_in (last_given w.given))
 

@@ -18,6 +18,7 @@ scope_of parameters s = record {
   functions = s.functions.now;
   column = s.column;
   has_sent = s.has_sent;
+  memory = s.memory;
 }
 
 -- an expression has a value, and leaves arrays

@@ -165,28 +165,29 @@ impl Work {
         self.give(given)
     }
 
-    /// Makes an array that is used before DIM, if there is room, and gives an element.
+    /// Makes an array that is used before DIM, if there is memory for it, and gives an element.
     fn in_new(
         &mut self,
         alloc: Global,
+        room: u16,
         place: usize,
         name: Name,
         indices: &[u16],
     ) -> Result<(), AllocError>
-        ensures { OnOk result (seen self.new ≡ in_array place name indices.now (seen self.old) None) }
+        ensures { OnOk result (seen self.new ≡ in_array room place name indices.now (seen self.old) None) }
     {
         let array = undimensioned(alloc, name, indices.len())?;
         let given = element(alloc, &array, indices)?;
         let Some(bytes) = undimensioned_bytes(name.kind, indices.len()) else {
-            self.give(Given::Stopped(Halt::NotTaken(place)))?;
+            self.give(Given::Stopped(Halt::FullMemory(place)))?;
             return Ok(());
         };
-        let is_added = self.arrays.add(alloc, array, bytes)?;
+        let is_added = self.arrays.add(alloc, room, array, bytes)?;
         if is_added {
             self.give(given)?;
             return Ok(());
         }
-        self.give(Given::Stopped(Halt::NotTaken(place)))?;
+        self.give(Given::Stopped(Halt::FullMemory(place)))?;
         Ok(())
     }
 
@@ -195,12 +196,13 @@ impl Work {
     fn in_array(
         &mut self,
         alloc: Global,
+        room: u16,
         place: usize,
         name: Name,
         indices: &[u16],
     ) -> Result<(), AllocError>
         ensures { OnOk result (seen self.new
-            ≡ in_array place name indices.now (seen self.old) (array_of name (seen self.old).arrays.list)) }
+            ≡ in_array room place name indices.now (seen self.old) (array_of name (seen self.old).arrays.list)) }
     {
         let found = element_of(alloc, name, self.arrays.list.as_slice(), indices)?;
         match found {
@@ -209,7 +211,7 @@ impl Work {
                 Ok(())
             }
             None => {
-                self.in_new(alloc, place, name, indices)?;
+                self.in_new(alloc, room, place, name, indices)?;
                 Ok(())
             }
         }
@@ -219,17 +221,18 @@ impl Work {
     fn take_element(
         &mut self,
         alloc: Global,
+        room: u16,
         place: usize,
         name: Name,
         count: usize,
     ) -> Result<(), AllocError>
-        ensures { OnOk result (seen self.new ≡ indexed place name (without count (seen self.old))
+        ensures { OnOk result (seen self.new ≡ indexed room place name (without count (seen self.old))
             (indices place [] (arguments count (seen self.old)))) }
     {
         let found = indices(alloc, place, self.arguments(count))?;
         self.take(count);
         match found {
-            Ok(indices) => self.in_array(alloc, place, name, indices.as_slice()),
+            Ok(indices) => self.in_array(alloc, room, place, name, indices.as_slice()),
             Err(halt) => self.give(Given::Stopped(halt)),
         }
     }
@@ -313,7 +316,9 @@ impl Work {
             Node::Variable(name) => self.give_variable(alloc, scope, parameters, place, name),
             Node::Apply(operator) => self.apply(alloc, place, operator),
             Node::Call { callee, count } => match callee {
-                Callee::Array(name) => self.take_element(alloc, place, name, usize::from(count)),
+                Callee::Array(name) => {
+                    self.take_element(alloc, scope.memory, place, name, usize::from(count))
+                }
                 Callee::Own(name) => self.call_own(alloc, depth, scope, parameters, place, name),
                 Callee::Function(token) => {
                     self.call(alloc, place, scope.column, token, usize::from(count))

@@ -65,6 +65,8 @@ pub enum Halt {
     NotCertain(usize),
     /// At this place is what a run does not take, as RND or TI.
     NotTaken(usize),
+    /// At this place is an array for which the machine may have no memory.
+    FullMemory(usize),
 }
 
 /// Returns why there is no value where a calculation has no result.

@@ -31,6 +31,7 @@ use Rattle.pr_run.specs.declared.outcome.Outcome.{Outcome}
 use Rattle.pr_run.specs.declared.performed.Performed.{Performed}
 use Rattle.pr_run.specs.declared.programs.Program.{Program}
 use Rattle.pr_run.specs.Lists.{ends_after}
+use Rattle.pr_run.specs.Memory.{memory_limit, program_bytes}
 use Rattle.pr_run.specs.Outputs.{is_open, no_line, open_error}
 use Rattle.pr_run.specs.Runs.{outcome, run}
 use Rattle.pr_run.specs.Uses.{whole_of}
@@ -167,7 +168,7 @@ abbrev pub step_count : List ProgramLine → ℕ
 step_count [] = 0
 step_count (l ∷ ls) = length l.statements + 1 + step_count ls
 
--- a plain program performs in order what it says
+-- a plain program for which the machine surely has the memory performs in order what it says
 abbrev pub PlainRuns : Type 0
-PlainRuns = (p : Program) (said : List Performed) (limit : ℕ)
+PlainRuns = (p : Program) (said : List Performed) (limit : ℕ) → program_bytes p ≤ memory_limit
     → LinesSay p.text p.lines said → step_count p.lines ≤ limit → run limit p ≡ in_order [] said

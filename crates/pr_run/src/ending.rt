@@ -23,7 +23,7 @@ pub enum Refusal {
     OpenFiles,
     /// The machine's stack may be full of loops and calls.
     FullStack,
-    /// The machine's memory may be full of arrays.
+    /// The machine's memory may be full of the program, its variables, its arrays and its strings.
     FullMemory,
 }
 

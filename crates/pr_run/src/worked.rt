@@ -6,6 +6,7 @@ ghost use Rattle.pr_run.specs.Uses.{ending_of, line_at, statement_place, stateme
 ghost use Rattle.pr_run.specs.Worked.{number, truth, whole, worked};
 
 use crate::ending::Ending;
+use crate::memory::bytes_for_arrays;
 use crate::programs::Program;
 use crate::state::Run;
 use crate::uses::{Use, ending_of, first_place, halted, number_of, truth_of, whole_of};
@@ -76,6 +77,7 @@ pub fn worked(
         functions: run.functions.as_slice(),
         column: if run.at_left { Some(0) } else { None },
         has_sent: run.has_sent,
+        memory: bytes_for_arrays(program, run),
     };
     match evaluate(alloc, &scope, &mut run.arrays, nodes) {
         Ok(value) => Ok(value),

@@ -4,12 +4,12 @@ use Rattle.pr_interpreter.proofs.evaluation.Work.in_new.Goals as goal
 
 pub returns-in_default : goal.returns-in_default
 returns-in_default c =
-    new_large c.args.place c.args.name c.args.indices.now (seen c.args.self.now) (seen c.give.new.self)
-    c.in_default.ensures.value c.in_ok-give.ensures
+    new_large c.args.room c.args.place c.args.name c.args.indices.now (seen c.args.self.now) (seen c.give.new.self)
+    (omega arith) c.in_default.ensures.value c.in_ok-give.ensures
 
 pub returns-then-is_added : goal.returns-then-is_added
 returns-then-is_added c =
-    new_added c.args.place c.args.name c.args.indices.now (seen c.args.self.now) (seen c.give-then-is_added.new.self)
+    new_added c.args.room c.args.place c.args.name c.args.indices.now (seen c.args.self.now) (seen c.give-then-is_added.new.self)
     c.in_ok-array.array c.in_ok-given.given c.in-Some.bytes c.in_ok-is_added.is_added c.add.new.self
     c.in_ok-array.ensures
     c.in_ok-given.ensures c.in-Some.ensures.value c.in_ok-is_added.ensures.room c.in_ok-is_added.ensures.added
@@ -17,6 +17,6 @@ returns-then-is_added c =
 
 pub returns : goal.returns
 returns c =
-    new_full c.args.place c.args.name c.args.indices.now (seen c.args.self.now) (seen c.give-2.new.self)
+    new_full c.args.room c.args.place c.args.name c.args.indices.now (seen c.args.self.now) (seen c.give-2.new.self)
     c.in_ok-array.array c.in-Some.bytes c.in_ok-is_added.is_added c.add.new.self c.in-Some.ensures.value
     c.in_ok-is_added.ensures.room c.in_ok-is_added.ensures.added c.if-is_added.false c.in_ok-give-3.ensures
