@@ -10,7 +10,7 @@ use Rattle.pr_interpreter.specs.declared.expressions.Placed.{Placed}
 use Rattle.pr_interpreter.specs.declared.memory.Array.{Array}
 use Rattle.pr_interpreter.specs.declared.memory.Arrays.{Arrays}
 use Rattle.pr_interpreter.specs.declared.names.Name.{Name}
-use Rattle.pr_interpreter.specs.declared.values.Halt.TheVariants.{FullMemory, NotTaken}
+use Rattle.pr_interpreter.specs.declared.values.Halt.TheVariants.{FullMemory, FullStack}
 
 abbrev pub some_given : Given → Option Given
 some_given g = Some g
@@ -35,7 +35,7 @@ worked_more (suc depth) place scope w nodes h =
     let less : suc depth - 1 ≡ depth = omega arith in rw less refl
 
 pub worked_none : (depth place : ℕ) (scope : Scope) (w : Working) (nodes : List Placed) → depth ≡ 0
-    → give (Stopped (NotTaken place)) w ≡ worked depth place scope w nodes
+    → give (Stopped (FullStack place)) w ≡ worked depth place scope w nodes
 worked_none depth place scope w nodes e = rw e refl
 
 -- ---- elements of arrays

@@ -64,6 +64,8 @@ pub struct Scope<'a> {
     pub has_sent: bool,
     /// How many bytes of the machine's memory there surely are for arrays.
     pub memory: u16,
+    /// How many bytes of the machine's stack there surely are for what waits in an expression.
+    pub stack: u8,
 }
 
 /// From so many elements on, there is no array.

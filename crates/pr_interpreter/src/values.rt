@@ -67,6 +67,8 @@ pub enum Halt {
     NotTaken(usize),
     /// At this place is an array for which the machine may have no memory.
     FullMemory(usize),
+    /// At this place is an operand or a call for which the machine's stack may have no room.
+    FullStack(usize),
 }
 
 /// Returns why there is no value where a calculation has no result.

@@ -1,6 +1,6 @@
 -- Trusted: what is assigned to: variables, and elements of arrays. DIM and CLR.
 use Rattle.std.specs.Prelude.{ℕ, ◌+◌, ◌-◌, ◌*◌, ◌==◌, ◌||◌, Bool, false, List, [], ◌∷◌, ◌++◌, length, replicate}
-use Rattle.std.specs.Prelude.{slice_set, if◌then◌else◌, Option, Some, None, Ok, Err}
+use Rattle.std.specs.Prelude.{slice_set, nat_le, if◌then◌else◌, Option, Some, None, Ok, Err}
 use Rattle.pr_interpreter.specs.declared.expressions.Placed.{Placed}
 use Rattle.pr_interpreter.specs.declared.memory.Array.{Array}
 use Rattle.pr_interpreter.specs.declared.memory.Arrays.{Arrays}
@@ -15,7 +15,7 @@ use Rattle.pr_interpreter.specs.Memory.{array_bytes, array_of, first_value, is_c
 use Rattle.pr_interpreter.specs.Memory.{same_name, undimensioned, undimensioned_bytes, with_array}
 use Rattle.pr_run.specs.declared.ending.Ending.{Ending}
 use Rattle.pr_run.specs.declared.ending.Ending.TheVariants.{Error, Refused}
-use Rattle.pr_run.specs.declared.ending.Refusal.TheVariants.{FullMemory, NotTaken, OpenFiles}
+use Rattle.pr_run.specs.declared.ending.Refusal.TheVariants.{FullMemory, FullStack, NotTaken, OpenFiles}
 use Rattle.pr_run.specs.declared.programs.Program.{Program}
 use Rattle.pr_run.specs.declared.uses.Use.{Use}
 use Rattle.pr_run.specs.Memory.{bytes_for_arrays, fits, strings_with}
@@ -81,8 +81,9 @@ in_memory p u s = if fits p s then Ok s else Err (Refused FullMemory u.place)
 unfoldable pub index : Program → Use → State → List Placed → Worked (Valued ℕ)
 index p u s nodes = then_on (worked p s nodes) (λ v t. valued t (used u (whole_of 32767 v)))
 
+-- indices of an element that a statement names: with more than five the machine's stack may be full
 unfoldable pub indices : Program → Use → State → List (List Placed) → Worked (Valued (List ℕ))
-indices p u s is = every (index p u) [] s is
+indices p u s is = if nat_le (length is) 5 then every (index p u) [] s is else Err (Refused FullStack u.place)
 
 -- one more array, if the machine surely has the memory for it
 abbrev pub made_array : Use → State → Option Arrays → Worked State

@@ -214,7 +214,7 @@ fn index(
     }
 }
 
-/// Works out indices.
+/// Works out indices of an element that a statement names: with more than five the machine's stack may be full.
 #[tactic(auto, unfolding(crate::specs::Assignments::indices))]
 fn indices(
     alloc: Global,
@@ -226,6 +226,12 @@ fn indices(
     ensures ok { IfOk result (λ found. indices program.now at (state_of run.old) expressions.now ≡ gives found.items run.new) }
     ensures err { IfErr result (λ e. EndsAs e (indices program.now at (state_of run.old) expressions.now)) }
 {
+    if 5 < expressions.len() {
+        return Err(Ending::Refused {
+            refusal: Refusal::FullStack,
+            place: at.place,
+        });
+    }
     let mut found = Vec::new(alloc);
     'each: for nodes in expressions {
         let index = index(alloc, program, at, run, nodes.as_slice())?;

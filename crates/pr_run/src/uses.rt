@@ -54,6 +54,10 @@ pub fn halted(line: u16, halt: Halt) -> Ending
             refusal: Refusal::FullMemory,
             place,
         },
+        Halt::FullStack(place) => Ending::Refused {
+            refusal: Refusal::FullStack,
+            place,
+        },
         Halt::Error(error) => Ending::Error { error, line },
         Halt::OutOfMemory => Ending::OutOfMemory,
     }

@@ -7,6 +7,7 @@ ghost use Rattle.pr_run.specs.Worked.{number, truth, whole, worked};
 
 use crate::ending::Ending;
 use crate::memory::bytes_for_arrays;
+use crate::opened::stack_left;
 use crate::programs::Program;
 use crate::state::Run;
 use crate::uses::{Use, ending_of, first_place, halted, number_of, truth_of, whole_of};
@@ -78,6 +79,7 @@ pub fn worked(
         column: if run.at_left { Some(0) } else { None },
         has_sent: run.has_sent,
         memory: bytes_for_arrays(program, run),
+        stack: stack_left(run.opened.as_slice()),
     };
     match evaluate(alloc, &scope, &mut run.arrays, nodes) {
         Ok(value) => Ok(value),

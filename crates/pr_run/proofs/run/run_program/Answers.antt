@@ -5,7 +5,6 @@ use Rattle.pr_run.proofs.StepLemmas.{runs_ended}
 use Rattle.pr_run.proofs.run.run_program.Goals as goal
 
 pub returns-in-Some : goal.returns-in-Some
-unfolding run
 returns-in-Some c =
     let leads = rw c.in-Some.is at c.in_ok-ending.ensures in
     ap (λ (ps : List Performed). outcome ps c.in-Some.ending c.steps.run.skipped_poke) c.from_vec.ensures
