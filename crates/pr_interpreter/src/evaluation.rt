@@ -336,6 +336,7 @@ impl Work {
         alloc: Global,
         depth: usize,
         scope: &Scope<'_>,
+        parameters: &[Parameter],
         it: Placed,
     ) -> Result<(), AllocError>
         ensures { OnOk result (seen self.new

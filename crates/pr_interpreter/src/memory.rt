@@ -182,8 +182,8 @@ pub fn element_bytes(kind: Kind) -> usize
 /// Returns how many bytes of the machine's memory an array takes with so many dimensions and elements.
 #[tactic(auto, using(crate::proofs::MemoryLemmas::bytes_fit))]
 pub fn array_bytes(kind: Kind, dimensions: usize, elements: usize) -> usize
-    requires { dimensions ≤ 65535 }
-    requires { elements ≤ 65535 }
+    requires few_dimensions { dimensions ≤ 65535 }
+    requires few_elements { elements ≤ 65535 }
     ensures { result ≡ array_bytes kind dimensions elements }
 {
     5 + 2 * dimensions + element_bytes(kind) * elements
