@@ -82,6 +82,7 @@ class Literal(Expression):
     written: Union[Constant, bytes]
 
     def evaluate(self, run: Run) -> Value:
+        run.need_stack(self.place)
         if isinstance(self.written, bytes):
             return self.written
         with used_at(self.place):
@@ -109,21 +110,52 @@ class Variable(Expression):
     def is_system(self) -> bool:
         return not self.indices and (self.name.letters, self.name.kind) in (("TI", ""), ("TI", "$"), ("ST", ""))
 
+    def whole_indices(self, run: Run, *waiting: int) -> tuple[int, ...]:
+        """Its indices, where so many bytes wait on the machine's stack while each is worked out."""
+        with used_at(self.place):
+            return tuple(whole(run.number(it, size), 0, 32767) for it, size in zip(self.indices, waiting))
+
+    def named_indices(self, run: Run) -> tuple[int, ...]:
+        """Its indices where a statement names it, which has the stack for five."""
+        if len(self.indices) > 5:
+            raise Refused(self.place, "the stack may be full")
+        return self.whole_indices(run, *(0 for _ in self.indices))
+
     def slot(self, run: Run) -> Slot:
-        """Where its value is kept."""
+        """Where its value is kept that a statement names."""
         if not self.indices:
             return run.variables, self.name
-        with used_at(self.place):
-            return run.element(self.name, tuple(whole(run.number(it), 0, 32767) for it in self.indices), self.place)
+        return run.element(self.name, self.named_indices(run), self.place)
 
     def evaluate(self, run: Run) -> Value:
+        if self.indices:
+            waiting = (14 + 2 * at for at in range(len(self.indices)))
+            values, key = run.element(self.name, self.whole_indices(run, *waiting), self.place)
+            return values.get(key, self.name.first_value)
+        run.need_stack(self.place)
         if self.is_system():
             return run.system_variable(self.name, self.place)
-        values, key = self.slot(run)
-        return values.get(key, b"" if self.name.kind == "$" else ZERO)
+        return run.variables.get(self.name, self.name.first_value)
 
     def strings(self) -> tuple[int, int]:
         return max((it.strings()[0] for it in self.indices), default=0), 0
+
+
+@dataclass(frozen=True)
+class Group(Expression):
+    """What is in parentheses."""
+
+    part: Expression
+
+    def evaluate(self, run: Run) -> Value:
+        return run.value(self.part, 5)
+
+    @property
+    def gives_text(self) -> bool:
+        return self.part.gives_text
+
+    def strings(self) -> tuple[int, int]:
+        return self.part.strings()
 
 
 @dataclass(frozen=True)
@@ -134,7 +166,7 @@ class Unary(Expression):
     operand: Expression
 
     def evaluate(self, run: Run) -> Value:
-        value = run.number(self.operand)
+        value = run.number(self.operand, WAITING)
         with used_at(self.place):
             return negated(value) if self.word == "-" else exact(~signed_whole(value))
 
@@ -142,6 +174,7 @@ class Unary(Expression):
         return self.operand.strings()[0], 0
 
 
+WAITING = 13  # bytes of the stack that an operator takes until its last operand has a value
 OPERATIONS: dict[str, Callable[[Number, Number], Number]] = {
     "^": power,
     "*": multiply,
@@ -165,7 +198,7 @@ class Binary(Expression):
         left = self.left.evaluate(run)
         if isinstance(left, bytes) and self.word in OPERATIONS and self.word != "+":
             raise BasicError("TYPE MISMATCH")
-        right = self.right.evaluate(run)
+        right = run.value(self.right, WAITING)
         with used_at(self.place):
             if isinstance(left, bytes) and isinstance(right, bytes):
                 return self.of_strings(left, right)
@@ -206,7 +239,7 @@ class Call(Expression):
     arguments: tuple[Expression, ...]
 
     def evaluate(self, run: Run) -> Value:
-        values = [it.evaluate(run) for it in self.arguments]
+        values = [run.value(it, 4 + 4 * at) for at, it in enumerate(self.arguments, 1)]
         if any(isinstance(it, bytes) != (self.word in OF_STRINGS and not at) for at, it in enumerate(values)):
             raise BasicError("TYPE MISMATCH")
         if self.word in INEXACT:
@@ -270,17 +303,14 @@ class OwnCall(Expression):
     argument: Expression
 
     def evaluate(self, run: Run) -> Value:
-        value = run.number(self.argument)
+        value = run.number(self.argument, 9)
         if self.name not in run.functions:
             raise BasicError("UNDEF'D FUNCTION")
-        if run.depth > 8:
-            raise Refused(self.place, "the stack may be full")
+        run.need_stack(self.place, 16)
         parameter, body = run.functions[self.name]
-        before = run.variables.get(parameter, ZERO)
+        before = run.variable(parameter)
         run.variables[parameter] = value
-        run.depth += 1
-        found = run.number(body)
-        run.depth -= 1
+        found = run.number(body, 16)
         run.variables[parameter] = before
         return found
 
