@@ -1,4 +1,4 @@
-use Rattle.std.proofs.Common.{◌≡◌, ℕ, zero, suc, ◌+◌, ◌-◌, ◌*◌, ◌^◌, ◌<◌, Bool, true, false, nat_le, if◌then◌else◌}
+use Rattle.std.proofs.Common.{◌≡◌, ℕ, zero, suc, ◌+◌, ◌-◌, ◌<◌, ◌≤◌, Bool, true, false, nat_le, if◌then◌else◌}
 use Rattle.std.proofs.Common.{List, length, arith, refl, sym, ap, ◌∙◌, Option, Some, None}
 use Rattle.std.proofs.lemmas.Bool.{lt-leb}
 use Rattle.pr_interpreter.specs.Evaluation.{Scope, Working, element, give, in_array, through, worked}
@@ -73,9 +73,9 @@ pub new_added : (room place : ℕ) (name : Name) (is : List ℕ) (w v : Working)
     → arrays ≡ (if b then added a (w.arrays.bytes + bytes) w.arrays else w.arrays) → b ≡ true
     → v ≡ give g (record w { arrays = arrays }) → v ≡ in_array room place name is w no_array
 unfolding in_array
-new_added room place name is w v a g bytes b arrays array value size room left test given =
+new_added room place name is w v a g bytes b arrays array value size below left test given =
     let fits : nat_le (w.arrays.bytes + elements_bytes name is) room ≡ true
-    = ap (λ (n : ℕ). nat_le (w.arrays.bytes + n) room) (sym size) ∙ (sym room ∙ test) in
+    = ap (λ (n : ℕ). nat_le (w.arrays.bytes + n) room) (sym size) ∙ (sym below ∙ test) in
     let new = undimensioned name (length is) in
     let after : arrays ≡ added new (w.arrays.bytes + elements_bytes name is) w.arrays
     = left
@@ -92,9 +92,9 @@ pub new_full : (room place : ℕ) (name : Name) (is : List ℕ) (w v : Working) 
     → arrays ≡ (if b then added a (w.arrays.bytes + bytes) w.arrays else w.arrays) → b ≡ false
     → v ≡ give (Stopped (FullMemory place)) (record w { arrays = arrays }) → v ≡ in_array room place name is w no_array
 unfolding in_array
-new_full room place name is w v a bytes b arrays size room left test given =
+new_full room place name is w v a bytes b arrays size below left test given =
     let fits : nat_le (w.arrays.bytes + elements_bytes name is) room ≡ false
-    = ap (λ (n : ℕ). nat_le (w.arrays.bytes + n) room) (sym size) ∙ (sym room ∙ test) in
+    = ap (λ (n : ℕ). nat_le (w.arrays.bytes + n) room) (sym size) ∙ (sym below ∙ test) in
     let after : arrays ≡ w.arrays
     = left ∙ ap (λ (c : Bool). if c then added a (w.arrays.bytes + bytes) w.arrays else w.arrays) test in
     rw fits (given ∙ ap (λ (x : Arrays). give (Stopped (FullMemory place)) (record w { arrays = x })) after)

@@ -103,15 +103,13 @@ waiting_reverse (x ∷ xs) =
     omega arith
 
 -- what something takes that waits is counted
-pub bytes_taken : (w : Waiting) (xs : List Waiting) (i size n : ℕ) → i < length xs → w ≡ get_or xs i w
-    → n ≡ pending_bytes w.pending → size + waiting_bytes (drop i xs) ≡ waiting_bytes xs
+pub bytes_taken : (d : Waiting) (xs : List Waiting) (i size n : ℕ) → i < length xs
+    → n ≡ pending_bytes (get_or xs i d).pending → size + waiting_bytes (drop i xs) ≡ waiting_bytes xs
     → size + n + waiting_bytes (drop (i + 1) xs) ≡ waiting_bytes xs
-bytes_taken w xs i size n h item taken all =
-    let cut : drop i xs ≡ get_or xs i w ∷ drop (i + 1) xs = rw add-one (drop-cons xs i w h) in
-    let sizes : waiting_bytes (drop i xs) ≡ pending_bytes (get_or xs i w).pending + waiting_bytes (drop (i + 1) xs) =
+bytes_taken d xs i size n h taken all =
+    let cut : drop i xs ≡ get_or xs i d ∷ drop (i + 1) xs = rw add-one (drop-cons xs i d h) in
+    let sizes : waiting_bytes (drop i xs) ≡ pending_bytes (get_or xs i d).pending + waiting_bytes (drop (i + 1) xs) =
     rw cut refl in
-    let same : pending_bytes (get_or xs i w).pending ≡ pending_bytes w.pending =
-    ap (λ (v : Waiting). pending_bytes v.pending) (sym item) in
     omega arith
 
 -- there are more than are counted

@@ -1,3 +1,4 @@
+use Rattle.std.proofs.Common.{arith}
 use Rattle.pr_interpreter.specs.Working.{seen}
 use Rattle.pr_interpreter.proofs.EvaluationLemmas.{new_added, new_full, new_large}
 use Rattle.pr_interpreter.proofs.evaluation.Work.in_new.Goals as goal
@@ -5,7 +6,7 @@ use Rattle.pr_interpreter.proofs.evaluation.Work.in_new.Goals as goal
 pub returns-in_default : goal.returns-in_default
 returns-in_default c =
     new_large c.args.room c.args.place c.args.name c.args.indices.now (seen c.args.self.now) (seen c.give.new.self)
-    (omega arith) c.in_default.ensures.value c.in_ok-give.ensures
+    (omega (arith, c.ranges.room)) c.in_default.ensures.value c.in_ok-give.ensures
 
 pub returns-then-is_added : goal.returns-then-is_added
 returns-then-is_added c =
