@@ -19,6 +19,7 @@ FAULTS = (
     "INPUT A", "PRINT#4,1/3*3;", "A=1/0", "E(11)=1", "PRINT RND(1)", 'A="X"', "NEXT Z9", "RETURN", "GOTO 9", "PRINT#4,CHR$(2^5)",
     "B$=CHR$(300)", "PRINT#9,A", "OPEN 4,4", "X=2 3 Y", "PRINT MID$(A$,0)", "A%=40000", "POKE 1,1", "IF 1/3=1/3 THEN A=1", "X=SQR(9)",
     "T1$=MID$(A$,1,-1)", "READ A,B,X,Y9,Z,A,B,X,Y9,Z,A,B,X,Y9,Z", "GOSUB 63000", "DIM E(3)", "PRINT#4,TAB(300)", "A=SIN(0)", "STOP", "END",
+    "DIM Z(7600)", "DEF FNZ(X)=FNZ(X):A=FNZ(1)",
 )  # fmt: skip
 
 

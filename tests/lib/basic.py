@@ -103,6 +103,7 @@ class Run:
         self.performed: list[str] = []
         self.notes: list[str] = []
         self.waiting = 0  # bytes of the stack that wait for the part of an expression that is worked out
+        self.strings = 0  # that the machine keeps for an expression
         self.clear()
         self.need_memory(0)
 
@@ -133,6 +134,17 @@ class Run:
         found = expression.evaluate(self)
         self.waiting -= waiting
         return found
+
+    def made(self, text: bytes) -> bytes:
+        """A string that the machine makes for an expression: it keeps at most three."""
+        if self.strings == 3:
+            raise BasicError("FORMULA TOO COMPLEX")
+        self.strings += 1
+        return text
+
+    def free(self, *parts: Expression) -> None:
+        """Strings that were made for these parts are kept no more."""
+        self.strings -= sum(it.makes_text for it in parts)
 
     def number(self, expression: Expression, waiting: int = 0) -> Number:
         value = self.value(expression, waiting)
