@@ -15,7 +15,7 @@ use Rattle.pr_run.specs.Endings.{is_memory}
 use Rattle.pr_run.specs.Memory.{fits}
 use Rattle.pr_run.specs.Runs.{after_turn, ending_in, outcome, run, run_from}
 use Rattle.pr_run.specs.Seen.{LeadsOn, TurnEndsAs, joined, rest_of, state_of, turned, turned_by}
-use Rattle.pr_run.specs.States.{first_state}
+use Rattle.pr_run.specs.States.{State, first_state}
 use Rattle.pr_run.specs.Steps.{Ends, step}
 
 -- what was performed before joins what a turn leads to
@@ -57,8 +57,10 @@ pub run_begins : (p : Program) (limit : ℕ) (performed : List Performed) (r : R
     → joined performed (run_from p limit (state_of r)) ≡ run limit p
 unfolding run
 run_begins p limit performed r b none first test hit =
-    let enough : fits p first_state ≡ true = rw ← first (sym test ∙ hit) in
-    rw (enough, none, first) refl
+    let enough : fits p first_state ≡ true = ap (λ (s : State). fits p s) (sym first) ∙ (sym test ∙ hit) in
+    let whole : run_from p limit first_state ≡ run limit p = rw enough refl in
+    ap (λ (s : State). joined performed (run_from p limit s)) first
+    ∙ (ap (λ (ps : List Performed). joined ps (run_from p limit first_state)) none ∙ whole)
 
 -- there may be none
 pub run_refused : (p : Program) (limit : ℕ) (performed : List Performed) (r : Run) (b : Bool) → performed ≡ []
@@ -66,8 +68,9 @@ pub run_refused : (p : Program) (limit : ℕ) (performed : List Performed) (r : 
     → outcome performed (Refused FullMemory 0) None ≡ run limit p
 unfolding run
 run_refused p limit performed r b none first test miss =
-    let few : fits p first_state ≡ false = rw ← first (sym test ∙ miss) in
-    rw (few, none) refl
+    let few : fits p first_state ≡ false = ap (λ (s : State). fits p s) (sym first) ∙ (sym test ∙ miss) in
+    let whole : outcome [] (Refused FullMemory 0) None ≡ run limit p = rw few refl in
+    ap (λ (ps : List Performed). outcome ps (Refused FullMemory 0) None) none ∙ whole
 
 -- one of the steps that are left is done
 pub runs_on : (p : Program) (left : ℕ) (before after : List Performed) (old new : Run) (whole : Outcome) → 0 < left

@@ -58,7 +58,6 @@ fn set_variable(variables: &mut Vec<Variable>, name: Name, value: Value) -> Resu
 }
 
 /// Adds a variable, 0 or empty, unless there is one of its name.
-#[tactic(auto, using(crate::proofs::ReplacedLemmas::added_at, crate::proofs::ReplacedLemmas::added_end), unfolding(crate::specs::Assignments::declared))]
 pub fn declare(alloc: Global, variables: &mut Vec<Variable>, name: Name) -> Result<(), Ending>
     ensures ok { OnOk result (variables.new.items ≡ declared name variables.old.items) }
     ensures err { IfErr result (λ e. e ≡ Ending.OutOfMemory) }
@@ -68,7 +67,8 @@ pub fn declare(alloc: Global, variables: &mut Vec<Variable>, name: Name) -> Resu
         return Ok(());
     }
     let value = first_value(alloc, name.kind);
-    put(variables, Variable { name, value })
+    put(variables, Variable { name, value })?;
+    Ok(())
 }
 
 /// Returns how many arrays come before the one of a name; all, if there is none.

@@ -1,6 +1,6 @@
 //! The machine's memory.
 
-ghost use Rattle.std.specs.Prelude.{◌≡◌, ◌≤◌};
+ghost use Rattle.std.specs.Prelude.{◌≡◌, ◌+◌, ◌*◌, ◌^◌, ◌≤◌};
 ghost use Rattle.pr_interpreter.specs.Memory.{array_of, variable_value};
 ghost use Rattle.pr_run.specs.Assignments.{in_memory};
 ghost use Rattle.pr_run.specs.Memory.{bytes_for_arrays, bytes_without_arrays, element_value, fits, string_bytes, strings_with, value_of};
@@ -79,15 +79,25 @@ pub fn strings_with(run: &Run, name: Name, place: Option<u32>, value: &Value) ->
     }
 }
 
+/// Returns how many bytes a text takes with its lines, variables and functions.
+fn total(text: usize, lines: usize, variables: usize, functions: usize) -> u128
+    ensures within { result ≤ 2 ^ 70 }
+    ensures value { result ≡ text + 5 * lines + 7 * (variables + functions) }
+{
+    text as u128 + 5 * lines as u128 + 7 * (variables as u128 + functions as u128)
+}
+
 /// Returns how many bytes a program and a run take, but for arrays.
 #[tactic(auto, unfolding(crate::specs::Memory::bytes_without_arrays))]
 fn bytes_without_arrays(program: &Program, run: &Run) -> u128
-    ensures { result ≡ bytes_without_arrays program.now (state_of run.now) }
+    ensures within { result ≤ 2 ^ 80 }
+    ensures value { result ≡ bytes_without_arrays program.now (state_of run.now) }
 {
-    let text = program.text.as_slice().len() as u128;
-    let lines = program.lines.as_slice().len() as u128;
-    let names = run.variables.len() as u128 + run.functions.len() as u128;
-    text + 5 * lines + 7 * names + u128::from(run.strings)
+    let text = program.text.as_slice().len();
+    let lines = program.lines.as_slice().len();
+    let variables = run.variables.len();
+    let functions = run.functions.len();
+    total(text, lines, variables, functions) + u128::from(run.strings)
 }
 
 /// Returns how many bytes there are for arrays.

@@ -86,7 +86,7 @@ fn without_steps(program: &Program, run: &Run) -> Ending
 /// # Errors
 ///
 /// Memory ran out.
-#[tactic(auto, using(crate::proofs::StepLemmas::runs_on, crate::proofs::StepLemmas::runs_ended, crate::proofs::StepLemmas::runs_out), unfolding(crate::specs::Runs::run))]
+#[tactic(auto, using(crate::proofs::StepLemmas::run_begins, crate::proofs::StepLemmas::run_refused, crate::proofs::StepLemmas::runs_on, crate::proofs::StepLemmas::runs_ended, crate::proofs::StepLemmas::runs_out), unfolding(crate::specs::Runs::run))]
 pub fn run_program(alloc: Global, program: &Program, limit: u64) -> Result<Outcome, AllocError>
     ensures { IfOk result (λ outcome. outcome ≡ run limit program.now) }
 {

@@ -15,11 +15,11 @@ use crate::items::{read_statement, restore_statement};
 use crate::jumps::{
     for_statement, if_statement, jump, next_statement, on_statement, return_statement,
 };
+use crate::memory::need_memory;
 use crate::outputs::{
     Output, close_statement, command_statement, open_statement, print_file_statement,
     print_statement,
 };
-use crate::memory::need_memory;
 use crate::performed::Performed;
 use crate::programs::Program;
 use crate::state::Run;

@@ -72,14 +72,16 @@ pub fn worked(
     ensures err { IfErr result (λ e. EndsAs e (worked program.now (state_of run.old) nodes.now)) }
 {
     let line = line_at(program, run);
+    let memory = bytes_for_arrays(program, run);
+    let stack = stack_left(run.opened.as_slice());
     let scope = Scope {
         text: program.text.as_slice(),
         variables: run.variables.as_slice(),
         functions: run.functions.as_slice(),
         column: if run.at_left { Some(0) } else { None },
         has_sent: run.has_sent,
-        memory: bytes_for_arrays(program, run),
-        stack: stack_left(run.opened.as_slice()),
+        memory,
+        stack,
     };
     match evaluate(alloc, &scope, &mut run.arrays, nodes) {
         Ok(value) => Ok(value),
