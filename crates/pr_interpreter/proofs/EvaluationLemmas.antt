@@ -61,14 +61,15 @@ elements_bytes name is = undimensioned_bytes name.kind (length is)
 
 -- it has too many dimensions
 pub new_large : (room place : ℕ) (name : Name) (is : List ℕ) (w v : Working) → room ≤ 65535
-    → 65535 < elements_bytes name is → v ≡ give (Stopped (FullMemory place)) w → v ≡ in_array room place name is w no_array
+    → 65535 < elements_bytes name is → v ≡ give (Stopped (FullMemory place)) w
+    → v ≡ in_array room place name is w no_array
 unfolding in_array
 new_large room place name is w v small large given =
     rw (lt-leb (w.arrays.bytes + elements_bytes name is) room (omega arith)) given
 
 -- there is room
-pub new_added : (room place : ℕ) (name : Name) (is : List ℕ) (w v : Working) (a : Array) (g : Given) (bytes : ℕ) (b : Bool)
-    (arrays : Arrays) → a ≡ undimensioned name (length is) → g ≡ element a is → bytes ≡ elements_bytes name is
+pub new_added : (room place : ℕ) (name : Name) (is : List ℕ) (w v : Working) (a : Array) (g : Given) (bytes : ℕ)
+    (b : Bool) (arrays : Arrays) → a ≡ undimensioned name (length is) → g ≡ element a is → bytes ≡ elements_bytes name is
     → b ≡ nat_le (w.arrays.bytes + bytes) room
     → arrays ≡ (if b then added a (w.arrays.bytes + bytes) w.arrays else w.arrays) → b ≡ true
     → v ≡ give g (record w { arrays = arrays }) → v ≡ in_array room place name is w no_array

@@ -1,9 +1,9 @@
-use Rattle.std.proofs.Common.{◌≡◌, ℕ, ◌+◌, ◌<◌, ◌≤◌, List, [], ◌∷◌, ◌++◌, length, drop, get_or, min, reverse, arith, sym}
-use Rattle.std.proofs.Common.{refl, ap, ◌∙◌, Option, Some, None, add-one, drop-cons}
+use Rattle.std.proofs.Common.{◌≡◌, ℕ, ◌+◌, ◌<◌, ◌≤◌, List, [], ◌∷◌, ◌++◌, length, drop, get_or, min, reverse, arith}
+use Rattle.std.proofs.Common.{sym, refl, ap, ◌∙◌, Option, Some, None, add-one, drop-cons}
 use Rattle.std.proofs.lemmas.List.{drop_all, reverse-append}
 use Rattle.pr_interpreter.specs.Expressions.{Done, Refused, Stacks, Turn, bound, close_pending, close_turn}
-use Rattle.pr_interpreter.specs.Expressions.{comma_pending, comma_turn, end_turn, node_at, pending_bytes, settle, settled}
-use Rattle.pr_interpreter.specs.Expressions.{waiting_bytes, with_node, with_waiting}
+use Rattle.pr_interpreter.specs.Expressions.{comma_pending, comma_turn, end_turn, node_at, pending_bytes, settle}
+use Rattle.pr_interpreter.specs.Expressions.{settled, waiting_bytes, with_node, with_waiting}
 use Rattle.pr_interpreter.specs.declared.expressions.Node.TheVariants.{Apply}
 use Rattle.pr_interpreter.specs.declared.expressions.Operator.{Operator}
 use Rattle.pr_interpreter.specs.declared.expressions.Placed.{Placed}

@@ -117,8 +117,8 @@ impl Work {
         constant: Constant,
     ) -> Result<(), AllocError>
         ensures { OnOk result (seen self.new
-            ≡ give (operand (scope_of parameters.now scope.now) place stacked (number_or place (calculated (value_of constant))))
-            (seen self.old)) }
+            ≡ give (operand (scope_of parameters.now scope.now) place stacked
+            (number_or place (calculated (value_of constant)))) (seen self.old)) }
     {
         let given = number_or(place, calculated(value_of(constant)));
         self.give(operand(scope, parameters, place, stacked, given))
@@ -136,8 +136,8 @@ impl Work {
         end: usize,
     ) -> Result<(), AllocError>
         ensures { OnOk result (seen self.new
-            ≡ give (operand (scope_of parameters.now scope.now) place stacked (literal place scope.now.text.now start end))
-            (seen self.old)) }
+            ≡ give (operand (scope_of parameters.now scope.now) place stacked
+            (literal place scope.now.text.now start end)) (seen self.old)) }
     {
         let given = literal(alloc, place, scope.text, start, end)?;
         self.give(operand(scope, parameters, place, stacked, given))
@@ -277,8 +277,8 @@ impl Work {
         number: Number,
     ) -> Result<(), AllocError>
         ensures { OnOk result (seen self.new
-            ≡ entered (worked depth) place (stacked + function_bytes) (scope_of parameters.now scope.now) (seen self.old)
-            number function.now) }
+            ≡ entered (worked depth) place (stacked + function_bytes) (scope_of parameters.now scope.now)
+            (seen self.old) number function.now) }
     {
         let taken = usize::from(stacked) + FUNCTION;
         if usize::from(scope.stack) < taken {

@@ -174,8 +174,11 @@ command_to_turns : (p : Program) (s : State) (is : List Item) (file : ℕ) (line
     → s.opened ≡ [] → is_open file s.files ≡ opened → IsList p.text is line
     → Turns number s (Cmd file line) (output number (command_to p is file s))
 command_to_turns p s is file line number true free e c =
-    let r = list_is p (directed file s) is line free c in
-    (with_left r.0 (directed file s), record { place = refl; skipped = refl; opened = refl; loops = refl }, rw (e, r.1) refl)
+    let r = list_is p (directed file s) is line free c in (
+      with_left r.0 (directed file s),
+      record { place = refl; skipped = refl; opened = refl; loops = refl },
+      rw (e, r.1) refl,
+    )
 command_to_turns p s is file line number false free e c =
     (s, record { place = refl; skipped = refl; opened = refl; loops = refl }, rw e refl)
 
@@ -310,7 +313,8 @@ turn_nothing p s st e = rw e refl
 line_runs : (p : Program) (ss : List PlacedStatement) (l : ProgramLine) (ls : List ProgramLine) (os : List Output)
     (more : List Performed) (s : State) (limit : ℕ)
     → slice_get p.lines s.place.line ≡ Some l → drop s.place.statement l.statements ≡ ss → s.skipped_poke ≡ None
-    → s.opened ≡ [] → LineSays p.text ss os → Finishes p (s.place.line + 1) ls more → length ss + 1 + step_count ls ≤ limit
+    → s.opened ≡ [] → LineSays p.text ss os → Finishes p (s.place.line + 1) ls more
+    → length ss + 1 + step_count ls ≤ limit
     → run_from p limit s ≡ in_order s.files (in_line l.number os ++ more)
 unfolding run_from step found_at
 line_runs p [] l ls os more s zero e f none free says rest h = absurd (omega (arith, h))
@@ -325,7 +329,8 @@ line_runs p (x ∷ xs) l ls os more s (suc m) e f none free (inl quiet) rest h =
     let next : drop t.place.statement l.statements ≡ xs =
     rw add-one (drop_tail s.place.statement l.statements xs x f) in
     let few : length xs + 1 + step_count ls ≤ m = omega (arith, h) in
-    rw (e, here, turn_nothing p t x.statement quiet.0) (line_runs p xs l ls os more t m e next none free quiet.1 rest few)
+    rw (e, here, turn_nothing p t x.statement quiet.0)
+    (line_runs p xs l ls os more t m e next none free quiet.1 rest few)
 line_runs p (x ∷ xs) l ls os more s (suc m) e f none free (inr says) rest h =
     let here = drop_head s.place.statement l.statements xs x f in
     let t : State = record s { place = after_statement s.place } in

@@ -144,7 +144,8 @@ assigned p u name at v s = and_then (used u (kept name.kind v)) (λ w. in_memory
 -- LET: where the value is kept is worked out first
 unfoldable pub let_statement : Program → State → Target → List Placed → Worked State
 let_statement p s t nodes =
-    then_on (target_place p s t) (λ at r. then_on (worked p r nodes) (λ v u. assigned p (use_of p u nodes) t.name at v u))
+    then_on (target_place p s t)
+    (λ at r. then_on (worked p r nodes) (λ v u. assigned p (use_of p u nodes) t.name at v u))
 
 -- ---- DIM
 

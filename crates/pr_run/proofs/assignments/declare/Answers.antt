@@ -23,5 +23,6 @@ returns-clause-ok c =
     let all : length c.args.variables.now.items
     ≤ position_or_len (λ x. same_name c.args.name x.name) c.args.variables.now.items =
     omega arith in
-    let with : Value → List Variable = (λ v. c.args.variables.now.items ++ record { name = c.args.name; value = v } ∷ []) in
+    let with : Value → List Variable =
+    (λ v. c.args.variables.now.items ++ record { name = c.args.name; value = v } ∷ []) in
     c.in_ok-put.ensures.ok ∙ (ap with c.first_value-value.ensures ∙ sym (added_end _ _ _ all))

@@ -10,8 +10,8 @@ returns-in_default c =
 
 pub returns-then-is_added : goal.returns-then-is_added
 returns-then-is_added c =
-    new_added c.args.room c.args.place c.args.name c.args.indices.now (seen c.args.self.now) (seen c.give-then-is_added.new.self)
-    c.in_ok-array.array c.in_ok-given.given c.in-Some.bytes c.in_ok-is_added.is_added c.add.new.self
+    new_added c.args.room c.args.place c.args.name c.args.indices.now (seen c.args.self.now)
+    (seen c.give-then-is_added.new.self) c.in_ok-array.array c.in_ok-given.given c.in-Some.bytes c.in_ok-is_added.is_added c.add.new.self
     c.in_ok-array.ensures
     c.in_ok-given.ensures c.in-Some.ensures.value c.in_ok-is_added.ensures.room c.in_ok-is_added.ensures.added
     c.if-is_added.true c.in_ok-give-2.ensures
