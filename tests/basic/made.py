@@ -80,6 +80,19 @@ class Maker:
         name = self.rng.choice(LOOPS + WHOLES + ("C1",))
         return self.pick(lambda: str(self.rng.randrange(8)), lambda: f"({name} AND 7)")
 
+    def deep(self, depth: int) -> str:
+        """A number for which more and more waits on the machine's stack."""
+        a = self.deep(depth - 1) if depth else self.constant()
+        return self.pick(
+            lambda: f"({a})",
+            lambda: f"{self.rng.randrange(3)}{self.rng.choice('+-<')}({a})",
+            lambda: self.rng.choice((f"-{a}", f"NOT ({a})")),
+            lambda: f"{self.rng.choice(('ABS', 'INT', 'SGN', *self.functions))}({a})",
+            lambda: f"LEN({self.rng.choice(('STR$(', 'LEFT$(A$,', 'MID$(A$,1,'))}{a}))",
+            lambda: f"E({a} AND 7)",
+            lambda: f"F%({self.rng.randrange(3)},{a} AND 1)",
+        )
+
     def text(self, depth: int = 2) -> str:
         """An expression that gives a string."""
         if not depth or self.chance(40):
@@ -145,6 +158,8 @@ class Maker:
         """One statement that goes on with the next."""
         if self.chance(0.35):
             return self.rng.choice(FAULTS)
+        if self.chance(0.5):
+            return f"{self.rng.choice(NUMBERS)}={self.deep(self.rng.randrange(1, 16))}"
         return self.pick(
             self.assignment, self.assignment, self.assignment, self.output, self.output, self.output, self.reading, self.choice,
             lambda: f"POKE {self.rng.choice((53280, 1024, 55296))},{self.small()}",
