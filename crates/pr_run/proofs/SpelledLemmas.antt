@@ -1,7 +1,6 @@
-use Rattle.std.proofs.Common.{◌≡◌, ◌⊎◌, inl, inr, ℕ, ◌+◌, ◌≤◌, ◌==◌, Bool, true, false, List, [], ◌∷◌, ◌++◌, length}
+use Rattle.std.proofs.Common.{◌≡◌, inl, inr, ℕ, ◌+◌, ◌≤◌, ◌==◌, Bool, true, false, List, [], ◌∷◌, ◌++◌, length}
 use Rattle.std.proofs.Common.{refl, sym}
-use Rattle.std.proofs.Common.{ap, ◌∙◌, arith, append_assoc, append-nil, length-append, Option, Some, None, Result, Ok}
-use Rattle.std.proofs.Common.{Err}
+use Rattle.std.proofs.Common.{ap, ◌∙◌, arith, append_assoc, append-nil, Some, None, Result, Ok}
 use Rattle.std.proofs.Common.{if◌then◌else◌, drop, suc, ◌-◌}
 use Rattle.pr_basic.specs.Text.{Text as Line}
 use Rattle.pr_basic.specs.declared.statement.Statement.{Statement as Output}
@@ -28,12 +27,11 @@ use Rattle.pr_interpreter.specs.Expressions.{turn}
 use Rattle.pr_interpreter.specs.Reading.{Read, and_then, or_fault, repeated, word_code}
 use Rattle.pr_interpreter.specs.Statements.{command, ended, file_items, finished, four_values, further, has_item, item}
 use Rattle.pr_interpreter.specs.Statements.{items, keyword_statement, leaves, line_statement, next_of_line, opens_more}
-use Rattle.pr_interpreter.specs.Statements.{output_statement, part, print_file, statement, statements}
+use Rattle.pr_interpreter.specs.Statements.{output_statement, part, print_file, statement}
 use Rattle.pr_run.specs.Lists as lists
-use Rattle.pr_run.specs.Outputs.{no_line}
 use Rattle.pr_run.specs.Plain.{AreParts, IsList, LineSays, Says, digits}
-use Rattle.pr_run.specs.Spelled.{AreGood, Character, IsGood, Listed, Quote, Semi, Spells, SpellsList, SpellsMore}
-use Rattle.pr_run.specs.Spelled.{LinesAreRead, ends_after, item_bytes, item_lexemes, items_bytes, items_lexemes, lexeme}
+use Rattle.pr_run.specs.Spelled.{AreGood, Character, Listed, Quote, Semi, Spells, SpellsList, SpellsMore}
+use Rattle.pr_run.specs.Spelled.{LinesAreRead, ends_after, item_bytes, items_bytes, items_lexemes, lexeme}
 use Rattle.pr_run.specs.Spelled.{AreSpelled, Empty, IsSpelled, LinePart, Performs, Remarks, number, parts_lexemes}
 use Rattle.pr_run.specs.Spelled.{parts_said}
 use Rattle.pr_run.proofs.LiteralLemmas.{character_constant, digits_number, string_constant}

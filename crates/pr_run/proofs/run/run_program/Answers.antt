@@ -1,6 +1,6 @@
 use Rattle.std.proofs.Common.{List, ap, ◌∙◌}
 use Rattle.pr_run.specs.declared.performed.Performed.{Performed}
-use Rattle.pr_run.specs.Runs.{outcome, run}
+use Rattle.pr_run.specs.Runs.{outcome}
 use Rattle.pr_run.proofs.StepLemmas.{runs_ended}
 use Rattle.pr_run.proofs.run.run_program.Goals as goal
 
