@@ -1,5 +1,5 @@
--- Trusted: the machine's memory. It has 38911 bytes for a program, its variables, its arrays and its strings; where
--- those that are certain to be enough are more, a run is refused.
+-- Trusted: the machine's memory. It has 38911 bytes for a program, its variables, its arrays and its strings; a run is
+-- refused where it may need more.
 use Rattle.std.specs.Prelude.{ℕ, ◌+◌, ◌-◌, ◌*◌, Bool, length, min, nat_le, Option, Some, None}
 use Rattle.pr_interpreter.specs.declared.memory.Array.{Array}
 use Rattle.pr_interpreter.specs.declared.names.Name.{Name}
