@@ -167,7 +167,9 @@ def numbers(numbered):
     reads, counts = (text_of(f"crates/{it}.rt") for it in ("pr_options/src/option_values", "pr_exports/src/settings"))
     wrong = []
     for name, (reader, setting, values_in_order) in NUMBERED.items():
-        by_value = dict(re.findall(r'"(\w+)" => Some\((.*)\),', function(reads, reader)))
+        # (a listing is one of the things that a script is made of)
+        meanings = re.findall(r'"(\w+)" => Some\((.*)\),', function(reads, reader))
+        by_value = {value: re.sub(r"^Form::Listing\((.*)\)$", r"\1", meant) for value, meant in meanings}
         by_number = re.findall(r"(\d+) => Some\(([A-Z].*)\),", function(counts, name))
         given = [(int(number), meant) for number, meant in by_number]
         wanted = [(number, by_value.get(value)) for number, value in enumerate(values_in_order)]

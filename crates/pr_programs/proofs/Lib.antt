@@ -1,0 +1,4 @@
+pub mod ItemLemmas
+pub mod RowLemmas
+pub mod SavedLemmas
+pub mod TypedLemmas
