@@ -217,23 +217,21 @@ enum print1525_fault {
      * column, from 1 */
     PRINT1525_FAULT_NO_LINE_NUMBER = 131,
     PRINT1525_FAULT_LARGE_LINE_NUMBER = 132,
-    PRINT1525_FAULT_NO_EXPRESSION = 133,
-    PRINT1525_FAULT_NO_STATEMENT = 134,
-    PRINT1525_FAULT_STATEMENT_NOT_SUPPORTED = 135,
-    PRINT1525_FAULT_UNKNOWN_KEY = 136,
-    PRINT1525_FAULT_BAD_STRING_BYTE = 137,
-    PRINT1525_FAULT_NOT_CERTAIN = 138,
-    PRINT1525_FAULT_UNKNOWN_VALUE = 139,
-    PRINT1525_FAULT_POKE_NOT_SUPPORTED = 140,
-    PRINT1525_FAULT_BAD_PROGRAM_DEVICE = 141,
-    PRINT1525_FAULT_BAD_PROGRAM_SECOND = 142,
-    PRINT1525_FAULT_FILE_NAME = 143,
-    PRINT1525_FAULT_LONG_LIST = 144,
-    PRINT1525_FAULT_OPEN_FILES = 145,
-    PRINT1525_FAULT_FULL_STACK = 146,
-    PRINT1525_FAULT_FULL_MEMORY = 147,
+    PRINT1525_FAULT_SYNTAX = 133,
+    PRINT1525_FAULT_UNKNOWN_KEY = 134,
+    PRINT1525_FAULT_BAD_STRING_BYTE = 135,
+    PRINT1525_FAULT_NOT_SUPPORTED = 136,
+    PRINT1525_FAULT_NOT_CERTAIN = 137,
+    PRINT1525_FAULT_POKE_NOT_SUPPORTED = 138,
+    PRINT1525_FAULT_BAD_PROGRAM_DEVICE = 139,
+    PRINT1525_FAULT_BAD_PROGRAM_SECOND = 140,
+    PRINT1525_FAULT_FILE_NAME = 141,
+    PRINT1525_FAULT_LONG_LIST = 142,
+    PRINT1525_FAULT_OPEN_FILES = 143,
+    PRINT1525_FAULT_FULL_STACK = 144,
+    PRINT1525_FAULT_FULL_MEMORY = 145,
     /* refused: the run of a program does not end within its steps; `place` is the number of the program's line */
-    PRINT1525_FAULT_TOO_MANY_STEPS = 148
+    PRINT1525_FAULT_TOO_MANY_STEPS = 146
 };
 
 /* What a fault says, in the program's words (of a BASIC error its name); "no fault" of any other number. The text stays
@@ -758,7 +756,7 @@ int print1525_answer(const char *const *words, const void *input, size_t input_l
  * Gives: what `print1525 pages` writes. Status 1 comes with the BASIC error that stopped the run; what was printed
  * until then is in the text.
  * Refuses: settings (82); a text above the limit (9), before it is read; characters, by their first bad line (52); a
- * listing by its first fault (61 to 65), a program by what is refused (131 to 148), and a script (1 to 7); after the
+ * listing by its first fault (61 to 65), a program by what is refused (131 to 146), and a script (1 to 7); after the
  * run a sheet that does not exist (50), with how many there are, and a document that is too large or a PNG file of more
  * than 1,000,000 lines of pixels (51). */
 int print1525_pages(const void *script, size_t script_length, const print1525_settings *settings, void *text,

@@ -85,21 +85,19 @@ const char *print1525_strerror(int fault) {
     case PRINT1525_STOP_UNDEFINED_FUNCTION: return "UNDEF'D FUNCTION";
     case PRINT1525_FAULT_NO_LINE_NUMBER: return "no line number";
     case PRINT1525_FAULT_LARGE_LINE_NUMBER: return "line number above 63999";
-    case PRINT1525_FAULT_NO_EXPRESSION: return "no expression";
-    case PRINT1525_FAULT_NO_STATEMENT: return "no statement";
-    case PRINT1525_FAULT_STATEMENT_NOT_SUPPORTED: return "statement not supported";
+    case PRINT1525_FAULT_SYNTAX: return "syntax error";
     case PRINT1525_FAULT_UNKNOWN_KEY: return "unknown name";
     case PRINT1525_FAULT_BAD_STRING_BYTE: return "bad byte";
+    case PRINT1525_FAULT_NOT_SUPPORTED: return "not supported";
     case PRINT1525_FAULT_NOT_CERTAIN: return "not certain";
-    case PRINT1525_FAULT_UNKNOWN_VALUE: return "unknown value";
     case PRINT1525_FAULT_POKE_NOT_SUPPORTED: return "POKE not supported";
     case PRINT1525_FAULT_BAD_PROGRAM_DEVICE: return "bad device";
     case PRINT1525_FAULT_BAD_PROGRAM_SECOND: return "bad secondary address";
     case PRINT1525_FAULT_FILE_NAME: return "file name not supported";
     case PRINT1525_FAULT_LONG_LIST: return "too long";
     case PRINT1525_FAULT_OPEN_FILES: return "CLR with an open file";
-    case PRINT1525_FAULT_FULL_STACK: return "too many loops and calls";
-    case PRINT1525_FAULT_FULL_MEMORY: return "arrays too large";
+    case PRINT1525_FAULT_FULL_STACK: return "stack may be full";
+    case PRINT1525_FAULT_FULL_MEMORY: return "memory may be full";
     case PRINT1525_FAULT_TOO_MANY_STEPS: return "too many steps";
     default: return "no fault";
     }

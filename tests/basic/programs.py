@@ -24,7 +24,6 @@ from made import made_program
 
 MADE = 20  # random programs whose scripts are printed
 STEPS = 5000  # of a random program
-UNREAD = {"error_syntax"}  # PROGRAM refuses what is no statement before the run
 
 
 def script_text(outcome: Outcome) -> bytes:
@@ -46,8 +45,7 @@ def check_program(checks: Checks, program: str, name: str) -> None:
     script = script_text(outcome)
     checks.expect(script == bytes_of(f"{HERE}/{name}.script"), f"{name}: other statements than {name}.script has")
     checks.expect(f"{outcome.end}\n".encode() == bytes_of(f"{HERE}/{name}.end"), f"{name}: '{outcome.end}'")
-    if name not in UNREAD:
-        check_run(checks, program, name, bytes_of(f"{HERE}/{name}.bas"), outcome)
+    check_run(checks, program, name, bytes_of(f"{HERE}/{name}.bas"), outcome)
     page = f"{HERE}/{name}.page"
     if outcome.end.startswith("refused"):
         checks.expect(not os.path.exists(page), f"{name}: it is refused, and has a page")

@@ -564,7 +564,7 @@ fn run_text<W: Write + Drop>(
             };
             let (end, writer) = run_job(rt, script, writer, names, None, work, aside);
             let end = end.after(made.ran);
-            tell_ran(rt, bytes, made.ran, end, aside.is_explained, aside.is_noted);
+            tell_ran(rt, bytes, &made, end, aside.is_explained, aside.is_noted);
             (end, writer)
         }
         Err(fault) => {

@@ -2,7 +2,7 @@
 
 use crate::statuses::End;
 use pr_interpreter::BasicError;
-use pr_programs::{BasicFault, Ran, Reason, error_name};
+use pr_programs::{BasicFault, Made, Ran, Reason, error_name};
 use std::fmt;
 use std::fmt::{Display, Formatter};
 
@@ -13,16 +13,19 @@ const BEFORE: usize = 60;
 const REST: usize = 20;
 
 /// Says how the run of a program ended of which there is a script: which error ended it, where no other stopped it before;
-/// and with notes, where STOP did.
+/// and with notes, where STOP did, and where a POKE was left out.
 pub fn tell_ran(
     rt: &impl Eprint,
     text: &[u8],
-    ran: Ran,
+    made: &Made,
     end: End,
     is_explained: bool,
     is_noted: bool,
 ) {
-    match (ran, end) {
+    if is_noted {
+        note_poke(rt, made.skipped_poke);
+    }
+    match (made.ran, end) {
         (Ran::Error { error, line }, End::Broken { .. }) => {
             let name = error_name(error);
             let _ = rt.eprintln(format_args!("print1525: ?{name}  ERROR IN {line}"));
@@ -35,6 +38,15 @@ pub fn tell_ran(
             let _ = rt.eprintln(format_args!("print1525: note: STOP ended the run in {line}"));
         }
         _ => {}
+    }
+}
+
+/// Notes the line of the first POKE that a run left out, if there was one.
+fn note_poke(rt: &impl Eprint, skipped: Option<u16>) {
+    if let Some(line) = skipped {
+        let _ = rt.eprintln(format_args!(
+            "print1525: note: POKE is left out where it changes the screen, its colours or sound, first in {line}"
+        ));
     }
 }
 
@@ -77,11 +89,7 @@ fn reason_hint(reason: Reason) -> &'static str {
     match reason {
         Reason::NoLineNumber => "each line of a program begins with its number",
         Reason::LargeLineNumber => "line numbers go from 0 to 63999",
-        Reason::NoExpression => "no value can be written so: the C64 reports ?SYNTAX ERROR",
-        Reason::NoStatement => "no statement can be written so: the C64 reports ?SYNTAX ERROR",
-        Reason::Statement => {
-            "the statement needs a keyboard, a disk, machine code or the program's text, so the program is not run"
-        }
+        Reason::Syntax => "no value can be written so: the C64 reports ?SYNTAX ERROR here",
         Reason::Name => {
             "in a string { begins a name of a key and } ends it, as {DOWN}, {5 SPACES} or {$8E}"
         }
@@ -90,9 +98,11 @@ fn reason_hint(reason: Reason) -> &'static str {
         Reason::NotCertain => {
             "numbers are rounded in the C64, and its possible results give different answers here"
         }
-        Reason::Value => "its value is not known: it changes from run to run, or its rounding is",
+        Reason::NotTaken => {
+            "what it does or gives is not known: it needs a keyboard, a disk, the clock or machine code, or is random or rounded"
+        }
         Reason::Poke => {
-            "POKE is left out where it changes the screen, its colours or sound; elsewhere it may change what is printed"
+            "elsewhere than in the screen, its colours and sound, POKE may change what is printed"
         }
         Reason::Device => "a file is opened on a device of 4 to 30; only printers 4 and 5 print",
         Reason::SecondAddress => "a secondary address is 0 to 15",
@@ -100,8 +110,12 @@ fn reason_hint(reason: Reason) -> &'static str {
         Reason::LongList => "a statement prints at most 255 bytes here",
         Reason::OpenFiles =>
             "CLR forgets the open files, which no script can: leave it out, or CLOSE them before",
-        Reason::FullStack => "FOR and GOSUB have room for nine loops or 23 calls for certain",
-        Reason::FullMemory => "arrays have 30000 bytes",
+        Reason::FullStack => {
+            "loops, calls, parentheses and functions share the C64's stack, which may be full here"
+        }
+        Reason::FullMemory => {
+            "the program, its variables, arrays and strings share the C64's memory, which may be full here"
+        }
     }
 }
 

@@ -148,27 +148,25 @@ error_number error.UndefinedFunction = 27
 abbrev pub reason_numbers : (row column : ℕ) → Reason → ℕ × ℕ × ℕ
 reason_numbers row column reason.NoLineNumber = (131, row, column)
 reason_numbers row column reason.LargeLineNumber = (132, row, column)
-reason_numbers row column reason.NoExpression = (133, row, column)
-reason_numbers row column reason.NoStatement = (134, row, column)
-reason_numbers row column reason.Statement = (135, row, column)
-reason_numbers row column reason.Name = (136, row, column)
-reason_numbers row column reason.Byte = (137, row, column)
-reason_numbers row column reason.NotCertain = (138, row, column)
-reason_numbers row column reason.Value = (139, row, column)
-reason_numbers row column reason.Poke = (140, row, column)
-reason_numbers row column reason.Device = (141, row, column)
-reason_numbers row column reason.SecondAddress = (142, row, column)
-reason_numbers row column reason.FileName = (143, row, column)
-reason_numbers row column reason.LongList = (144, row, column)
-reason_numbers row column reason.OpenFiles = (145, row, column)
-reason_numbers row column reason.FullStack = (146, row, column)
-reason_numbers row column reason.FullMemory = (147, row, column)
+reason_numbers row column reason.Syntax = (133, row, column)
+reason_numbers row column reason.Name = (134, row, column)
+reason_numbers row column reason.Byte = (135, row, column)
+reason_numbers row column reason.NotTaken = (136, row, column)
+reason_numbers row column reason.NotCertain = (137, row, column)
+reason_numbers row column reason.Poke = (138, row, column)
+reason_numbers row column reason.Device = (139, row, column)
+reason_numbers row column reason.SecondAddress = (140, row, column)
+reason_numbers row column reason.FileName = (141, row, column)
+reason_numbers row column reason.LongList = (142, row, column)
+reason_numbers row column reason.OpenFiles = (143, row, column)
+reason_numbers row column reason.FullStack = (144, row, column)
+reason_numbers row column reason.FullMemory = (145, row, column)
 
 -- the fault of a program, with its line and its column
 abbrev pub basic_numbers : BasicFault → ℕ × ℕ × ℕ
 basic_numbers (basic.Refused row column why) = reason_numbers row column why
 basic_numbers (basic.Listing why) = listing_numbers why
-basic_numbers (basic.TooManySteps line) = (148, line, 0)
+basic_numbers (basic.TooManySteps line) = (146, line, 0)
 basic_numbers basic.NoMemory = (90, 0, 0)
 
 -- how the program ends: the number of its fault, 0 for none, or 100 and that of the BASIC error that stopped a run; its place, the

@@ -220,21 +220,19 @@ fn reason_numbers(row: usize, column: usize, reason: Reason) -> (usize, usize, u
     let number = match reason {
         Reason::NoLineNumber => 131,
         Reason::LargeLineNumber => 132,
-        Reason::NoExpression => 133,
-        Reason::NoStatement => 134,
-        Reason::Statement => 135,
-        Reason::Name => 136,
-        Reason::Byte => 137,
-        Reason::NotCertain => 138,
-        Reason::Value => 139,
-        Reason::Poke => 140,
-        Reason::Device => 141,
-        Reason::SecondAddress => 142,
-        Reason::FileName => 143,
-        Reason::LongList => 144,
-        Reason::OpenFiles => 145,
-        Reason::FullStack => 146,
-        Reason::FullMemory => 147,
+        Reason::Syntax => 133,
+        Reason::Name => 134,
+        Reason::Byte => 135,
+        Reason::NotTaken => 136,
+        Reason::NotCertain => 137,
+        Reason::Poke => 138,
+        Reason::Device => 139,
+        Reason::SecondAddress => 140,
+        Reason::FileName => 141,
+        Reason::LongList => 142,
+        Reason::OpenFiles => 143,
+        Reason::FullStack => 144,
+        Reason::FullMemory => 145,
     };
     (number, row, column)
 }
@@ -250,7 +248,7 @@ fn basic_numbers(fault: BasicFault) -> (usize, usize, usize)
             reason,
         } => reason_numbers(row, column, reason),
         BasicFault::Listing(fault) => listing_numbers(fault),
-        BasicFault::TooManySteps(line) => (148, usize::from(line), 0),
+        BasicFault::TooManySteps(line) => (146, usize::from(line), 0),
         BasicFault::NoMemory => (NO_MEMORY, 0, 0),
     }
 }

@@ -1,5 +1,5 @@
 -- Trusted: what comes of the text of a program that is run: a script, and how the run ended; or why there is no script.
-use Rattle.std.specs.Prelude.{ℕ, List, Result, Ok, Err}
+use Rattle.std.specs.Prelude.{ℕ, List, Option, Result, Ok, Err}
 use Rattle.pr_interpreter.specs.declared.fault.ProgramFault.{ProgramFault}
 use Rattle.pr_interpreter.specs.declared.fault.ProgramFault.TheVariants as program
 use Rattle.pr_interpreter.specs.Lines.{column}
@@ -36,14 +36,14 @@ abbrev pub unread : List ℕ → ProgramFault → BasicFault
 unread text program.OutOfMemory = NoMemory
 unread text (program.NoLineNumber made) = refused_in text made reason.NoLineNumber
 unread text (program.LargeLineNumber made) = refused_in text made reason.LargeLineNumber
-unread text (program.NoExpression made) = refused_in text made reason.NoExpression
-unread text (program.NoStatement made) = refused_in text made reason.NoStatement
-unread text (program.NotTaken made) = refused_in text made reason.Statement
+unread text (program.NoExpression made) = refused_in text made reason.Syntax
+unread text (program.NoStatement made) = refused_in text made reason.Syntax
+unread text (program.NotTaken made) = refused_in text made reason.NotTaken
 
 -- why a statement is not run
 abbrev pub reason_of : Refusal → Reason
 reason_of refusal.NotCertain = reason.NotCertain
-reason_of refusal.NotTaken = reason.Value
+reason_of refusal.NotTaken = reason.NotTaken
 reason_of (refusal.Poke address) = reason.Poke
 reason_of (refusal.Device number) = reason.Device
 reason_of (refusal.SecondAddress number) = reason.SecondAddress
@@ -66,13 +66,13 @@ ran_to text (ending.Refused why made) = Err (refused_in text made (reason_of why
 ran_to text (ending.TooManySteps line) = Err (TooManySteps line)
 ran_to text ending.OutOfMemory = Err NoMemory
 
-abbrev pub with_script : List ℕ → Result Ran BasicFault → Result Made BasicFault
-with_script script (Ok ended) = Ok (record { text = script; ran = ended })
-with_script script (Err fault) = Err fault
+abbrev pub with_script : (script : List ℕ) → (skipped : Option ℕ) → Result Ran BasicFault → Result Made BasicFault
+with_script script skipped (Ok ended) = Ok (record { text = script; ran = ended; skipped_poke = skipped })
+with_script script skipped (Err fault) = Err fault
 
 -- what comes of a run of the program of a text
 abbrev pub made_of : List ℕ → Outcome → Result Made BasicFault
-made_of text outcome = with_script (script_text outcome.performed) (ran_to text outcome.ending)
+made_of text outcome = with_script (script_text outcome.performed) outcome.skipped_poke (ran_to text outcome.ending)
 
 abbrev pub made_by : (steps : ℕ) → List ℕ → Result Program ProgramFault → Result Made BasicFault
 made_by steps text (Ok program) = made_of text (run steps program)

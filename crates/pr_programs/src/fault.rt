@@ -15,15 +15,9 @@ pub enum Reason {
     /// A line number is above 63999.
     #[error("line number above 63999")]
     LargeLineNumber,
-    /// No expression can have this there: the machine reports `?SYNTAX ERROR`.
-    #[error("no expression")]
-    NoExpression,
-    /// No statement can have this there: the machine reports `?SYNTAX ERROR`.
-    #[error("no statement")]
-    NoStatement,
-    /// The statement is not run, as INPUT or SYS.
-    #[error("statement not supported")]
-    Statement,
+    /// No expression can have this there: the machine reports `?SYNTAX ERROR` where it comes to it.
+    #[error("syntax error")]
+    Syntax,
     /// A brace in a string begins no name of a key.
     #[error("unknown name")]
     Name,
@@ -33,9 +27,9 @@ pub enum Reason {
     /// What the machine would do is not certain: a value, or the screen's column.
     #[error("not certain")]
     NotCertain,
-    /// A function or a variable has no known value, as RND or TI.
-    #[error("unknown value")]
-    Value,
+    /// A statement is not run, as INPUT or SYS, or a function or a variable has no known value, as RND or TI.
+    #[error("not supported")]
+    NotTaken,
     /// POKE to this address may change what is printed.
     #[error("POKE not supported")]
     Poke,
@@ -54,11 +48,11 @@ pub enum Reason {
     /// CLR while a file is open.
     #[error("CLR with an open file")]
     OpenFiles,
-    /// The machine's stack may be full of loops and calls.
-    #[error("too many loops and calls")]
+    /// The machine's stack may be full.
+    #[error("stack may be full")]
     FullStack,
-    /// The machine's memory may be full of arrays.
-    #[error("arrays too large")]
+    /// The machine's memory may be full.
+    #[error("memory may be full")]
     FullMemory,
 }
 

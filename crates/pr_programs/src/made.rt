@@ -31,6 +31,8 @@ pub struct Made {
     pub text: Sequence<u8>,
     /// How the run ended.
     pub ran: Ran,
+    /// The number of the line of the first POKE that the run left out, if there was one.
+    pub skipped_poke: Option<u16>,
 }
 
 /// Returns the fault of what is refused at a place of a text.
@@ -59,9 +61,10 @@ fn unread(text: &[u8], fault: ProgramFault) -> BasicFault
         ProgramFault::OutOfMemory => BasicFault::NoMemory,
         ProgramFault::NoLineNumber(made) => refused_in(text, made, Reason::NoLineNumber),
         ProgramFault::LargeLineNumber(made) => refused_in(text, made, Reason::LargeLineNumber),
-        ProgramFault::NoExpression(made) => refused_in(text, made, Reason::NoExpression),
-        ProgramFault::NoStatement(made) => refused_in(text, made, Reason::NoStatement),
-        ProgramFault::NotTaken(made) => refused_in(text, made, Reason::Statement),
+        ProgramFault::NoExpression(made) | ProgramFault::NoStatement(made) => {
+            refused_in(text, made, Reason::Syntax)
+        }
+        ProgramFault::NotTaken(made) => refused_in(text, made, Reason::NotTaken),
     }
 }
 
@@ -71,7 +74,7 @@ fn reason_of(refusal: Refusal) -> Reason
 {
     match refusal {
         Refusal::NotCertain => Reason::NotCertain,
-        Refusal::NotTaken => Reason::Value,
+        Refusal::NotTaken => Reason::NotTaken,
         Refusal::Poke(_) => Reason::Poke,
         Refusal::Device(_) => Reason::Device,
         Refusal::SecondAddress(_) => Reason::SecondAddress,
@@ -109,6 +112,7 @@ fn made_of(alloc: Global, text: &[u8], outcome: Outcome) -> Result<Made, BasicFa
     Ok(Made {
         text: Sequence::from_vec(script),
         ran,
+        skipped_poke: outcome.skipped_poke,
     })
 }
 
