@@ -286,22 +286,26 @@ EndsListing located shapes job form bytes old new end =
     ((text : List ℕ) × (length bytes ≤ script_limit) × HasText form bytes text × EndsJob located shapes job text old new end)
     ⊎ ((fault : TextFault) × IsTextFault form script_limit bytes fault × (new ≡ old) × (end ≡ Listing fault))
 
--- how it ends a job that runs the program of a text for so many steps at most: by the script that comes of it and how the
--- program's run ended; or no script comes of it, and nothing is written
-abbrev pub EndsRun : (located : Bool) → Shapes → Job → (steps : ℕ) → List ℕ → Option (List ℕ) → Option (List ℕ) → End → Type 0
+-- how it ends a job that runs the program of a text for so many steps at most: by the script that comes of it and how
+-- the program's run ended; or no script comes of it, and nothing is written
+abbrev pub EndsRun : (located : Bool) → Shapes → Job → (steps : ℕ) → List ℕ → Option (List ℕ) → Option (List ℕ) → End
+    → Type 0
 EndsRun located shapes job steps text old new end =
     ((found : Made) × (ended : End) × (made steps text ≡ Ok found)
     × EndsJob located shapes job found.text old new ended × (end ≡ ended_after found.ran ended))
-    ⊎ ((fault : BasicFault) × ((fault ≡ basic.NoMemory) ⊎ (made steps text ≡ Err fault)) × (new ≡ old) × (end ≡ Basic fault))
+    ⊎ ((fault : BasicFault) × ((fault ≡ basic.NoMemory) ⊎ (made steps text ≡ Err fault)) × (new ≡ old)
+    × (end ≡ Basic fault))
 
 -- the same of bytes that may be a saved program
-abbrev pub EndsProgram : (located : Bool) → Shapes → Job → (steps : ℕ) → List ℕ → Option (List ℕ) → Option (List ℕ) → End → Type 0
+abbrev pub EndsProgram : (located : Bool) → Shapes → Job → (steps : ℕ) → List ℕ → Option (List ℕ) → Option (List ℕ)
+    → End → Type 0
 EndsProgram located shapes job steps bytes old new end =
     ((text : List ℕ) × IsTextOf bytes text × EndsRun located shapes job steps text old new end)
     ⊎ ((fault : BasicFault) × ((fault ≡ basic.NoMemory) ⊎ IsUnsaved bytes fault) × (new ≡ old) × (end ≡ Basic fault))
 
 -- how it ends a job on a text that is run as a program only if it is no script, and reads as one; or memory was refused
-abbrev pub EndsEither : (located : Bool) → Shapes → Job → (steps : ℕ) → List ℕ → Option (List ℕ) → Option (List ℕ) → End → Type 0
+abbrev pub EndsEither : (located : Bool) → Shapes → Job → (steps : ℕ) → List ℕ → Option (List ℕ) → Option (List ℕ) → End
+    → Type 0
 EndsEither located shapes job steps bytes old new end =
     (IsRun bytes × EndsProgram located shapes job steps bytes old new end)
     ⊎ ((IsRun bytes → ⊥) × EndsJob located shapes job bytes old new end)
@@ -325,10 +329,13 @@ EndsWhole Ends bytes old new end =
     ((length bytes ≤ script_limit) × Ends bytes)
     ⊎ ((fault : CliFault) × IsNotRead bytes fault × (new ≡ old) × (end ≡ Failed fault))
 
--- how it ends a job on an input's bytes: by the bytes themselves where the form is a script's text, else as a listing or a program
-abbrev pub EndsInput : (located : Bool) → Shapes → Job → Form → List ℕ → Option (List ℕ) → Option (List ℕ) → End → Type 0
+-- how it ends a job on an input's bytes: by the bytes themselves where the form is a script's text, else as a listing
+-- or a program
+abbrev pub EndsInput : (located : Bool) → Shapes → Job → Form → List ℕ → Option (List ℕ) → Option (List ℕ) → End
+    → Type 0
 EndsInput located shapes job (form.Listing Text) bytes old new end = EndsJob located shapes job bytes old new end
-EndsInput located shapes job (form.Listing listing) bytes old new end = EndsListing located shapes job listing bytes old new end
+EndsInput located shapes job (form.Listing listing) bytes old new end =
+    EndsListing located shapes job listing bytes old new end
 EndsInput located shapes job (form.Program steps) bytes old new end =
     EndsWhole (λ whole. EndsProgram located shapes job steps whole old new end) bytes old new end
 EndsInput located shapes job (form.Either steps) bytes old new end =

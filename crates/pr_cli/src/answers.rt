@@ -396,7 +396,8 @@ fn answer_text<R: Read + Drop, W: Write + Drop>(
     work: Work<'_>,
     aside: Reporting<'_>,
 ) -> (End, W)
-    ensures { IfSome (R.remaining reader) (λ bytes. EndsInput work.entry.is_located work.entry.shapes.now work.entry.job (Form.Listing form) bytes
+    ensures { IfSome (R.remaining reader) (λ bytes.
+        EndsInput work.entry.is_located work.entry.shapes.now work.entry.job (Form.Listing form) bytes
         (W.contents writer) (W.contents result.1) result.0) }
 {
     match form {
@@ -454,8 +455,10 @@ fn answer_program<R: Read + Drop, W: Write + Drop>(
     work: Work<'_>,
     aside: Reporting<'_>,
 ) -> (End, W)
-    ensures { IfSome (R.remaining reader) (λ bytes. EndsWhole (λ whole. EndsProgram work.entry.is_located work.entry.shapes.now work.entry.job steps whole
-        (W.contents writer) (W.contents result.1) result.0) bytes (W.contents writer) (W.contents result.1) result.0) }
+    ensures { IfSome (R.remaining reader) (λ bytes.
+        EndsWhole (λ whole. EndsProgram work.entry.is_located work.entry.shapes.now work.entry.job steps whole
+        (W.contents writer) (W.contents result.1) result.0)
+        bytes (W.contents writer) (W.contents result.1) result.0) }
 {
     match read_bytes(rt, reader, names.input, aside.is_shown) {
         Ok(bytes) => run_program(rt, bytes.as_slice(), writer, names, steps, work, aside),
@@ -473,8 +476,10 @@ fn answer_either<R: Read + Drop, W: Write + Drop>(
     work: Work<'_>,
     aside: Reporting<'_>,
 ) -> (End, W)
-    ensures { IfSome (R.remaining reader) (λ bytes. EndsWhole (λ whole. EndsEither work.entry.is_located work.entry.shapes.now work.entry.job steps whole
-        (W.contents writer) (W.contents result.1) result.0) bytes (W.contents writer) (W.contents result.1) result.0) }
+    ensures { IfSome (R.remaining reader) (λ bytes.
+        EndsWhole (λ whole. EndsEither work.entry.is_located work.entry.shapes.now work.entry.job steps whole
+        (W.contents writer) (W.contents result.1) result.0)
+        bytes (W.contents writer) (W.contents result.1) result.0) }
 {
     match read_bytes(rt, reader, names.input, aside.is_shown) {
         Ok(bytes) => run_either(rt, bytes.as_slice(), writer, names, steps, work, aside),

@@ -181,7 +181,8 @@ pub fn seen_job<'a>(job: Job<'a>) -> Job<'a>
 /// # Errors
 ///
 /// Those of the job's call: [`pr_jobs::write_pages`] for pages, or [`pr_jobs::pages_over`] for a list of marks where
-/// nobody asks for a stop's place, and [`pr_recording::run_bytes_over`] for bytes; [`crate::script_text::script_over`] for a script; [`pr_jobs::write_bus_trace`], or
+/// nobody asks for a stop's place, and [`pr_recording::run_bytes_over`] for bytes;
+/// [`crate::script_text::script_over`] for a script; [`pr_jobs::write_bus_trace`], or
 /// [`pr_jobs::bus_over`] for a trace text where nobody asks for a stop's place; [`pr_jobs::check_over`] for the frames
 /// of a trace text, [`pr_recording::check_json_over`] for the JSON of any trace, and else
 /// [`pr_jobs::write_check_report`]; [`pr_recording::decode_over`] for a list and for JSON, [`pr_recording::bytes_over`], and

@@ -12,8 +12,8 @@ const BEFORE: usize = 60;
 /// The most bytes of a row that are shown from a place on (profile).
 const REST: usize = 20;
 
-/// Says how the run of a program ended of which there is a script: which error ended it, where no other stopped it before;
-/// and with notes, where STOP did, and where a POKE was left out.
+/// Says how the run of a program ended of which there is a script: which error ended it, where no other stopped it
+/// before; and with notes, where STOP did, and where a POKE was left out.
 pub fn tell_ran(
     rt: &impl Eprint,
     text: &[u8],
@@ -99,7 +99,7 @@ fn reason_hint(reason: Reason) -> &'static str {
             "numbers are rounded in the C64, and its possible results give different answers here"
         }
         Reason::NotTaken => {
-            "what it does or gives is not known: it needs a keyboard, a disk, the clock or machine code, or is random or rounded"
+            "not known: it needs a keyboard, a disk, the clock or machine code, or is random or rounded"
         }
         Reason::Poke => {
             "elsewhere than in the screen, its colours and sound, POKE may change what is printed"
@@ -129,7 +129,8 @@ fn error_hint(error: BasicError) -> Option<&'static str> {
     }
 }
 
-/// A row up to a place, or from there on: bytes that are no visible ones of ASCII's are points, so that each has a column.
+/// A row up to a place, or from there on: bytes that are no visible ones of ASCII's are points, so that each has a
+/// column.
 #[derive(Clone, Copy)]
 struct Visible<'a>(&'a [u8]);
 

@@ -26,8 +26,8 @@ fn check_script(alloc: Global, text: &[u8]) -> Result<(), CliFault>
 ///
 /// - [`CliFault::Script`]: the text is no script, with its first fault.
 /// - [`CliFault::TooLarge`]: only if the input has more than [`SCRIPT_LIMIT`] bytes.
-/// - [`CliFault::ReadFailed`] exactly if the input has failed, [`CliFault::WriteFailed`] exactly if the output has; after
-///   the latter a beginning of the text has been written.
+/// - [`CliFault::ReadFailed`] exactly if the input has failed, [`CliFault::WriteFailed`] exactly if the output has;
+///   after the latter a beginning of the text has been written.
 /// - [`CliFault::NoMemory`]: memory was refused.
 ///
 /// After every error but `WriteFailed` nothing has been written.

@@ -96,8 +96,8 @@ impl End {
         }
     }
 
-    /// Returns how the program ends after a job, whose script came of a run that ended so: what stopped the job's run came
-    /// before the end of the program's. It takes no memory.
+    /// Returns how the program ends after a job, whose script came of a run that ended so: what stopped the job's run
+    /// came before the end of the program's. It takes no memory.
     pub fn after(self, ran: Ran) -> End
         ensures { result ≡ ended_after ran self }
     {

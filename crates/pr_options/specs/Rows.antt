@@ -169,8 +169,8 @@ command_name Raw = codes "raw"
 -- the options of a subcommand, in the order in which help has them; a bad value is reported in this order too, after
 -- those of `--present`, `--delays` and `--status`
 abbrev pub options_of : Subcommand → List Opt
-options_of Pages = opt.ListingFrom ∷ opt.Steps ∷ opt.Present ∷ opt.Delays ∷ opt.Status ∷ opt.PageAs ∷ opt.Explain ∷ opt.Quiet
-    ∷ opt.Device ∷ opt.Sheet ∷ opt.Scale ∷ opt.Top ∷ opt.Paper ∷ opt.Holes ∷ opt.Characters ∷ []
+options_of Pages = opt.ListingFrom ∷ opt.Steps ∷ opt.Present ∷ opt.Delays ∷ opt.Status ∷ opt.PageAs ∷ opt.Explain
+    ∷ opt.Quiet ∷ opt.Device ∷ opt.Sheet ∷ opt.Scale ∷ opt.Top ∷ opt.Paper ∷ opt.Holes ∷ opt.Characters ∷ []
 options_of Bus = opt.ListingFrom ∷ opt.Steps ∷ opt.Present ∷ opt.Delays ∷ opt.Status ∷ opt.TraceAs ∷ opt.Explain
     ∷ opt.Quiet ∷ []
 options_of Check = opt.From ∷ opt.Names ∷ opt.Invert ∷ opt.FromTime ∷ opt.Glitch ∷ opt.Rate ∷ opt.Threshold ∷ opt.ReportAs

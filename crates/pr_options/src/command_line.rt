@@ -223,9 +223,10 @@ impl From<DelayFault> for JobFault {
 /// only for words that clap takes, and report the first bad value: of [`JobFault::BadPresent`],
 /// [`JobFault::BadDelays`], [`JobFault::BadStatus`] and then of [`JobFault::Bad`], in the order of [`Opt`]. What does
 /// not go together comes after the values that it is judged by: [`JobFault::NoRecording`] and [`JobFault::NoTable`]
-/// after [`Opt::Threshold`], [`JobFault::NoProgram`] after [`Opt::Steps`], [`JobFault::NoStrips`], [`JobFault::NoPart`], [`JobFault::NoPicture`] and [`JobFault::NoPaper`]
-/// after [`Opt::Paper`],
-/// [`JobFault::NoReadings`] after [`Opt::Bounds`], and [`JobFault::NoPages`] or [`JobFault::NoListener`] at last.
+/// after [`Opt::Threshold`], [`JobFault::NoProgram`] after [`Opt::Steps`],
+/// [`JobFault::NoStrips`], [`JobFault::NoPart`], [`JobFault::NoPicture`] and [`JobFault::NoPaper`] after
+/// [`Opt::Paper`], [`JobFault::NoReadings`] after [`Opt::Bounds`], and [`JobFault::NoPages`] or
+/// [`JobFault::NoListener`] at last.
 pub fn read_task<'a>(alloc: Global, words: &'a [&'a str]) -> Result<Task<'a>, JobFault>
     ensures ok { IfOk result (λ task. asked (map (λ s. s.now) words.entry.now) ≡ Some (Ok (task_view task))) }
     ensures taken { OnOk result (fault_of print1525 (map (λ s. s.now) words.entry.now) ≡ []) }

@@ -34,9 +34,9 @@ pub fn read_present(text: &str) -> Option<Present>
     Some(Present { four, five })
 }
 
-/// The form of what a script is made of: a listing as `text`, `prg`, `petcat`, `magazine` or `auto`, which the first bytes
-/// show; a program that is run, `basic`; or `bas`, a script or else such a program (profile). A run has the usual number
-/// of steps, if no option says more. None for any other text.
+/// The form of what a script is made of: a listing as `text`, `prg`, `petcat`, `magazine` or `auto`, which the first
+/// bytes show; a program that is run, `basic`; or `bas`, a script or else such a program (profile). A run has the usual
+/// number of steps, if no option says more. None for any other text.
 pub fn read_form(text: &str) -> Option<Form>
     ensures { result ≡ form_of text.now }
 {
@@ -52,8 +52,8 @@ pub fn read_form(text: &str) -> Option<Form>
     }
 }
 
-/// The steps that a run has at most: decimal digits that spell a number from 1, below 2^64 (profile). None for any other
-/// text.
+/// The steps that a run has at most: decimal digits that spell a number from 1, below 2^64 (profile). None for any
+/// other text.
 pub fn read_steps(text: &str) -> Option<u64>
     ensures { result ≡ steps_of text.now }
 {

@@ -11,17 +11,21 @@ use Rattle.pr_programs.specs.Saved.{IsUnsaved, line_text, lines_text}
 use Rattle.pr_programs.specs.Seen.{IsReadTo, unsaved}
 
 -- one line more at the end
-begins-one_more : (ls : List Line) (l : Line) (bytes rest after : List ℕ) → BeginsWithLines ls bytes rest → BeginsWith l rest after → BeginsWithLines (ls ++ l ∷ []) bytes after
+begins-one_more : (ls : List Line) (l : Line) (bytes rest after : List ℕ) → BeginsWithLines ls bytes rest
+    → BeginsWith l rest after → BeginsWithLines (ls ++ l ∷ []) bytes after
 begins-one_more [] l bytes rest after e b = (after, subst (λ (x : List ℕ). BeginsWith l x after) (sym e) b, refl)
 begins-one_more (m ∷ ms) l bytes rest after h b = (h.0, h.1, begins-one_more ms l h.0 rest after h.2 b)
 
 -- its text is at the end
 text-one_more : (ls : List Line) (l : Line) → lines_text (ls ++ l ∷ []) ≡ lines_text ls ++ line_text l
 text-one_more [] l = append-nil (line_text l)
-text-one_more (m ∷ ms) l = ap (λ t. line_text m ++ t) (text-one_more ms l) ∙ sym (append_assoc (line_text m) (lines_text ms) (line_text l))
+text-one_more (m ∷ ms) l = ap (λ t. line_text m ++ t) (text-one_more ms l)
+    ∙ sym (append_assoc (line_text m) (lines_text ms) (line_text l))
 
 -- one line more is read
-pub read-one_more : (file text rest after : List ℕ) (number : ℕ) (l : Line) (more : List ℕ) → IsReadTo file text rest number → BeginsWith l rest after → more ≡ text ++ line_text l → IsReadTo file more after (number + 1)
+pub read-one_more : (file text rest after : List ℕ) (number : ℕ) (l : Line) (more : List ℕ)
+    → IsReadTo file text rest number → BeginsWith l rest after → more ≡ text ++ line_text l
+    → IsReadTo file more after (number + 1)
 read-one_more file text rest after number l more h b e = record {
   lines = h.lines ++ l ∷ [];
   held = (h.held.0, h.held.1, h.held.2, h.held.3, begins-one_more h.lines l h.held.2 rest after h.held.4 b);
@@ -30,7 +34,9 @@ read-one_more file text rest after number l more h b e = record {
 }
 
 -- why a saved program has no text
-pub unsaved_is : (bytes : List ℕ) (f : ListingFault) → found_form bytes ≡ Saved → (f ≡ listing.NoMemory) ⊎ IsProgramFault (program_in bytes) f → (unsaved f ≡ NoMemory) ⊎ IsUnsaved bytes (unsaved f)
+pub unsaved_is : (bytes : List ℕ) (f : ListingFault) → found_form bytes ≡ Saved
+    → (f ≡ listing.NoMemory) ⊎ IsProgramFault (program_in bytes) f
+    → (unsaved f ≡ NoMemory) ⊎ IsUnsaved bytes (unsaved f)
 unsaved_is bytes f is (inl e) = inl (ap unsaved e)
 unsaved_is bytes listing.NoMemory is (inr h) = inl refl
 unsaved_is bytes listing.NoAddress is (inr h) = inr (listing.NoAddress, is, h, refl)

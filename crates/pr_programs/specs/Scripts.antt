@@ -1,5 +1,5 @@
--- Trusted: the script of what a run of a program performs: each output statement is a line of it, with the number of the
--- program's line that it came from.
+-- Trusted: the script of what a run of a program performs: each output statement is a line of it, with the number of
+-- the program's line that it came from.
 use Rattle.std.specs.Prelude.{ℕ, ◌||◌, Bool, not, List, [], ◌∷◌, ◌++◌, codes, decimal, length, nat_lt, Option, Some, None, if◌then◌else◌}
 use Rattle.pr_basic.specs.Grammar.{Item, Semi, Quote, Code}
 use Rattle.pr_basic.specs.Text.{Text}

@@ -32,7 +32,8 @@ key_of (Some (count, b)) size =
 -- the key after an opening brace
 unfoldable pub key : List ℕ → Result Piece Reason
 key bs =
-    if nat_lt (name_size bs) (length bs) then key_of (bracketed Petcat Curly (take (name_size bs) bs)) (name_size bs + 2)
+    if nat_lt (name_size bs) (length bs) then key_of (bracketed Petcat Curly (take (name_size bs) bs))
+    (name_size bs + 2)
     else Err Name
 
 abbrev pub itself : ℕ → Result Piece Reason

@@ -56,11 +56,12 @@ fn add_item<'a>(text: &mut Vec<u8>, bytes: &'a [u8]) -> Result<&'a [u8], AllocEr
     Ok(&bytes[1..])
 }
 
-/// Adds the item at the front of some bytes, of which there is one, and a semicolon if more follow. Returns the bytes after
-/// it.
+/// Adds the item at the front of some bytes, of which there is one, and a semicolon if more follow. Returns the bytes
+/// after it.
 fn add_next<'a>(text: &mut Vec<u8>, bytes: &'a [u8]) -> Result<&'a [u8], AllocError>
     requires { 0 < length bytes.now }
-    ensures text { IfOk result (λ rest. text.new.items ++ joined (items_of rest.now) ≡ text.old.items ++ joined (items_of bytes.now)) }
+    ensures text { IfOk result (λ rest.
+        text.new.items ++ joined (items_of rest.now) ≡ text.old.items ++ joined (items_of bytes.now)) }
     ensures less { IfOk result (λ rest. length rest.now < length bytes.now) }
 {
     let rest = add_item(text, bytes)?;

@@ -121,8 +121,8 @@ fn made_of(alloc: Global, text: &[u8], outcome: Outcome) -> Result<Made, BasicFa
 ///
 /// # Errors
 ///
-/// - [`BasicFault::Refused`]: the text is no program, or has what is not run; of a run what comes first counts, and there
-///   is no script of what was performed before.
+/// - [`BasicFault::Refused`]: the text is no program, or has what is not run; of a run what comes first counts, and
+///   there is no script of what was performed before.
 /// - [`BasicFault::TooManySteps`]: the run does not end within the steps.
 /// - [`BasicFault::NoMemory`]: memory was refused.
 #[tactic(auto, unfolding(crate::specs::Made::made))]

@@ -86,8 +86,8 @@ fn add_quoted(text: &mut Vec<u8>, b: u8) -> Result<(), AllocError>
     text.extend_from_slice(&[b'{', b'$', digit(b / 16), digit(b % 16), b'}'])
 }
 
-/// Adds a byte of a statement: a keyword's token as the keyword. A space follows a keyword and a letter, so that letters
-/// make no keyword.
+/// Adds a byte of a statement: a keyword's token as the keyword. A space follows a keyword and a letter, so that
+/// letters make no keyword.
 fn add_spelled(text: &mut Vec<u8>, b: u8) -> Result<(), AllocError>
     ensures { OnOk result (text.new.items ≡ text.old.items ++ spelled b) }
 {
@@ -135,7 +135,8 @@ fn add_bytes(text: &mut Vec<u8>, bytes: &[u8]) -> Result<(), AllocError>
 
 /// Adds a line of a saved program.
 fn add_line(text: &mut Vec<u8>, number: u32, bytes: &[u8]) -> Result<(), AllocError>
-    ensures { OnOk result (text.new.items ≡ text.old.items ++ line_text (record { number = number; bytes = bytes.now })) }
+    ensures { OnOk result
+        (text.new.items ≡ text.old.items ++ line_text (record { number = number; bytes = bytes.now })) }
 {
     add_number(text, number)?;
     text.push(b' ')?;
@@ -185,8 +186,8 @@ fn unsaved(fault: ListingFault) -> BasicFault
     }
 }
 
-/// Makes the text of a program as it is typed, where the first bytes show that it is a saved one, as it is or in a P00 or
-/// T64 file. None for any other text.
+/// Makes the text of a program as it is typed, where the first bytes show that it is a saved one, as it is or in a P00
+/// or T64 file. None for any other text.
 ///
 /// # Errors
 ///

@@ -9,8 +9,10 @@ pub returns-then-count-gt0 : goal.returns-then-count-gt0
 returns-then-count-gt0 c =
     rw (take_rest c.args.bytes.now c.held_count-count.result) (record {
       item = Quote (take c.held_count-count.result c.args.bytes.now);
-      first = string_first c.args.bytes.now c.held_count-count.result c.held_count-count.ensures.count c.if-count-gt0.true;
-      is_text = three_added _ (34 ∷ []) _ (34 ∷ []) _ _ _ c.in_ok-push.ensures.items c.in_ok-extend_from_slice.ensures.items c.in_ok-push-2.ensures.items;
+      first = string_first c.args.bytes.now c.held_count-count.result c.held_count-count.ensures.count
+          c.if-count-gt0.true;
+      is_text = three_added _ (34 ∷ []) _ (34 ∷ []) _ _ _ c.in_ok-push.ensures.items
+          c.in_ok-extend_from_slice.ensures.items c.in_ok-push-2.ensures.items;
       less = omega (arith, length-drop c.held_count-count.result c.args.bytes.now, c.held_count-count.ensures.within);
     })
 
@@ -18,8 +20,11 @@ pub returns : goal.returns
 returns c =
     rw (take_rest c.args.bytes.now 1) (record {
       item = Code (decimal (get_or c.args.bytes.now 0 0));
-      first = code_first c.args.bytes.now c.held_count-count.result c.held_count-count.ensures.count c.requires (omega arith);
+      first = code_first c.args.bytes.now c.held_count-count.result c.held_count-count.ensures.count c.requires
+          (omega arith);
       is_text = three_added _ (codes "CHR$(") (decimal (get_or c.args.bytes.now 0 0)) (codes ")") _ _ _
-          c.in_ok-extend_from_slice-2.ensures.items (c.in_ok-add_number.ensures ∙ ap (λ v. c.extend_from_slice-2.new.self.items ++ decimal v) c.from.ensures) c.in_ok-push-3.ensures.items;
+          c.in_ok-extend_from_slice-2.ensures.items
+          (c.in_ok-add_number.ensures ∙ ap (λ v. c.extend_from_slice-2.new.self.items ++ decimal v) c.from.ensures)
+          c.in_ok-push-3.ensures.items;
       less = omega (arith, length-drop 1 c.args.bytes.now);
     })

@@ -17,4 +17,5 @@ pub returns-in-Err-clause-err : goal.returns-in-Err-clause-err
 returns-in-Err-clause-err c =
     let is : found_form c.args.bytes.now ≡ Saved = sym c.found_form.ensures ∙ c.in-Program.is in
     let P : BasicFault → Type 0 = λ f. (f ≡ NoMemory) ⊎ IsUnsaved c.args.bytes.now f in
-    subst P (sym c.unsaved.ensures) (unsaved_is c.args.bytes.now c.in-Err.fault is (rw c.program_in.ensures at c.in-Err.ensures.err))
+    subst P (sym c.unsaved.ensures) (unsaved_is c.args.bytes.now c.in-Err.fault is
+    (rw c.program_in.ensures at c.in-Err.ensures.err))
