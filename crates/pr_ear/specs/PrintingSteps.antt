@@ -1,5 +1,5 @@
 -- Machine steps: marks that are put after others. No reader needs to believe them.
-use Rattle.std.specs.Prelude.{◌≡◌, ℕ, ◌+◌, ◌<◌, Bool, List, [], ◌∷◌, ◌++◌, length}
+use Rattle.std.specs.Prelude.{◌≡◌, ℕ, ◌+◌, ◌<◌, ◌^◌, Bool, List, [], ◌∷◌, ◌++◌, length}
 use Rattle.pr_page.specs.Codes.{code_of}
 use Rattle.pr_page.specs.Steps.{begun_by, completed_by}
 use Rattle.pr_page.specs.Token.{Plain}
@@ -24,6 +24,13 @@ IsPrintedAt inputs marks laid first b (Marks n) old new before after =
 IsPrintedAt inputs marks laid first b (TooSmall n) old new before after =
     (made : List MarkOnPaper) × Makes inputs (Byte b ∷ []) marks made × (n ≡ length made)
     × (length before < length laid + n) × (new ≡ old) × (after ≡ before)
+
+-- the same, whatever was printed before
+abbrev pub PrintsAt : (b at : ℕ) → Printed → (old new : WirePrinter) → (before after : List WireMark) → Type 0
+PrintsAt b at printed old new before after =
+    (inputs : List Input) (marks laid : List MarkOnPaper) (first : List WireMark) → length inputs < 2 ^ 58
+    → HasPrinted inputs marks old → at ≡ length laid → IsLaid laid first before
+    → IsPrintedAt inputs marks laid first b printed old new before after
 
 -- a byte leaves the settings, and begins no command
 pub record LeavesSettings (b : ℕ) : Type 0 where

@@ -8,7 +8,7 @@ ghost use Rattle.pr_page.specs.declared.input.Input.{Input};
 ghost use Rattle.pr_ear.specs.declared.printing.Printed.{Printed};
 ghost use Rattle.pr_ear.specs.declared.printer_numbers.WireMark.{WireMark};
 ghost use Rattle.pr_ear.specs.Printing.{ArePrinted, HasPrinted, IsAnyPrinted, IsLaid, IsPrinted, NextRowsAreAtPrinters, PrintersPrintPages, printed_answer, set_answer};
-ghost use Rattle.pr_ear.specs.PrintingSteps.{IsPrintedAt, LeavesSettings};
+ghost use Rattle.pr_ear.specs.PrintingSteps.{LeavesSettings, PrintsAt};
 
 use crate::printer_numbers::{WireMark, WirePrinter, numbers_of_mark, restore, store};
 use crate::{Answer, plain, refused};
@@ -100,9 +100,7 @@ fn print_in_mode(
     requires idle { printer.old.pending ≡ 0 }
     requires plain { LeavesSettings byte }
     requires mode { graphic ≡ (printer.old.graphic == 1) }
-    ensures printed { (inputs : List Input) (marks laid : List MarkOnPaper) (first : List WireMark) → length inputs < 2 ^ 58
-        → HasPrinted inputs marks printer.old → at ≡ length laid → IsLaid laid first out.old
-        → IsPrintedAt inputs marks laid first byte result printer.old printer.new out.old out.new }
+    ensures printed { PrintsAt byte at result printer.old printer.new out.old out.new }
     ensures any { IsAnyPrinted at result printer.old printer.new out.old out.new }
 {
     let mut head = restore(printer);
@@ -124,9 +122,7 @@ fn print_plain(printer: &mut WirePrinter, byte: u8, out: &mut [WireMark], at: us
     requires room { at ≤ length out.old }
     requires idle { printer.old.pending ≡ 0 }
     requires plain { LeavesSettings byte }
-    ensures printed { (inputs : List Input) (marks laid : List MarkOnPaper) (first : List WireMark) → length inputs < 2 ^ 58
-        → HasPrinted inputs marks printer.old → at ≡ length laid → IsLaid laid first out.old
-        → IsPrintedAt inputs marks laid first byte result printer.old printer.new out.old out.new }
+    ensures printed { PrintsAt byte at result printer.old printer.new out.old out.new }
     ensures any { IsAnyPrinted at result printer.old printer.new out.old out.new }
 {
     if printer.graphic == 1 {
@@ -140,9 +136,7 @@ fn print_plain(printer: &mut WirePrinter, byte: u8, out: &mut [WireMark], at: us
 #[inline(never)]
 fn print_any(printer: &mut WirePrinter, byte: u8, out: &mut [WireMark], at: usize) -> Printed
     requires { at ≤ length out.old }
-    ensures printed { (inputs : List Input) (marks laid : List MarkOnPaper) (first : List WireMark) → length inputs < 2 ^ 58
-        → HasPrinted inputs marks printer.old → at ≡ length laid → IsLaid laid first out.old
-        → IsPrintedAt inputs marks laid first byte result printer.old printer.new out.old out.new }
+    ensures printed { PrintsAt byte at result printer.old printer.new out.old out.new }
     ensures any { IsAnyPrinted at result printer.old printer.new out.old out.new }
 {
     let mut head = restore(printer);
@@ -160,9 +154,7 @@ fn print_any(printer: &mut WirePrinter, byte: u8, out: &mut [WireMark], at: usiz
 #[inline(always)]
 fn print_at(printer: &mut WirePrinter, byte: u8, out: &mut [WireMark], at: usize) -> Printed
     requires { at ≤ length out.old }
-    ensures printed { (inputs : List Input) (marks laid : List MarkOnPaper) (first : List WireMark) → length inputs < 2 ^ 58
-        → HasPrinted inputs marks printer.old → at ≡ length laid → IsLaid laid first out.old
-        → IsPrintedAt inputs marks laid first byte result printer.old printer.new out.old out.new }
+    ensures printed { PrintsAt byte at result printer.old printer.new out.old out.new }
     ensures any { IsAnyPrinted at result printer.old printer.new out.old out.new }
 {
     if is_plain(printer, byte) {
