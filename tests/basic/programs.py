@@ -1,9 +1,10 @@
 #!/usr/bin/env python3
 """tests/basic/programs.py PROGRAM: runs the programs of this folder and compares with what they have to print.
 
-Each NAME.bas is run by tests/lib/basic.py, and by PROGRAM (--from basic), which has to perform the same. The statements that it performs are NAME.script, how it ends is NAME.end, and
-the lines that PROGRAM makes of the script are NAME.page; a program that is refused has no page. Each list of lists.txt
-and each program of runs.txt prints what it says there. Random programs follow, whose scripts PROGRAM has to accept.
+Each NAME.bas is run by tests/lib/basic.py, and by PROGRAM (--from basic), which has to perform the same. The statements
+that it performs are NAME.script, how it ends is NAME.end, and the lines that PROGRAM makes of the script are NAME.page;
+a program that is refused has no page. Each list of lists.txt and each program of runs.txt prints what it says there.
+Random programs follow, whose scripts PROGRAM has to accept.
 
     tests/basic/programs.py --make N FIRST FOLDER
 
