@@ -9,7 +9,7 @@ use Rattle.pr_options.specs.declared.command_line.JobFault.{JobFault}
 use Rattle.pr_options.specs.declared.command_line.JobFault.TheVariants as job
 use Rattle.pr_programs.specs.declared.fault.BasicFault.{BasicFault}
 use Rattle.pr_programs.specs.declared.fault.BasicFault.TheVariants as basic
-use Rattle.pr_programs.specs.declared.made.Ran.{Ran}
+use Rattle.pr_programs.specs.declared.made.Ran.{Ran as ProgramRun}
 use Rattle.pr_programs.specs.declared.made.Ran.TheVariants as program
 use Rattle.pr_jobs.specs.declared.fault.CliFault.{CliFault}
 use Rattle.pr_jobs.specs.declared.fault.CliFault.TheVariants.{Script, Trace, Wave, Capture, Picture, TooLarge, NoMemory, ReadFailed, WriteFailed}
@@ -79,7 +79,7 @@ job_end strict (Ok answer) = strict_end strict answer
 job_end strict (Err fault) = end.Job fault
 
 -- of a job whose script came of the run of a program: an error ended that run, if nothing stopped the job's run before
-abbrev pub ended_after : Ran → End → End
+abbrev pub ended_after : ProgramRun → End → End
 ended_after (program.Error error line) end.Done = end.Broken error line
 ended_after ran ended = ended
 

@@ -1,5 +1,7 @@
 //! What is said of the run of a program, on standard error.
 
+ghost use Rattle.std.specs.Prelude.{◌<◌, length};
+
 use crate::statuses::End;
 use pr_interpreter::BasicError;
 use pr_programs::{BasicFault, Made, Ran, Reason, error_name};
@@ -221,7 +223,9 @@ fn row_numbered(text: &[u8], number: usize) -> &[u8] {
 }
 
 /// The first row of a text, and what is after its end: byte 10 or 13, or 13 and 10.
-fn first_row(text: &[u8]) -> (&[u8], &[u8]) {
+fn first_row(text: &[u8]) -> (&[u8], &[u8])
+    ensures { 0 < length text.now → length result.1.now < length text.now }
+{
     let Some(end) = text.iter().position(|b| *b == b'\n' || *b == b'\r') else {
         return (text, &[]);
     };
