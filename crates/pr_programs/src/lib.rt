@@ -13,12 +13,13 @@
 //! - `saved` has the text of a saved program ([`typed_program`]).
 //! - `typed` reads the names of keys in strings, `made` runs a program, `places` has the row of a place, `fault` says
 //!   why there is no script, `errors` has the words of the errors of BASIC.
-//! - `form` has the forms of what a script is made of.
+//! - `form` has the forms of what a script is made of, and `laws` that a script is read as what was performed.
 #![tactic(auto)]
 
 mod errors;
 mod fault;
 mod form;
+pub mod laws;
 mod lists;
 mod made;
 mod places;
