@@ -54,7 +54,8 @@ LETTERS = "abcdefghijklmnopqrstuvwxyz"
 # Where hints are that the page says in words of its own.
 HINTS = [f"crates/pr_explain/src/{it}.rt" for it in ("faults", "scripts", "trace_text", "tables", "names", "preambles", "stops")]
 HINTS += ["crates/pr_cli/src/told.rt", "crates/pr_cli/src/notes.rt", "crates/pr_cli/src/strings.rt", "crates/pr_cli/src/order.rt",
-          "crates/pr_cli/src/still.rt", "crates/pr_report/src/oddities.rt", "crates/pr_options/src/command_line.rt"]
+          "crates/pr_cli/src/still.rt", "crates/pr_cli/src/programs.rt", "crates/pr_report/src/oddities.rt",
+          "crates/pr_options/src/command_line.rt"]
 # Options of other programs: of those in examples/, and of web/pack.mjs.
 OTHERS = {"--bytes", "--decode", "--receive", "--window", "--clean"}
 
