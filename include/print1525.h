@@ -286,8 +286,8 @@ typedef struct {
 } print1525_timing;
 
 /* A device: what the library keeps of one between two moments. Its numbers are the library's own. Copy, save and load
- * its bytes freely; their version is among them. A device of another version, or memory that is no device, is refused
- * as no such device (21); all other numbers mean some device. */
+ * its bytes freely; their version is among them. A step refuses a device of another version, or memory that is no
+ * device, as no such device (21); all other numbers mean some device. */
 typedef struct {
     uint64_t kept[8];
 } print1525_device;
@@ -297,8 +297,8 @@ typedef struct {
 
 /* What a device does at a moment, and what it hears then. */
 typedef struct {
-    uint64_t wake;            /* later than this moment: then, or later, show it the lines again, if none changes
-                               * before; or PRINT1525_NO_WAKE */
+    uint64_t wake;            /* later than this moment: then show it the lines again, if none changes before (what is
+                               * shown later, it does later); or PRINT1525_NO_WAKE */
     uint8_t pulls_data;       /* 1: it pulls DATA from this moment on; 0: it does not */
     print1525_received heard; /* with CLOCK's last pull in a byte what the byte says to the device, else nothing */
 } print1525_step;
@@ -319,7 +319,8 @@ int print1525_device_begin(print1525_device *device, uint8_t address, const prin
  * wire: it is pulled as long as anybody pulls it, this device too.
  *
  * Reads: a device that was begun; a moment in microseconds below 2^63 that is not earlier than the last one, and the
- * levels of the lines. Several moments may have one time; a byte is heard once.
+ * levels of the lines. Several moments may have one time; a byte is heard once. A change of ATN ends what had begun, so
+ * show it before a change of CLOCK; and a `wake` before a change at the same time.
  * Gives: the step. The device keeps pulling, or not, until the next step.
  * Refuses, with the device as it was: NULL (80), with nothing written but details; numbers that are no device's (21);
  * and a moment that is earlier than the last one, or is 2^63 or more (17). With these two the step pulls nothing, hears
@@ -329,9 +330,9 @@ int print1525_device_step(print1525_device *device, const print1525_edge *moment
 
 /* Lets a device print until a moment, in microseconds: before the next byte, also a command to another device, it holds
  * DATA until then, and the talker waits. The next step has the new wake. It hears what comes meanwhile. Once it has
- * released DATA before a byte, it does not pull it again for that.
+ * released DATA before a byte, it does not pull it again for that. A later call counts instead of an earlier one.
  *
- * Refuses, with the device as it was: NULL (80). */
+ * Refuses, with the device as it was: NULL (80). Memory that is no device is written to, and refused by the next step. */
 int print1525_device_busy(print1525_device *device, uint64_t until, print1525_details *details);
 
 /* How fast a printer prints; 0 is the figure of the VIC-1525 User's Manual, of 30 characters or five line feeds a

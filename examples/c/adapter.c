@@ -49,8 +49,8 @@ int main(int words, char **word) {
     int got = 1;
     int status = print1525_device_begin(&device, (uint8_t)(address == (uint8_t)address ? address : 0), NULL, &details);
     while (status == PRINT1525_DONE && (got = next_edge(&edge)) > 0) {
-        /* What the device wants to do before the edge. */
-        while (status == PRINT1525_DONE && step.wake < edge.time) {
+        /* What the device wants to do before the edge, or at its time. */
+        while (status == PRINT1525_DONE && step.wake <= edge.time) {
             lines.time = step.wake;
             status = show(&device, &lines, &step, &details);
         }
