@@ -19,6 +19,7 @@ FAULTS = (
     "INPUT A", "PRINT#4,1/3*3;", "A=1/0", "E(11)=1", "PRINT RND(1)", 'A="X"', "NEXT Z9", "RETURN", "GOTO 9", "PRINT#4,CHR$(2^5)",
     "B$=CHR$(300)", "PRINT#9,A", "OPEN 4,4", "X=2 3 Y", "PRINT MID$(A$,0)", "A%=40000", "POKE 1,1", "IF 1/3=1/3 THEN A=1", "X=SQR(9)",
     "T1$=MID$(A$,1,-1)", "READ A,B,X,Y9,Z,A,B,X,Y9,Z,A,B,X,Y9,Z", "GOSUB 63000", "DIM E(3)", "PRINT#4,TAB(300)", "A=SIN(0)", "STOP", "END",
+    "DIM Z(7600)", "DEF FNZ(X)=FNZ(X):A=FNZ(1)",
 )  # fmt: skip
 
 
@@ -78,6 +79,19 @@ class Maker:
         """A whole number from 0 to 7."""
         name = self.rng.choice(LOOPS + WHOLES + ("C1",))
         return self.pick(lambda: str(self.rng.randrange(8)), lambda: f"({name} AND 7)")
+
+    def deep(self, depth: int) -> str:
+        """A number for which more and more waits on the machine's stack."""
+        a = self.deep(depth - 1) if depth else self.constant()
+        return self.pick(
+            lambda: f"({a})",
+            lambda: f"{self.rng.randrange(3)}{self.rng.choice('+-<')}({a})",
+            lambda: self.rng.choice((f"-{a}", f"NOT ({a})")),
+            lambda: f"{self.rng.choice(('ABS', 'INT', 'SGN', *self.functions))}({a})",
+            lambda: f"LEN({self.rng.choice(('STR$(', 'LEFT$(A$,', 'MID$(A$,1,'))}{a}))",
+            lambda: f"E({a} AND 7)",
+            lambda: f"F%({self.rng.randrange(3)},{a} AND 1)",
+        )
 
     def text(self, depth: int = 2) -> str:
         """An expression that gives a string."""
@@ -144,6 +158,8 @@ class Maker:
         """One statement that goes on with the next."""
         if self.chance(0.35):
             return self.rng.choice(FAULTS)
+        if self.chance(0.5):
+            return f"{self.rng.choice(NUMBERS)}={self.deep(self.rng.randrange(1, 16))}"
         return self.pick(
             self.assignment, self.assignment, self.assignment, self.output, self.output, self.output, self.reading, self.choice,
             lambda: f"POKE {self.rng.choice((53280, 1024, 55296))},{self.small()}",

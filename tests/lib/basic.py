@@ -14,7 +14,7 @@ import math
 import os
 import re
 import sys
-from collections.abc import Iterator, Sequence
+from collections.abc import Sequence
 from dataclasses import dataclass, field
 from typing import Optional, Union
 
@@ -23,7 +23,7 @@ sys.path.insert(0, os.path.dirname(os.path.abspath(__file__)) + "/../basic")
 from interpreter.expressions import Expression, Slot, Variable
 from interpreter.reader import Reader
 from interpreter.statements import Ended, Loop, Return, Statement
-from interpreter.text import Lexeme, Name, lexemes_of, rows_of, string_of
+from interpreter.text import Lexeme, Name, lexemes_of, rows_of, size_of, string_of
 from interpreter.values import ZERO, BasicError, NotCertain, Number, Refused, Value, exact, number_in, signed_whole, used_at, whole
 
 
@@ -36,35 +36,60 @@ class Item:
     line: int
 
 
-def items_in(lexeme: Lexeme, line: int) -> Iterator[Item]:
-    """The items of a DATA statement: a string that has quotes, or what comes before the next comma or colon."""
-    text, at = lexeme.value, 0
+def items_in(lexeme: Lexeme, line: int) -> tuple[list[Item], bool]:
+    """The items of a DATA statement: a string that has quotes, or what comes before the next comma or colon. And
+    whether they end at a colon in quotes: for the machine quotes then count the other way, and the line has no DATA."""
+    text, at, items = lexeme.value, 0, []
     assert isinstance(text, bytes)
     while True:
         found = re.compile(rb'( *)("[^"]*"?[^,:]*|[^,:]*)').match(text, at)
         assert found
-        yield Item(found[2], lexeme.place + found.start(2), line)
+        items.append(Item(found[2], lexeme.place + found.start(2), line))
         at = found.end() + 1
         if text[found.end() : at] != b",":
-            return
+            return items, found.end() < len(text)
+
+
+def text_item(item: Item) -> tuple[Value, bool]:
+    """An item as a string, where names of keys count in quotes alone; and whether that is all of it."""
+    if not item.text.startswith(b'"'):
+        return item.text, True
+    _, text, *rest = item.text.split(b'"')
+    return string_of(text, item.place + 1), not any(it.strip(b" ") for it in rest)
+
+
+def number_item(item: Item, kind: str) -> tuple[Value, bool]:
+    """The number at the front of an item, for a variable of a kind; and whether that is all of it."""
+    with used_at(item.place):
+        value, rest = number_in(item.text)
+        return exact(signed_whole(value)) if kind == "%" else value, not rest
 
 
 class Program:
-    """A program: its statements, where its lines begin and end, and the items of DATA."""
+    """A program: its statements, where its lines begin and end, the items of DATA, and how many bytes of memory it takes."""
 
     def __init__(self, text: bytes):
         self.code: list[Statement] = []
         self.starts: dict[int, int] = {}
         self.ends: dict[int, int] = {}
         self.items: list[Item] = []
+        self.size = size_of(text)
         for line, (row, place) in rows_of(text).items():
             lexemes = lexemes_of(row, place)
+            self.size += 5
             self.starts[line] = len(self.code)
             self.code += Reader(line, lexemes, place + len(row)).statements()
             self.ends[line] = len(self.code)
             for before, it in zip([Lexeme(":", place), *lexemes], lexemes):
                 if it.word == "ITEMS" and before.word == ":":
-                    self.items += items_in(it, line)
+                    items, is_last = items_in(it, line)
+                    self.items += items
+                    if is_last:
+                        break
+
+
+MEMORY = 38911 - 1100  # bytes for a program and what it keeps; the rest is for what an expression makes
+STACK = 162  # bytes for loops, calls, and what waits in an expression
 
 
 class Run:
@@ -77,17 +102,52 @@ class Run:
         self.is_left, self.has_sent = True, False
         self.performed: list[str] = []
         self.notes: list[str] = []
+        self.waiting = 0  # bytes of the stack that wait for the part of an expression that is worked out
+        self.strings = 0  # that the machine keeps for an expression
         self.clear()
+        self.need_memory(0)
 
     def clear(self) -> None:
         self.variables: dict[Name, Value] = {}
         self.arrays: dict[Name, tuple[tuple[int, ...], dict]] = {}
         self.functions: dict[Name, tuple[Name, Expression]] = {}
         self.stack: list[Union[Loop, Return]] = []
-        self.item = self.depth = self.memory = 0
+        self.item = self.array_bytes = 0
 
-    def number(self, expression: Expression) -> Number:
-        value = expression.evaluate(self)
+    def need_memory(self, place: int) -> None:
+        """Refuses what the machine may have no memory for: the program, variables, functions, arrays and strings."""
+        values = [*self.variables.values(), *(it for _, values in self.arrays.values() for it in values.values())]
+        strings = sum(len(it) for it in values if isinstance(it, bytes))
+        names = len(self.variables) + len(self.functions)
+        if self.program.size + 7 * names + self.array_bytes + strings > MEMORY:
+            raise Refused(place, "the memory may be full")
+
+    def need_stack(self, place: int, more: int = 0) -> None:
+        """Refuses what the machine may have no stack for, if it takes so many bytes more."""
+        opened = sum(18 if isinstance(it, Loop) else 7 for it in self.stack)
+        if opened + self.waiting + more > STACK:
+            raise Refused(place, "the stack may be full")
+
+    def value(self, expression: Expression, waiting: int = 0) -> Value:
+        """The value of an expression for which so many bytes wait on the stack."""
+        self.waiting += waiting
+        found = expression.evaluate(self)
+        self.waiting -= waiting
+        return found
+
+    def made(self, text: bytes) -> bytes:
+        """A string that the machine makes for an expression: it keeps at most three."""
+        if self.strings == 3:
+            raise BasicError("FORMULA TOO COMPLEX")
+        self.strings += 1
+        return text
+
+    def free(self, *parts: Expression) -> None:
+        """Strings that were made for these parts are kept no more."""
+        self.strings -= sum(it.makes_text for it in parts)
+
+    def number(self, expression: Expression, waiting: int = 0) -> Number:
+        value = self.value(expression, waiting)
         if isinstance(value, bytes):
             raise BasicError("TYPE MISMATCH")
         return value
@@ -110,9 +170,8 @@ class Run:
         return ZERO
 
     def make_array(self, name: Name, sizes: tuple[int, ...], place: int) -> None:
-        self.memory += math.prod(it + 1 for it in sizes) * {"": 5, "%": 2, "$": 3}[name.kind]
-        if self.memory > 30000:
-            raise Refused(place, "the memory may be full")
+        self.array_bytes += 5 + 2 * len(sizes) + math.prod(it + 1 for it in sizes) * {"": 5, "%": 2, "$": 3}[name.kind]
+        self.need_memory(place)
         self.arrays[name] = sizes, {}
 
     def element(self, name: Name, indices: tuple[int, ...], place: int) -> Slot:
@@ -132,45 +191,42 @@ class Run:
             raise BasicError("SYNTAX")
         return target.slot(self)
 
+    def keep(self, slot: Slot, value: Value, place: int) -> None:
+        values, key = slot
+        grows = isinstance(value, bytes) or values is self.variables and key not in values
+        values[key] = value
+        if grows:
+            self.need_memory(place)
+
+    def declare(self, name: Name, place: int) -> None:
+        """There is a variable of this name, 0 or empty if there was none."""
+        self.keep((self.variables, name), self.variables.get(name, name.first_value), place)
+
     def assign(self, target: Variable, expression: Expression) -> None:
-        values, key = self.target(target)
+        slot = self.target(target)
         value = expression.evaluate(self)
         if isinstance(value, bytes) != (target.name.kind == "$"):
             raise BasicError("TYPE MISMATCH")
         if target.name.kind == "%" and isinstance(value, Number):
             with used_at(expression.place):
                 value = exact(signed_whole(value))
-        values[key] = value
+        self.keep(slot, value, expression.place)
 
-    def next_item(self, name: Name) -> Value:
-        """The next item of DATA, for a variable of this name."""
+    def read(self, target: Variable) -> None:
+        """Reads the next item of DATA. Its value is kept before anything is said of what follows in the item."""
+        slot = self.target(target)
         if self.item == len(self.program.items):
             raise BasicError("OUT OF DATA")
         item = self.program.items[self.item]
         self.item += 1
-        if name.kind == "$":
-            return self.text_item(item)
-        with used_at(item.place):
-            value, rest = number_in(item.text)
-            if name.kind == "%":
-                value = exact(signed_whole(value))
-        if rest:
+        value, is_all = text_item(item) if target.name.kind == "$" else number_item(item, target.name.kind)
+        self.keep(slot, value, item.place)
+        if not is_all:
             raise BasicError("SYNTAX", item.line)
-        return value
-
-    def text_item(self, item: Item) -> bytes:
-        """An item as a string: names of keys count in quotes alone."""
-        if not item.text.startswith(b'"'):
-            return item.text
-        _, text, *rest = item.text.split(b'"')
-        if any(it.strip(b" ") for it in rest):
-            raise BasicError("SYNTAX", item.line)
-        return string_of(text, item.place + 1)
 
     def push(self, frame: Union[Loop, Return]) -> None:
         self.stack.append(frame)
-        if sum(18 if isinstance(it, Loop) else 7 for it in self.stack) > 162:  # bytes of the machine's stack
-            raise Refused(self.program.code[self.at].place, "the stack may be full")
+        self.need_stack(self.program.code[self.at].place)
 
     def find_loop(self, name: Optional[Name], and_itself: bool = False) -> Optional[Loop]:
         """The loop of a variable, or the last one, of those begun since the last GOSUB. Those inside it are left."""

@@ -8,7 +8,7 @@ use Rattle.pr_interpreter.specs.ExpressionLaws.{ExpressionsAreWhole, operands, t
 use Rattle.pr_interpreter.specs.Expressions.{Done, Next, Refused, Stacks, Turn, after_turn, bound, close_pending}
 use Rattle.pr_interpreter.specs.Expressions.{close_turn, closing_code, comma_pending, comma_turn, end_of_operand}
 use Rattle.pr_interpreter.specs.Expressions.{end_turn, expression, function_turn, greatest_count, is_function}
-use Rattle.pr_interpreter.specs.Expressions.{least_count, nothing, opening_turn, opens, operand_code, operand_turn}
+use Rattle.pr_interpreter.specs.Expressions.{least_count, node_at, nothing, opening_turn, opens, operand_code, operand_turn}
 use Rattle.pr_interpreter.specs.Expressions.{operator_of, operator_or, operator_turn, own_turn, precedence, reading}
 use Rattle.pr_interpreter.specs.Expressions.{settle, settled, turn, with_node, with_waiting}
 use Rattle.pr_interpreter.specs.declared.expressions.Callee.{Callee}
@@ -105,7 +105,7 @@ node_leaves : (s : Stacks) (node : Node) (place n : ℕ) → AllBegun s.waiting
     → values_after 0 s.nodes ≡ some n → takes node ≤ n → n - takes node ≡ held s.waiting
     → Leaves (with_node s node place) 1
 node_leaves s node place n begun e h left = record {
-  values = values_more 0 n s.nodes (record { node = node; place = place }) e h ∙ ap (λ (k : ℕ). some (k + 1)) left;
+  values = values_more 0 n s.nodes (node_at s.waiting node place) e h ∙ ap (λ (k : ℕ). some (k + 1)) left;
   begun = begun;
 }
 
@@ -133,7 +133,7 @@ settled_leaves least nodes (w ∷ ws) h = cases w.pending refl (λ more k. settl
         let least_one = operands_some op in
         let enough : takes (Apply op) ≤ held (w ∷ ws) + 1 = omega (arith, has, least_one) in
         let left : held (w ∷ ws) + 1 - takes (Apply op) ≡ held ws = omega (arith, has, least_one) in
-        rw found (go (nodes ++ record { node = Apply op; place = w.place } ∷ [])
+        rw found (go (nodes ++ node_at ws (Apply op) w.place ∷ [])
         (node_leaves (record { nodes = nodes; waiting = ws }) (Apply op) w.place (held (w ∷ ws) + 1) h.begun.1 h.values
         enough left))
 

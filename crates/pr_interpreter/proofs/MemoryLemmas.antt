@@ -4,7 +4,7 @@ use Rattle.std.proofs.Common.{inl, inr}
 use Rattle.std.proofs.lemmas.Bool.{and_right, cases_Bool, le-leb, le-ltb, lt-leb, lt-ltb}
 use Rattle.std.proofs.lemmas.List.{drop_all}
 use Rattle.std.proofs.Math.Nat.{mul-le-mul, pow-le-pow_right}
-use Rattle.pr_interpreter.specs.Memory.{element_bytes, place_of}
+use Rattle.pr_interpreter.specs.Memory.{element_bytes, place_of, undimensioned_bytes}
 use Rattle.pr_interpreter.specs.declared.names.Kind.{Kind}
 use Rattle.pr_interpreter.specs.declared.names.Kind.TheVariants.{Number as Numeric, Text as Letters, Whole}
 
@@ -21,7 +21,7 @@ few_bytes Whole = omega arith
 few_bytes Letters = omega arith
 
 -- an array of five dimensions and more has no room
-pub too_many : (kind : Kind) (count : ℕ) → 4 < count → 30000 < element_bytes kind * 11 ^ count
+pub too_many : (kind : Kind) (count : ℕ) → 4 < count → 65535 < undimensioned_bytes kind count
 too_many kind count large =
     let some : 0 < 11 = omega arith in
     let five : 5 ≤ count = omega arith in
@@ -32,7 +32,7 @@ too_many kind count large =
 pub few_elements : (count : ℕ) → count ≤ 4 → 11 ^ count ≤ 11 ^ 4
 few_elements count few = let some : 0 < 11 = omega arith in pow-le-pow_right some few
 
-pub bytes_fit : (kind : Kind) (n : ℕ) → n ≤ 11 ^ 4 → element_bytes kind * n ≤ 5 * 11 ^ 4
+pub bytes_fit : (kind : Kind) (n : ℕ) → n ≤ 65535 → element_bytes kind * n ≤ 5 * 65535
 bytes_fit kind n few = mul-le-mul (few_bytes kind) few
 
 -- ---- places of elements

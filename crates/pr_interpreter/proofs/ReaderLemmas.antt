@@ -1,7 +1,9 @@
-use Rattle.std.proofs.Common.{◌≡◌, ℕ, ◌<◌, List, [], ◌∷◌, ◌++◌, length, arith, sym, refl, ap, ◌∙◌, Option, Some, None}
+use Rattle.std.proofs.Common.{◌≡◌, ℕ, ◌+◌, ◌<◌, ◌≤◌, List, [], ◌∷◌, ◌++◌, length, drop, get_or, min, reverse, arith}
+use Rattle.std.proofs.Common.{sym, refl, ap, ◌∙◌, Option, Some, None, add-one, drop-cons}
+use Rattle.std.proofs.lemmas.List.{drop_all, reverse-append}
 use Rattle.pr_interpreter.specs.Expressions.{Done, Refused, Stacks, Turn, bound, close_pending, close_turn}
-use Rattle.pr_interpreter.specs.Expressions.{comma_pending, comma_turn, end_turn, settle, settled, with_node}
-use Rattle.pr_interpreter.specs.Expressions.{with_waiting}
+use Rattle.pr_interpreter.specs.Expressions.{comma_pending, comma_turn, end_turn, node_at, pending_bytes, settle}
+use Rattle.pr_interpreter.specs.Expressions.{settled, waiting_bytes, with_node, with_waiting}
 use Rattle.pr_interpreter.specs.declared.expressions.Node.TheVariants.{Apply}
 use Rattle.pr_interpreter.specs.declared.expressions.Operator.{Operator}
 use Rattle.pr_interpreter.specs.declared.expressions.Placed.{Placed}
@@ -23,10 +25,10 @@ pub settle_goes : (least : ℕ) (s t next : Stacks) (w : Waiting) (op : Operator
 unfolding settle
 settle_goes least s t next w op nodes waiting some e =
     ap (λ (u : Stacks). settled least u.nodes u.waiting) e
-    ∙ (ap (λ (ps : List Placed). settled least (ps ++ record { node = Apply op; place = w.place } ∷ []) t.waiting) nodes
+    ∙ (ap (λ (ps : List Placed). settled least (ps ++ node_at t.waiting (Apply op) w.place ∷ []) t.waiting) nodes
     ∙ (back ∙ ap (λ (ws : List Waiting). settled least s.nodes ws) (sym waiting)))
   where
-    back : settled least (s.nodes ++ record { node = Apply op; place = w.place } ∷ []) t.waiting
+    back : settled least (s.nodes ++ node_at t.waiting (Apply op) w.place ∷ []) t.waiting
         ≡ settled least s.nodes (w ∷ t.waiting)
     back = rw (sym some) refl
 
@@ -85,3 +87,40 @@ end_on s t w waiting = ap (λ (ws : List Waiting). end_turn s.nodes ws) (sym wai
 pub end_none : (s t : Stacks) → t.nodes ≡ s.nodes → s.waiting ≡ [] → Done t.nodes ≡ end_turn s.nodes s.waiting
 end_none s t nodes waiting =
     ap (λ (ps : List Placed). Done ps) nodes ∙ ap (λ (ws : List Waiting). end_turn s.nodes ws) (sym waiting)
+
+-- ---- the machine's stack
+
+waiting_append : (xs ys : List Waiting) → waiting_bytes (xs ++ ys) ≡ waiting_bytes xs + waiting_bytes ys
+waiting_append [] ys = omega arith
+waiting_append (x ∷ xs) ys = let e = waiting_append xs ys in omega arith
+
+waiting_reverse : (xs : List Waiting) → waiting_bytes (reverse xs) ≡ waiting_bytes xs
+waiting_reverse [] = refl
+waiting_reverse (x ∷ xs) =
+    let e = waiting_reverse xs in
+    let both : waiting_bytes (reverse (x ∷ xs)) ≡ waiting_bytes (reverse xs) + waiting_bytes (x ∷ []) =
+    rw (reverse-append (x ∷ []) xs) (waiting_append (reverse xs) (x ∷ [])) in
+    omega arith
+
+-- what something takes that waits is counted
+pub bytes_taken : (d : Waiting) (xs : List Waiting) (i size n : ℕ) → i < length xs
+    → n ≡ pending_bytes (get_or xs i d).pending → size + waiting_bytes (drop i xs) ≡ waiting_bytes xs
+    → size + n + waiting_bytes (drop (i + 1) xs) ≡ waiting_bytes xs
+bytes_taken d xs i size n h taken all =
+    let cut : drop i xs ≡ get_or xs i d ∷ drop (i + 1) xs = rw add-one (drop-cons xs i d h) in
+    let sizes : waiting_bytes (drop i xs) ≡ pending_bytes (get_or xs i d).pending + waiting_bytes (drop (i + 1) xs) =
+    rw cut refl in
+    omega arith
+
+-- there are more than are counted
+pub bytes_many : (xs : List Waiting) (size rest : ℕ) → size + rest ≡ waiting_bytes xs → 255 ≤ size
+    → 255 ≡ min (waiting_bytes (reverse xs)) 255
+bytes_many xs size rest all many = let back = waiting_reverse xs in omega arith
+
+-- all are counted
+pub bytes_left : (xs : List Waiting) (i size : ℕ) → length xs ≤ i → size + waiting_bytes (drop i xs) ≡ waiting_bytes xs
+    → size < 255 → size ≡ min (waiting_bytes (reverse xs)) 255
+bytes_left xs i size h all few =
+    let none : waiting_bytes (drop i xs) ≡ 0 = rw (drop_all i xs h) refl in
+    let back = waiting_reverse xs in
+    omega arith

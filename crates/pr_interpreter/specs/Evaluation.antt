@@ -1,7 +1,7 @@
 -- Trusted: the value of an expression. Its nodes are worked out from left to right: each takes the last of what was
 -- given before it, and gives something itself. What stops an operand stops what takes it, in the order in which the
 -- machine looks at its operands.
-use Rattle.std.specs.Prelude.{ℕ, zero, suc, ◌+◌, ◌-◌, ◌*◌, ◌^◌, ◌==◌, ◌&&◌, ◌||◌, Bool, true, false, not, List, [], ◌∷◌}
+use Rattle.std.specs.Prelude.{ℕ, zero, suc, ◌+◌, ◌-◌, ◌==◌, ◌&&◌, ◌||◌, Bool, true, false, not, List, [], ◌∷◌}
 use Rattle.std.specs.Prelude.{◌++◌, length, take, drop, count_by, slice_index_or, slice_range, nat_le, nat_lt}
 use Rattle.std.specs.Prelude.{if◌then◌else◌, Option, Some, None, Result, Ok, Err}
 use Rattle.pr_interpreter.specs.declared.given.Given.{Given}
@@ -23,7 +23,8 @@ use Rattle.pr_interpreter.specs.declared.names.Name.{Name}
 use Rattle.pr_interpreter.specs.declared.values.BasicError.TheVariants.{BadSubscript, FormulaTooComplex, Syntax}
 use Rattle.pr_interpreter.specs.declared.values.BasicError.TheVariants.{TypeMismatch, UndefinedFunction}
 use Rattle.pr_interpreter.specs.declared.values.Halt.{Halt}
-use Rattle.pr_interpreter.specs.declared.values.Halt.TheVariants.{Error, NotCertain, NotTaken, OutOfMemory}
+use Rattle.pr_interpreter.specs.declared.values.Halt.TheVariants.{Error, FullMemory, FullStack, NotCertain, NotTaken}
+use Rattle.pr_interpreter.specs.declared.values.Halt.TheVariants.{OutOfMemory}
 use Rattle.pr_interpreter.specs.declared.values.Stop.{Stop}
 use Rattle.pr_interpreter.specs.declared.values.Stop.TheVariants.{Error as Reported, NotCertain as Uncertain}
 use Rattle.pr_interpreter.specs.declared.values.Stop.TheVariants.{OutOfMemory as NoMemory}
@@ -33,12 +34,14 @@ use Rattle.pr_interpreter.specs.Constants.{value_of}
 use Rattle.pr_interpreter.specs.ExpressionLaws.{operands}
 use Rattle.pr_interpreter.specs.Functions.{character, first_byte, integer_part, length_of, middle, number_at_front}
 use Rattle.pr_interpreter.specs.Functions.{number_text, part_of, sign_number, square_root, whole_to, with_whole}
-use Rattle.pr_interpreter.specs.Memory.{array_of, element_at, element_bytes, function_of, is_clock, is_status}
-use Rattle.pr_interpreter.specs.Memory.{parameter, parameter_of, place_of, undimensioned, variable_value, with_array}
+use Rattle.pr_interpreter.specs.Memory.{array_of, element_at, function_of, is_clock, is_status, parameter}
+use Rattle.pr_interpreter.specs.Memory.{parameter_of, place_of, undimensioned, undimensioned_bytes, variable_value}
+use Rattle.pr_interpreter.specs.Memory.{with_array}
 use Rattle.pr_interpreter.specs.Numbers.{Known, absolute, order_of, whole_number, zero_number}
 use Rattle.pr_interpreter.specs.Values.{calculated, of_numbers, of_texts}
 
--- what the values of an expression come from: the program's text, and what the machine keeps
+-- what the values of an expression come from: the program's text, and what the machine keeps; and how many bytes there
+-- surely are of memory for arrays, and of the machine's stack
 pub record Scope : Type 0 where
   pub text : List ℕ
   pub parameters : List Parameter
@@ -46,6 +49,8 @@ pub record Scope : Type 0 where
   pub functions : List Function
   pub column : Option ℕ
   pub has_sent : Bool
+  pub memory : ℕ
+  pub stack : ℕ
 
 -- The arrays, which reading an element may make; what was given and is not taken yet, the last at the end; and how many
 -- strings the machine keeps for the expression itself.
@@ -290,19 +295,19 @@ element a is = element_or a (place_of 0 a.bounds is)
 
 -- with one more array
 abbrev pub in_new : ℕ → Array → List ℕ → Working → Option Arrays → Working
-in_new place a is w None = give (Stopped (NotTaken place)) w
+in_new place a is w None = give (Stopped (FullMemory place)) w
 in_new place a is w (Some arrays) = give (element a is) (record w { arrays = arrays })
 
 -- an array that is used before DIM is made
-unfoldable pub in_array : ℕ → Name → List ℕ → Working → Option Array → Working
-in_array place name is w (Some a) = give (element a is) w
-in_array place name is w None =
+unfoldable pub in_array : ℕ → ℕ → Name → List ℕ → Working → Option Array → Working
+in_array room place name is w (Some a) = give (element a is) w
+in_array room place name is w None =
     let a = undimensioned name (length is) in
-    in_new place a is w (with_array a (element_bytes name.kind * 11 ^ length is) w.arrays)
+    in_new place a is w (with_array room a (undimensioned_bytes name.kind (length is)) w.arrays)
 
-abbrev pub indexed : ℕ → Name → Working → Result (List ℕ) Halt → Working
-indexed place name w (Err halt) = give (Stopped halt) w
-indexed place name w (Ok is) = in_array place name is w (array_of name w.arrays.list)
+abbrev pub indexed : ℕ → ℕ → Name → Working → Result (List ℕ) Halt → Working
+indexed room place name w (Err halt) = give (Stopped halt) w
+indexed room place name w (Ok is) = in_array room place name is w (array_of name w.arrays.list)
 
 -- ---- functions of the program
 
@@ -321,43 +326,59 @@ ended count strings after = record {
 abbrev pub returned : Working → Working → Working
 returned before after = ended (length before.given) before.strings after
 
-abbrev pub with_parameter : Name → Known → Scope → Scope
-with_parameter name n scope = record scope { parameters = parameter name n ∷ scope.parameters }
+-- how many bytes of the machine's stack a function of the program takes while it is worked out
+abbrev pub function_bytes : ℕ
+function_bytes = 16
 
-abbrev pub defined : Worker → ℕ → Scope → Working → Known → Option Function → Working
-defined worker place scope w n None = give (Stopped (Error UndefinedFunction)) w
-defined worker place scope w n (Some f) =
-    returned w (worker place (with_parameter f.variable n scope) w f.value)
+-- in a function its variable has a value, and the stack has so many bytes less
+abbrev pub inside : Name → Known → ℕ → Scope → Scope
+inside name n taken scope =
+    record scope { parameters = parameter name n ∷ scope.parameters; stack = scope.stack - taken }
+
+abbrev pub entered : Worker → ℕ → ℕ → Scope → Working → Known → Function → Working
+entered worker place taken scope w n f =
+    if nat_le taken scope.stack then returned w (worker place (inside f.variable n taken scope) w f.value)
+    else give (Stopped (FullStack place)) w
+
+abbrev pub defined : Worker → ℕ → ℕ → Scope → Working → Known → Option Function → Working
+defined worker place stacked scope w n None = give (Stopped (Error UndefinedFunction)) w
+defined worker place stacked scope w n (Some f) = entered worker place (stacked + function_bytes) scope w n f
 
 -- a function's variable has the value of the argument as long as the function is worked out
-abbrev pub own : Worker → ℕ → Scope → Working → Name → Result Known Halt → Working
-own worker place scope w name (Err halt) = give (Stopped halt) w
-own worker place scope w name (Ok n) = defined worker place scope w n (function_of name scope.functions)
+abbrev pub own : Worker → ℕ → ℕ → Scope → Working → Name → Result Known Halt → Working
+own worker place stacked scope w name (Err halt) = give (Stopped halt) w
+own worker place stacked scope w name (Ok n) =
+    defined worker place stacked scope w n (function_of name scope.functions)
 
 -- ---- nodes
 
--- what a node takes and gives
-unfoldable pub after : Worker → Scope → Working → ℕ → Node → Working
-after worker scope w place (Constant c) = give (number_or place (calculated (value_of c))) w
-after worker scope w place (Quoted start end) = give (literal place scope.text start end) w
-after worker scope w place (Named name) = give (variable scope place name) w
-after worker scope w place (Apply op) =
+-- a number, a string or a variable, if the machine's stack surely has the bytes that what waits for it takes
+abbrev pub operand : Scope → ℕ → ℕ → Given → Given
+operand scope place stacked g = if nat_le stacked scope.stack then g else Stopped (FullStack place)
+
+-- what a node takes and gives, where so many bytes of the stack are taken
+unfoldable pub after : Worker → Scope → Working → ℕ → ℕ → Node → Working
+after worker scope w place stacked (Constant c) =
+    give (operand scope place stacked (number_or place (calculated (value_of c)))) w
+after worker scope w place stacked (Quoted start end) =
+    give (operand scope place stacked (literal place scope.text start end)) w
+after worker scope w place stacked (Named name) = give (operand scope place stacked (variable scope place name)) w
+after worker scope w place stacked (Apply op) =
     give (applied op place (arguments (operands op) w)) (without (operands op) w)
-after worker scope w place (Call (Builtin f) count) =
+after worker scope w place stacked (Call (Builtin f) count) =
     give (called f place scope.column (arguments count w)) (without count w)
-after worker scope w place (Call (Element name) count) =
-    indexed place name (without count w) (indices place [] (arguments count w))
-after worker scope w place (Call (Own name) count) =
-    own worker place scope (without 1 w) name (number_in (last_given w.given))
+after worker scope w place stacked (Call (Element name) count) =
+    indexed scope.memory place name (without count w) (indices place [] (arguments count w))
+after worker scope w place stacked (Call (Own name) count) =
+    own worker place stacked scope (without 1 w) name (number_in (last_given w.given))
 
 abbrev pub through : Worker → Scope → Working → List Placed → Working
 through worker scope w [] = w
-through worker scope w (p ∷ ps) = through worker scope (after worker scope w p.place p.node) ps
+through worker scope w (p ∷ ps) = through worker scope (after worker scope w p.place p.stacked p.node) ps
 
--- Nodes from left to right, where functions may call others so many deep; a deeper call is not taken, since the
--- machine's stack may be full.
+-- Nodes from left to right, where functions call others at most so many deep: no stack has room for more than 15.
 abbrev pub worked : ℕ → Worker
-worked zero place scope w nodes = give (Stopped (NotTaken place)) w
+worked zero place scope w nodes = give (Stopped (FullStack place)) w
 worked (suc depth) place scope w nodes = through (worked depth) scope w nodes
 
 -- ---- the value
@@ -379,4 +400,4 @@ evaluation_in w = record { value = value_in (last_given w.given); arrays = w.arr
 -- the value of an expression
 unfoldable pub evaluation : Scope → Arrays → List Placed → Evaluation
 evaluation scope arrays nodes =
-    evaluation_in (worked 10 0 scope (record { arrays = arrays; given = []; strings = 0 }) nodes)
+    evaluation_in (worked 16 0 scope (record { arrays = arrays; given = []; strings = 0 }) nodes)

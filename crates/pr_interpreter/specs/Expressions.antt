@@ -1,8 +1,8 @@
 -- Trusted: how an expression is read from lexemes. Its nodes come in the order in which the machine works them out:
 -- operands before what takes them. As the machine does, the reader keeps what waits for its operands to end: operators,
 -- parentheses and calls, the last first.
-use Rattle.std.specs.Prelude.{ℕ, ◌+◌, ◌==◌, ◌&&◌, Bool, false, List, [], ◌∷◌, ◌++◌, nat_le, nat_lt, if◌then◌else◌}
-use Rattle.std.specs.Prelude.{Option, Some, None, Result, Ok, Err}
+use Rattle.std.specs.Prelude.{ℕ, ◌+◌, ◌*◌, ◌==◌, ◌&&◌, Bool, false, List, [], ◌∷◌, ◌++◌, min, nat_le, nat_lt}
+use Rattle.std.specs.Prelude.{if◌then◌else◌, Option, Some, None, Result, Ok, Err}
 use Rattle.pr_interpreter.specs.declared.expressions.Callee.{Callee}
 use Rattle.pr_interpreter.specs.declared.expressions.Callee.TheVariants.{Array, Function, Own}
 use Rattle.pr_interpreter.specs.declared.expressions.Node.{Node}
@@ -61,9 +61,30 @@ pub record Stacks : Type 0 where
   pub nodes : List Placed
   pub waiting : List Waiting
 
+-- how many bytes of the machine's stack something takes while it waits, at most; a call takes more for each argument
+-- that has begun
+abbrev pub call_bytes : Callee → ℕ → ℕ
+call_bytes (Function f) count = 4 + 4 * count
+call_bytes (Array name) count = 12 + 2 * count
+call_bytes (Own name) count = 9
+
+abbrev pub pending_bytes : Pending → ℕ
+pending_bytes (Applies op) = 13
+pending_bytes Group = 5
+pending_bytes (Calls callee count) = call_bytes callee count
+
+-- how many all take
+abbrev pub waiting_bytes : List Waiting → ℕ
+waiting_bytes [] = 0
+waiting_bytes (w ∷ ws) = pending_bytes w.pending + waiting_bytes ws
+
+-- a node, while other things wait: from 255 bytes on, which no stack has, they are not counted
+abbrev pub node_at : List Waiting → Node → ℕ → Placed
+node_at waiting node place = record { node = node; place = place; stacked = min (waiting_bytes waiting) 255 }
+
 -- one more node
 abbrev pub with_node : Stacks → Node → ℕ → Stacks
-with_node s node place = record s { nodes = s.nodes ++ record { node = node; place = place } ∷ [] }
+with_node s node place = record s { nodes = s.nodes ++ node_at s.waiting node place ∷ [] }
 
 -- one more that waits
 abbrev pub with_waiting : Stacks → Pending → ℕ → Stacks
@@ -84,7 +105,7 @@ abbrev pub settled : ℕ → List Placed → List Waiting → Stacks
 settled least nodes [] = record { nodes = nodes; waiting = [] }
 settled least nodes (w ∷ ws) =
     or_stay (bound least w.pending) (record { nodes = nodes; waiting = w ∷ ws })
-    (λ op. settled least (nodes ++ record { node = Apply op; place = w.place } ∷ []) ws)
+    (λ op. settled least (nodes ++ node_at ws (Apply op) w.place ∷ []) ws)
 
 unfoldable pub settle : ℕ → Stacks → Stacks
 settle least s = settled least s.nodes s.waiting

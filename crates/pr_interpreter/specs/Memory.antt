@@ -1,5 +1,5 @@
 -- Trusted: variables, arrays and functions, by their names.
-use Rattle.std.specs.Prelude.{ℕ, ◌+◌, ◌*◌, ◌==◌, ◌&&◌, Bool, true, false, not, List, [], ◌∷◌, ◌++◌, replicate}
+use Rattle.std.specs.Prelude.{ℕ, ◌+◌, ◌*◌, ◌^◌, ◌==◌, ◌&&◌, Bool, true, false, not, List, [], ◌∷◌, ◌++◌, replicate}
 use Rattle.std.specs.Prelude.{slice_index_or, nat_le, nat_lt, if◌then◌else◌, Option, Some, None}
 use Rattle.pr_interpreter.specs.declared.memory.Array.{Array}
 use Rattle.pr_interpreter.specs.declared.memory.Arrays.{Arrays}
@@ -82,9 +82,16 @@ element_bytes Numeric = 5
 element_bytes Whole = 2
 element_bytes Letters = 3
 
+-- how many bytes an array takes with so many dimensions and elements
+abbrev pub array_bytes : Kind → ℕ → ℕ → ℕ
+array_bytes kind dimensions elements = 5 + 2 * dimensions + element_bytes kind * elements
+
 -- an array that is used before DIM: in each dimension it has elements 0 to 10
 abbrev pub undimensioned : Name → ℕ → Array
 undimensioned name count = record { name = name; bounds = replicate count 10; elements = [] }
+
+abbrev pub undimensioned_bytes : Kind → ℕ → ℕ
+undimensioned_bytes kind count = array_bytes kind count (11 ^ count)
 
 abbrev pub no_arrays : Arrays
 no_arrays = record { list = []; bytes = 0 }
@@ -92,10 +99,10 @@ no_arrays = record { list = []; bytes = 0 }
 abbrev pub added : Array → ℕ → Arrays → Arrays
 added a bytes arrays = record { list = arrays.list ++ a ∷ []; bytes = bytes }
 
--- one more array, if the machine surely has room: 30000 bytes for the elements of all
-abbrev pub with_array : Array → ℕ → Arrays → Option Arrays
-with_array a bytes arrays =
-    if nat_le (arrays.bytes + bytes) 30000 then Some (added a (arrays.bytes + bytes) arrays) else None
+-- one more array, if the bytes of all are not more than there are for arrays
+abbrev pub with_array : ℕ → Array → ℕ → Arrays → Option Arrays
+with_array room a bytes arrays =
+    if nat_le (arrays.bytes + bytes) room then Some (added a (arrays.bytes + bytes) arrays) else None
 
 -- The place of an element among those of its array, after a place for the dimensions before: the last index runs
 -- fastest. None if an index is too great, or there are more or fewer than dimensions. No array has more than 65536.

@@ -1,5 +1,5 @@
 -- Linking words: what an expression is worked out with, for the code's types. No reader needs to believe them.
-use Rattle.std.specs.Prelude.{ℕ, List, Option, Some, None, Ok}
+use Rattle.std.specs.Prelude.{ℕ, ◌-◌, List, Option, Some, None, Ok}
 use Rattle.pr_interpreter.specs.declared.given.Given.{Given}
 use Rattle.pr_interpreter.specs.declared.evaluation.Work.{Work}
 use Rattle.pr_interpreter.specs.declared.memory.Array.{Array}
@@ -18,7 +18,13 @@ scope_of parameters s = record {
   functions = s.functions.now;
   column = s.column;
   has_sent = s.has_sent;
+  memory = s.memory;
+  stack = s.stack;
 }
+
+-- the same scope with so many bytes less of the stack
+abbrev pub with_less : ℕ → Scope → Scope
+with_less taken s = record s { stack = s.stack - taken }
 
 -- an expression has a value, and leaves arrays
 abbrev pub ends_as : Value → Arrays → Evaluation

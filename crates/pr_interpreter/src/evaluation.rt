@@ -1,13 +1,15 @@
 //! The value of an expression.
 
-ghost use Rattle.std.specs.Prelude.{◌≡◌, ◌⊎◌, ◌∷◌, [], Err, None, IfErr, IfOk, OnOk, length};
-ghost use Rattle.pr_interpreter.specs.Evaluation.{after, applied, arguments, called, ended, evaluation, give, in_array, indexed, indices, last_given, literal, number_in, own, put, returned, variable, with_parameter, without, worked};
+ghost use Rattle.std.specs.Prelude.{◌≡◌, ◌⊎◌, ◌+◌, ◌≤◌, ◌∷◌, [], Err, None, IfErr, IfOk, OnOk, length};
+ghost use Rattle.pr_interpreter.specs.Evaluation.{after, applied, arguments, called, ended, entered, evaluation, function_bytes, give, in_array, indexed, indices, last_given, literal, number_in, number_or, operand, own, put, variable, without, worked};
+ghost use Rattle.pr_interpreter.specs.Constants.{value_of};
+ghost use Rattle.pr_interpreter.specs.Values.{calculated};
 ghost use Rattle.pr_interpreter.specs.ExpressionLaws.{operands};
 ghost use Rattle.pr_interpreter.specs.Memory.{array_of, parameter};
-ghost use Rattle.pr_interpreter.specs.Working.{ends_as, scope_of, seen};
+ghost use Rattle.pr_interpreter.specs.Working.{ends_as, scope_of, seen, with_less};
 
 use crate::calls::{applied, called};
-use crate::constants::value_of;
+use crate::constants::{Constant, value_of};
 use crate::expressions::{Callee, Node, Operator, Placed};
 use crate::given::{
     Given, NOTHING, element, element_of, indices, is_made, last_of, literal, made_count,
@@ -105,19 +107,40 @@ impl Work {
         self.put(given)
     }
 
+    /// Works out a constant.
+    fn give_constant(
+        &mut self,
+        scope: &Scope<'_>,
+        parameters: &[Parameter],
+        place: usize,
+        stacked: u8,
+        constant: Constant,
+    ) -> Result<(), AllocError>
+        ensures { OnOk result (seen self.new
+            ≡ give (operand (scope_of parameters.now scope.now) place stacked
+            (number_or place (calculated (value_of constant)))) (seen self.old)) }
+    {
+        let given = number_or(place, calculated(value_of(constant)));
+        self.give(operand(scope, parameters, place, stacked, given))
+    }
+
     /// Works out a string of the program.
     fn give_literal(
         &mut self,
         alloc: Global,
+        scope: &Scope<'_>,
+        parameters: &[Parameter],
         place: usize,
-        text: &[u8],
+        stacked: u8,
         start: usize,
         end: usize,
     ) -> Result<(), AllocError>
-        ensures { OnOk result (seen self.new ≡ give (literal place text.now start end) (seen self.old)) }
+        ensures { OnOk result (seen self.new
+            ≡ give (operand (scope_of parameters.now scope.now) place stacked
+            (literal place scope.now.text.now start end)) (seen self.old)) }
     {
-        let given = literal(alloc, place, text, start, end)?;
-        self.give(given)
+        let given = literal(alloc, place, scope.text, start, end)?;
+        self.give(operand(scope, parameters, place, stacked, given))
     }
 
     /// Works out a variable.
@@ -127,13 +150,15 @@ impl Work {
         scope: &Scope<'_>,
         parameters: &[Parameter],
         place: usize,
+        stacked: u8,
         name: Name,
     ) -> Result<(), AllocError>
         ensures { OnOk result (seen self.new
-            ≡ give (variable (scope_of parameters.now scope.now) place name) (seen self.old)) }
+            ≡ give (operand (scope_of parameters.now scope.now) place stacked
+            (variable (scope_of parameters.now scope.now) place name)) (seen self.old)) }
     {
         let given = variable(alloc, scope, parameters, place, name)?;
-        self.give(given)
+        self.give(operand(scope, parameters, place, stacked, given))
     }
 
     /// Works out an operator.
@@ -165,28 +190,29 @@ impl Work {
         self.give(given)
     }
 
-    /// Makes an array that is used before DIM, if there is room, and gives an element.
+    /// Makes an array that is used before DIM, if there is memory for it, and gives an element.
     fn in_new(
         &mut self,
         alloc: Global,
+        room: u16,
         place: usize,
         name: Name,
         indices: &[u16],
     ) -> Result<(), AllocError>
-        ensures { OnOk result (seen self.new ≡ in_array place name indices.now (seen self.old) None) }
+        ensures { OnOk result (seen self.new ≡ in_array room place name indices.now (seen self.old) None) }
     {
         let array = undimensioned(alloc, name, indices.len())?;
         let given = element(alloc, &array, indices)?;
         let Some(bytes) = undimensioned_bytes(name.kind, indices.len()) else {
-            self.give(Given::Stopped(Halt::NotTaken(place)))?;
+            self.give(Given::Stopped(Halt::FullMemory(place)))?;
             return Ok(());
         };
-        let is_added = self.arrays.add(alloc, array, bytes)?;
+        let is_added = self.arrays.add(alloc, room, array, bytes)?;
         if is_added {
             self.give(given)?;
             return Ok(());
         }
-        self.give(Given::Stopped(Halt::NotTaken(place)))?;
+        self.give(Given::Stopped(Halt::FullMemory(place)))?;
         Ok(())
     }
 
@@ -195,12 +221,13 @@ impl Work {
     fn in_array(
         &mut self,
         alloc: Global,
+        room: u16,
         place: usize,
         name: Name,
         indices: &[u16],
     ) -> Result<(), AllocError>
         ensures { OnOk result (seen self.new
-            ≡ in_array place name indices.now (seen self.old) (array_of name (seen self.old).arrays.list)) }
+            ≡ in_array room place name indices.now (seen self.old) (array_of name (seen self.old).arrays.list)) }
     {
         let found = element_of(alloc, name, self.arrays.list.as_slice(), indices)?;
         match found {
@@ -209,7 +236,7 @@ impl Work {
                 Ok(())
             }
             None => {
-                self.in_new(alloc, place, name, indices)?;
+                self.in_new(alloc, room, place, name, indices)?;
                 Ok(())
             }
         }
@@ -219,22 +246,24 @@ impl Work {
     fn take_element(
         &mut self,
         alloc: Global,
+        room: u16,
         place: usize,
         name: Name,
         count: usize,
     ) -> Result<(), AllocError>
-        ensures { OnOk result (seen self.new ≡ indexed place name (without count (seen self.old))
+        ensures { OnOk result (seen self.new ≡ indexed room place name (without count (seen self.old))
             (indices place [] (arguments count (seen self.old)))) }
     {
         let found = indices(alloc, place, self.arguments(count))?;
         self.take(count);
         match found {
-            Ok(indices) => self.in_array(alloc, place, name, indices.as_slice()),
+            Ok(indices) => self.in_array(alloc, room, place, name, indices.as_slice()),
             Err(halt) => self.give(Given::Stopped(halt)),
         }
     }
 
-    /// Works out the nodes of a function of the program, with the value of its variable.
+    /// Works out the nodes of a function of the program, with the value of its variable, where so many bytes of the
+    /// machine's stack are taken.
     #[cycle(work)]
     fn enter(
         &mut self,
@@ -243,20 +272,26 @@ impl Work {
         scope: &Scope<'_>,
         parameters: &[Parameter],
         place: usize,
+        stacked: u8,
         function: &Function,
         number: Number,
     ) -> Result<(), AllocError>
-        ensures { OnOk result (seen self.new ≡ returned (seen self.old)
-            (worked depth place (with_parameter function.now.variable number (scope_of parameters.now scope.now))
-            (seen self.old) function.now.value)) }
+        ensures { OnOk result (seen self.new
+            ≡ entered (worked depth) place (stacked + function_bytes) (scope_of parameters.now scope.now)
+            (seen self.old) number function.now) }
     {
+        let taken = usize::from(stacked) + FUNCTION;
+        if usize::from(scope.stack) < taken {
+            return self.give(Given::Stopped(Halt::FullStack(place)));
+        }
         let inner = with_parameter(alloc, function.variable, number, parameters)?;
+        let scope = deeper(scope, inner.as_slice(), taken);
         let count = self.count();
         let strings = self.strings;
         self.work(
             alloc,
             depth,
-            scope,
+            &scope,
             inner.as_slice(),
             place,
             function.value.as_slice(),
@@ -273,10 +308,11 @@ impl Work {
         scope: &Scope<'_>,
         parameters: &[Parameter],
         place: usize,
+        stacked: u8,
         name: Name,
     ) -> Result<(), AllocError>
         ensures { OnOk result (seen self.new
-            ≡ own (worked depth) place (scope_of parameters.now scope.now) (without 1 (seen self.old)) name
+            ≡ own (worked depth) place stacked (scope_of parameters.now scope.now) (without 1 (seen self.old)) name
             (number_in (last_given (seen self.old).given))) }
     {
         let number = self.last_number();
@@ -284,7 +320,7 @@ impl Work {
         match number {
             Ok(number) => match function_of(name, scope.functions) {
                 Some(function) => self.enter(
-                    alloc, depth, scope, parameters, place, function, number,
+                    alloc, depth, scope, parameters, place, stacked, function, number,
                 ),
                 None => self.give(Given::Stopped(Halt::Error(BasicError::UndefinedFunction))),
             },
@@ -301,20 +337,34 @@ impl Work {
         depth: usize,
         scope: &Scope<'_>,
         parameters: &[Parameter],
-        place: usize,
-        node: Node,
+        it: Placed,
     ) -> Result<(), AllocError>
         ensures { OnOk result (seen self.new
-            ≡ after (worked depth) (scope_of parameters.now scope.now) (seen self.old) place node) }
+            ≡ after (worked depth) (scope_of parameters.now scope.now) (seen self.old) it.place it.stacked it.node) }
     {
+        let Placed {
+            node,
+            place,
+            stacked,
+        } = it;
         match node {
-            Node::Number(constant) => self.give(number_or(place, calculated(value_of(constant)))),
-            Node::Text { start, end } => self.give_literal(alloc, place, scope.text, start, end),
-            Node::Variable(name) => self.give_variable(alloc, scope, parameters, place, name),
+            Node::Number(constant) => {
+                self.give_constant(scope, parameters, place, stacked, constant)
+            }
+            Node::Text { start, end } => {
+                self.give_literal(alloc, scope, parameters, place, stacked, start, end)
+            }
+            Node::Variable(name) => {
+                self.give_variable(alloc, scope, parameters, place, stacked, name)
+            }
             Node::Apply(operator) => self.apply(alloc, place, operator),
             Node::Call { callee, count } => match callee {
-                Callee::Array(name) => self.take_element(alloc, place, name, usize::from(count)),
-                Callee::Own(name) => self.call_own(alloc, depth, scope, parameters, place, name),
+                Callee::Array(name) => {
+                    self.take_element(alloc, scope.memory, place, name, usize::from(count))
+                }
+                Callee::Own(name) => {
+                    self.call_own(alloc, depth, scope, parameters, place, stacked, name)
+                }
                 Callee::Function(token) => {
                     self.call(alloc, place, scope.column, token, usize::from(count))
                 }
@@ -322,7 +372,7 @@ impl Work {
         }
     }
 
-    /// Works out nodes from left to right, where functions may call others so many deep.
+    /// Works out nodes from left to right, where functions call others at most so many deep.
     #[cycle(work)]
     #[tactic(auto, using(crate::proofs::EvaluationLemmas::worked_more, crate::proofs::EvaluationLemmas::worked_none))]
     fn work(
@@ -338,12 +388,49 @@ impl Work {
             ≡ worked depth place (scope_of parameters.now scope.now) (seen self.old) nodes.now) }
     {
         if depth == 0 {
-            return self.give(Given::Stopped(Halt::NotTaken(place)));
+            return self.give(Given::Stopped(Halt::FullStack(place)));
         }
         'nodes: for it in nodes {
-            self.node(alloc, depth - 1, scope, parameters, it.place, it.node)?;
+            self.node(alloc, depth - 1, scope, parameters, *it)?;
         }
         Ok(())
+    }
+}
+
+/// How many bytes of the machine's stack a function of the program takes while it is worked out.
+const FUNCTION: usize = 16;
+
+/// Returns the same scope where so many bytes more of the machine's stack are taken.
+fn deeper<'a>(scope: &Scope<'a>, parameters: &[Parameter], taken: usize) -> Scope<'a>
+    requires { taken ≤ scope.now.stack }
+    ensures { scope_of parameters.now result ≡ with_less taken (scope_of parameters.now scope.now) }
+{
+    Scope {
+        text: scope.text,
+        variables: scope.variables,
+        functions: scope.functions,
+        column: scope.column,
+        has_sent: scope.has_sent,
+        memory: scope.memory,
+        stack: scope.stack - taken as u8,
+    }
+}
+
+/// Returns what a number, a string or a variable gives, if the machine's stack surely has the bytes that what waits for
+/// it takes.
+fn operand(
+    scope: &Scope<'_>,
+    parameters: &[Parameter],
+    place: usize,
+    stacked: u8,
+    given: Given,
+) -> Given
+    ensures { result ≡ operand (scope_of parameters.now scope.now) place stacked given }
+{
+    if stacked <= scope.stack {
+        given
+    } else {
+        Given::Stopped(Halt::FullStack(place))
     }
 }
 
@@ -362,8 +449,8 @@ fn with_parameter(
     Ok(found)
 }
 
-/// How many functions of the program may call one another, and the expression.
-const DEPTH: usize = 10;
+/// How many functions of the program call one another at most, and the expression: no stack has room for more.
+const DEPTH: usize = 16;
 
 /// Returns the value of an expression by its nodes. An array that is used before DIM comes to the arrays.
 ///

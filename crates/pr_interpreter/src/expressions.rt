@@ -1,8 +1,8 @@
 //! The nodes of expressions.
 
-ghost use Rattle.std.specs.Prelude.{◌≡◌};
+ghost use Rattle.std.specs.Prelude.{◌≡◌, ◌≤◌};
 ghost use Rattle.pr_interpreter.specs.ExpressionLaws.{operands};
-ghost use Rattle.pr_interpreter.specs.Expressions.{greatest_count, least_count, operator_of, precedence};
+ghost use Rattle.pr_interpreter.specs.Expressions.{call_bytes, greatest_count, least_count, operator_of, precedence};
 
 use crate::constants::Constant;
 use crate::names::Name;
@@ -54,6 +54,9 @@ pub enum Node {
 pub struct Placed {
     pub node: Node,
     pub place: usize,
+    /// How many bytes of the machine's stack are taken by what waits for it: operators, parentheses and calls; at most
+    /// 255.
+    pub stacked: u8,
 }
 
 impl Operator {
@@ -115,6 +118,19 @@ impl Callee {
         match self {
             Callee::Function(token) if token >= 200 => 2,
             Callee::Function(_) | Callee::Array(_) | Callee::Own(_) => 1,
+        }
+    }
+
+    /// Returns how many bytes of the machine's stack a call takes of which so many arguments have begun.
+    pub(crate) fn bytes(self, count: u8) -> usize
+        ensures value { result ≡ call_bytes self count }
+        ensures within { result ≤ 1024 }
+    {
+        let count = usize::from(count);
+        match self {
+            Callee::Function(_) => 4 + 4 * count,
+            Callee::Array(_) => 12 + 2 * count,
+            Callee::Own(_) => 9,
         }
     }
 

@@ -90,8 +90,8 @@ pub use functions::{
 pub use lexemes::{Lexeme, Word, lexemes_of};
 pub use lines::{Line, column_of, lines_of};
 pub use memory::{
-    Array, Arrays, Function, Scope, Variable, array_of, element_bytes, is_clock, is_status,
-    place_of, same_name, undimensioned, undimensioned_bytes,
+    Array, Arrays, Function, Scope, Variable, array_bytes, array_of, is_clock, is_status, place_of,
+    same_name, undimensioned, undimensioned_bytes,
 };
 pub use names::{Kind, Name};
 pub use number::{Number, Sign, product, quotient};

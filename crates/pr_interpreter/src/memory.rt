@@ -1,7 +1,7 @@
 //! What the machine keeps while a program runs: variables, arrays and functions.
 
 ghost use Rattle.std.specs.Prelude.{◌≡◌, ◌+◌, ◌*◌, ◌^◌, ◌<◌, ◌≤◌, None, Some, if◌then◌else◌, nat_le, replicate, MatchOption, IfOk};
-ghost use Rattle.pr_interpreter.specs.Memory.{added, array_of, element_bytes, function_of, is_clock, is_status, no_arrays, parameter_of, place_of, same_kind, same_name, same_second, undimensioned};
+ghost use Rattle.pr_interpreter.specs.Memory.{added, array_bytes, array_of, element_bytes, function_of, is_clock, is_status, no_arrays, parameter_of, place_of, same_kind, same_name, same_second, undimensioned, undimensioned_bytes};
 
 use crate::names::{Kind, Name};
 use crate::number::Number;
@@ -32,7 +32,7 @@ pub struct Array {
 #[derive(Debug, Drop)]
 pub struct Arrays {
     pub list: Sequence<Array>,
-    /// How many bytes the machine keeps for their elements: at most 30000.
+    /// How many bytes of the machine's memory they take.
     pub bytes: usize,
 }
 
@@ -62,10 +62,11 @@ pub struct Scope<'a> {
     pub column: Option<u8>,
     /// Whether something was sent to a device: ST is 0 before.
     pub has_sent: bool,
+    /// How many bytes of the machine's memory there surely are for arrays.
+    pub memory: u16,
+    /// How many bytes of the machine's stack there surely are for what waits in an expression.
+    pub stack: u8,
 }
-
-/// How many bytes the elements of all arrays surely have room for.
-const ROOM: usize = 30_000;
 
 /// From so many elements on, there is no array.
 const ELEMENTS: u32 = 65_536;
@@ -178,6 +179,16 @@ pub fn element_bytes(kind: Kind) -> usize
     }
 }
 
+/// Returns how many bytes of the machine's memory an array takes with so many dimensions and elements.
+#[tactic(auto, using(crate::proofs::MemoryLemmas::bytes_fit))]
+pub fn array_bytes(kind: Kind, dimensions: usize, elements: usize) -> usize
+    requires few_dimensions { dimensions ≤ 65535 }
+    requires few_elements { elements ≤ 65535 }
+    ensures { result ≡ array_bytes kind dimensions elements }
+{
+    5 + 2 * dimensions + element_bytes(kind) * elements
+}
+
 /// Returns how many elements an array with so many dimensions has that is used before DIM.
 #[tactic(auto, using(crate::proofs::MemoryLemmas::few_elements))]
 fn elevens(count: usize) -> usize
@@ -188,15 +199,14 @@ fn elevens(count: usize) -> usize
     11usize.pow(count as u32)
 }
 
-/// Returns how many bytes the elements of an array with so many dimensions have that is used before DIM; None of five
-/// and more, for which there is no room.
-#[tactic(auto, using(crate::proofs::MemoryLemmas::too_many, crate::proofs::MemoryLemmas::bytes_fit))]
+/// Returns how many bytes an array with so many dimensions takes that is used before DIM; None of five and more, for
+/// which no machine has the memory.
+#[tactic(auto, using(crate::proofs::MemoryLemmas::too_many))]
 pub fn undimensioned_bytes(kind: Kind, count: usize) -> Option<usize>
-    ensures value { MatchOption result (30000 < element_bytes kind * 11 ^ count)
-        (λ n. n ≡ element_bytes kind * 11 ^ count) }
+    ensures value { MatchOption result (65535 < undimensioned_bytes kind count) (λ n. n ≡ undimensioned_bytes kind count) }
 {
     if count <= 4 {
-        Some(element_bytes(kind) * elevens(count))
+        Some(array_bytes(kind, count, elevens(count)))
     } else {
         None
     }
@@ -232,13 +242,20 @@ impl Arrays {
         }
     }
 
-    /// Adds an array with so many bytes for its elements, if there surely is room. Returns whether there is.
-    pub fn add(&mut self, alloc: Global, array: Array, bytes: usize) -> Result<bool, AllocError>
-        ensures room { IfOk result (λ b. b ≡ nat_le (self.old.bytes + bytes) 30000) }
+    /// Adds an array that takes so many bytes, if all then take no more than there are. Returns whether they do.
+    pub fn add(
+        &mut self,
+        alloc: Global,
+        room: u16,
+        array: Array,
+        bytes: usize,
+    ) -> Result<bool, AllocError>
+        ensures room { IfOk result (λ b. b ≡ nat_le (self.old.bytes + bytes) room) }
         ensures added { IfOk result (λ b. self.new
             ≡ (if b then added array (self.old.bytes + bytes) self.old else self.old)) }
     {
-        if ROOM < self.bytes || ROOM - self.bytes < bytes {
+        let room = usize::from(room);
+        if room < self.bytes || room - self.bytes < bytes {
             return Ok(false);
         }
         let mut list = mem::replace(&mut self.list, Sequence::new(alloc)).into_vec();

@@ -1,8 +1,8 @@
 //! Reads an expression from lexemes, as the machine does: operators, parentheses and calls wait on a stack until their
 //! operands end.
 
-ghost use Rattle.std.specs.Prelude.{◌≡◌, ◌≤◌, ◌∷◌, length, IfErr, IfOk, MatchOption, Ok, OnOk};
-ghost use Rattle.pr_interpreter.specs.Expressions.{Stacks, bound, close_pending, close_turn, closing_code, comma_pending, comma_turn, end_of_operand, end_turn, expression, function_turn, name_end, opening_turn, opens, operand_code, operand_turn, operator_of, operator_or, operator_turn, own_turn, reading, settle, turn, with_node, with_waiting};
+ghost use Rattle.std.specs.Prelude.{◌≡◌, ◌≤◌, ◌∷◌, length, min, reverse, IfErr, IfOk, MatchOption, Ok, OnOk};
+ghost use Rattle.pr_interpreter.specs.Expressions.{Stacks, bound, close_pending, close_turn, closing_code, comma_pending, comma_turn, end_of_operand, end_turn, expression, function_turn, name_end, opening_turn, opens, operand_code, operand_turn, operator_of, operator_or, operator_turn, own_turn, pending_bytes, reading, settle, turn, waiting_bytes, with_node, with_waiting};
 ghost use Rattle.pr_interpreter.specs.declared.reader.Expected.TheVariants.{Operand};
 ghost use Rattle.pr_interpreter.specs.Reader.{FaultsAs, NothingWaits, seen, turned};
 
@@ -61,12 +61,43 @@ pub struct Reader {
     pub waiting: Vec<Waiting>,
 }
 
+/// Returns how many bytes of the machine's stack something takes while it waits.
+fn pending_bytes(pending: Pending) -> usize
+    ensures value { result ≡ pending_bytes pending }
+    ensures within { result ≤ 1024 }
+{
+    match pending {
+        Pending::Applies(_) => 13,
+        Pending::Group => 5,
+        Pending::Calls { callee, count } => callee.bytes(count),
+    }
+}
+
+/// Returns how many bytes of the machine's stack all take that wait, at most 255.
+fn waiting_bytes(waiting: &[Waiting]) -> u8
+    ensures { result ≡ min (waiting_bytes (reverse waiting.now)) 255 }
+{
+    let mut size: usize = 0;
+    for it in waiting {
+        size += pending_bytes(it.pending);
+        if 255 <= size {
+            return 255;
+        }
+    }
+    size as u8
+}
+
 impl Reader {
     /// Adds a node.
     fn put(&mut self, node: Node, place: usize) -> Result<(), AllocError>
         ensures { OnOk result (seen self.new ≡ with_node (seen self.old) node place) }
     {
-        self.nodes.push(Placed { node, place })?;
+        let stacked = waiting_bytes(self.waiting.as_slice());
+        self.nodes.push(Placed {
+            node,
+            place,
+            stacked,
+        })?;
         Ok(())
     }
 

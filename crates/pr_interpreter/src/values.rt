@@ -65,6 +65,10 @@ pub enum Halt {
     NotCertain(usize),
     /// At this place is what a run does not take, as RND or TI.
     NotTaken(usize),
+    /// At this place is an array for which the machine may have no memory.
+    FullMemory(usize),
+    /// At this place is an operand or a call for which the machine's stack may have no room.
+    FullStack(usize),
 }
 
 /// Returns why there is no value where a calculation has no result.

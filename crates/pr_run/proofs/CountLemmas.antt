@@ -3,7 +3,7 @@ use Rattle.std.proofs.Common.{add-one}
 use Rattle.std.proofs.Math.Nat.{mul-le-mul}
 use Rattle.pr_interpreter.specs.declared.names.Kind.{Kind}
 use Rattle.pr_interpreter.specs.declared.names.Kind.TheVariants.{Number as Numeric, Text as Letters, Whole as Short}
-use Rattle.pr_interpreter.specs.Memory.{element_bytes}
+use Rattle.pr_interpreter.specs.Memory.{array_bytes, element_bytes}
 use Rattle.pr_run.specs.Assignments.{element_count}
 
 -- each array has an element
@@ -31,13 +31,21 @@ count_over bs i n count whole h same all more =
     let enough : 30001 ≤ count * (n + 1) = omega arith in
     let product = mul-le-mul enough some in omega arith
 
--- ---- bytes of elements
+-- ---- bytes of arrays
 
-bytes_few : (kind : Kind) → element_bytes kind ≤ 5
-bytes_few Numeric = omega arith
-bytes_few Short = omega arith
-bytes_few Letters = omega arith
+bytes_some : (kind : Kind) → 2 ≤ element_bytes kind
+bytes_some Numeric = omega arith
+bytes_some Short = omega arith
+bytes_some Letters = omega arith
 
--- the bytes of elements that are not too many fit
-pub bytes_fit : (kind : Kind) (n : ℕ) → n ≤ 30000 → element_bytes kind * n ≤ 5 * 30000
-bytes_fit kind n few = mul-le-mul (bytes_few kind) few
+-- no machine has the memory for so many elements
+pub many_elements : (kind : Kind) (dimensions elements : ℕ) → 30000 < elements
+    → 38911 < array_bytes kind dimensions elements
+many_elements kind dimensions elements many =
+    let enough : 30001 ≤ elements = omega arith in
+    let product = mul-le-mul (bytes_some kind) enough in omega arith
+
+-- nor for so many dimensions
+pub many_dimensions : (kind : Kind) (dimensions elements : ℕ) → 30000 < dimensions
+    → 38911 < array_bytes kind dimensions elements
+many_dimensions kind dimensions elements many = omega arith

@@ -56,19 +56,19 @@ pub digits_number : DigitsAreNumbers
 unfolding evaluation after give
 digits_number text place n h =
     let r = read_at n h in
-    (Number r.0, (λ s arrays e. rw r.1 refl), r.2)
+    (Number r.0, (λ s arrays e room. rw (room, r.1) refl), r.2)
 
 -- ---- CHR$
 
 pub character_constant : CharactersAreConstant
 unfolding evaluation after give without called of_one_argument string_of_number character
-character_constant text place at n h s arrays e =
+character_constant text place at n h s arrays e room =
     let r = read_at n h in
-    rw (r.1, r.2) refl
+    rw (room, r.1, r.2) refl
 
 -- ---- strings
 
 pub string_constant : StringsAreConstant
 unfolding evaluation after give literal
-string_constant text place start end ordered within short s arrays e =
-    rw (e, le-leb start end ordered, le-leb end (length text) within, le-leb (end - start) 255 short) refl
+string_constant text place start end ordered within short s arrays e room =
+    rw (e, room, le-leb start end ordered, le-leb end (length text) within, le-leb (end - start) 255 short) refl

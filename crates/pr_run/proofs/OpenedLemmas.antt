@@ -1,4 +1,4 @@
-use Rattle.std.proofs.Common.{◌≡◌, ℕ, ◌+◌, ◌<◌, ◌≤◌, true, false, nat_le, List, [], ◌∷◌, ◌++◌, length, take, drop}
+use Rattle.std.proofs.Common.{◌≡◌, ℕ, ◌+◌, ◌-◌, ◌<◌, ◌≤◌, true, false, nat_le, List, [], ◌∷◌, ◌++◌, length, take, drop}
 use Rattle.std.proofs.Common.{reverse, get_or, Option, Some, None, arith, refl, sym, ap, add-one, drop-cons}
 use Rattle.std.proofs.Math.Seq.{take-suc}
 use Rattle.std.proofs.lemmas.List.{drop_all, reverse-append}
@@ -8,7 +8,8 @@ use Rattle.pr_run.specs.declared.opened.Loop.{Loop}
 use Rattle.pr_run.specs.declared.opened.Open.{Open}
 use Rattle.pr_run.specs.declared.opened.Open.TheVariants.{Calling, Looping}
 use Rattle.pr_run.specs.declared.place.Place.{Place}
-use Rattle.pr_run.specs.Opened.{Caller, Inner, caller_of, is_wanted, loop_of, open_size, stack_size}
+use Rattle.pr_run.specs.Opened.{Caller, Inner, caller_of, is_wanted, loop_of, open_size, stack_left}
+use Rattle.pr_run.specs.Opened.{stack_size}
 
 -- what was opened last is the first, seen from the end
 pub last_first : (xs : List Open) (k : ℕ) (d : Open) → k < length xs
@@ -92,3 +93,21 @@ room_left more xs i size h all =
     let back = size_reverse xs in
     let whole : size ≡ more + stack_size (reverse xs) = omega arith in
     ap (λ (n : ℕ). nat_le n 162) whole
+
+-- what something takes is not left
+pub left_taken : (o : Open) (xs : List Open) (i left n : ℕ) → i < length xs → o ≡ get_or xs i o → n ≡ open_size o
+    → left - stack_size (drop i xs) ≡ 162 - stack_size xs
+    → left - n - stack_size (drop (i + 1) xs) ≡ 162 - stack_size xs
+left_taken o xs i left n h item taken all =
+    let cut : drop i xs ≡ get_or xs i o ∷ drop (i + 1) xs = rw add-one (drop-cons xs i o h) in
+    let sizes : stack_size (drop i xs) ≡ open_size (get_or xs i o) + stack_size (drop (i + 1) xs) = rw cut refl in
+    let same : open_size (get_or xs i o) ≡ open_size o = ap (λ (p : Open). open_size p) (sym item) in
+    omega arith
+
+pub left_is : (xs : List Open) (i left : ℕ) → length xs ≤ i → left - stack_size (drop i xs) ≡ 162 - stack_size xs
+    → left ≡ stack_left (reverse xs)
+unfolding stack_left
+left_is xs i left h all =
+    let none : stack_size (drop i xs) ≡ 0 = rw (drop_all i xs h) refl in
+    let back = size_reverse xs in
+    omega arith

@@ -1,5 +1,7 @@
 use Rattle.std.proofs.Common.{◌≡◌, ℕ, zero, suc, Bool, true, false, IsTrue, List, [], ◌∷◌, All, refl}
 use Rattle.std.proofs.Common.{Option, Some, None, Ok, Err, if◌then◌else◌, drop, nat_lt, ◌||◌}
+use Rattle.std.proofs.Common.{inl, inr}
+use Rattle.std.proofs.lemmas.Bool.{cases_Bool}
 use Rattle.std.proofs.lemmas.List.Elements.{All-append, All-cons, All-nil, All-weaker}
 use Rattle.pr_basic.specs.declared.statement.Statement.{Statement as Output}
 use Rattle.pr_basic.specs.declared.statement.Statement.TheVariants.{Cmd, OpenFile, Print as Printed, PrintTo}
@@ -20,9 +22,10 @@ use Rattle.pr_run.specs.Outputs.{file_numbers, is_open, on_bus, open_error, open
 use Rattle.pr_run.specs.Outputs.{opened_or}
 use Rattle.pr_run.specs.Outputs.{print_file_statement, print_statement, print_to, value_place, with_second, undirected}
 use Rattle.pr_run.specs.Places.{Doing, Found, LineEnd, ProgramEnd, after_statement, found_at, number_at}
-use Rattle.pr_run.specs.RunLaws.{ComesFrom, is_kind}
-use Rattle.pr_run.specs.Runs.{after_turn, run_from}
-use Rattle.pr_run.specs.States.{State}
+use Rattle.pr_run.specs.Memory.{fits}
+use Rattle.pr_run.specs.RunLaws.{AllComeFrom, ComesFrom, is_kind}
+use Rattle.pr_run.specs.Runs.{after_turn, run, run_from}
+use Rattle.pr_run.specs.States.{State, first_state}
 use Rattle.pr_run.specs.Steps.{Ends, Goes, Turn, changed, output, output_turn, quiet, step, turn, turn_at}
 use Rattle.pr_run.specs.Uses.{Valued, Worked, line_at, statement_place}
 use Rattle.pr_run.specs.Worked.{then_on, whole}
@@ -179,7 +182,15 @@ turn_comes p n s (Goes u done) h more = All-append (ComesFrom p) done (run_from 
 turn_comes p n s (Ends done ending) h more = h
 
 -- what a run performs comes from its program
-pub run_comes : (p : Program) (limit : ℕ) (s : State) → All (ComesFrom p) (run_from p limit s).performed
+run_comes : (p : Program) (limit : ℕ) (s : State) → All (ComesFrom p) (run_from p limit s).performed
 unfolding run_from
 run_comes p zero s = All-nil (ComesFrom p)
 run_comes p (suc n) s = turn_comes p n s (step p s) (step_comes p s) (λ u. run_comes p n u)
+
+pub runs_come : AllComeFrom
+unfolding run
+runs_come p limit =
+    elim (cases_Bool (fits p first_state)) [
+      | inl hit ↦ rw hit (run_comes p limit first_state)
+      | inr miss ↦ rw miss (All-nil (ComesFrom p))
+    ]

@@ -1,13 +1,16 @@
 use Rattle.std.proofs.Common.{◌≡◌, ℕ, zero, suc, ◌+◌, false, List, [], ◌++◌, refl, sym, ap}
 use Rattle.std.proofs.Common.{◌∙◌, append_assoc, append-nil, suc-add, Option, Some, None, slice_get}
+use Rattle.std.proofs.Common.{inl, inr}
+use Rattle.std.proofs.lemmas.Bool.{cases_Bool}
 use Rattle.pr_interpreter.specs.declared.program.ProgramLine.{ProgramLine}
 use Rattle.pr_run.specs.declared.outcome.Outcome.{Outcome}
 use Rattle.pr_run.specs.declared.performed.Performed.{Performed}
 use Rattle.pr_run.specs.declared.programs.Program.{Program}
 use Rattle.pr_run.specs.Places.{found_at}
-use Rattle.pr_run.specs.RunLaws.{is_limit}
-use Rattle.pr_run.specs.Runs.{after_turn, ending_in, outcome, run_from}
-use Rattle.pr_run.specs.States.{State}
+use Rattle.pr_run.specs.Memory.{fits}
+use Rattle.pr_run.specs.RunLaws.{LimitsAgree, LimitsGoOn, is_limit}
+use Rattle.pr_run.specs.Runs.{after_turn, ending_in, outcome, run, run_from}
+use Rattle.pr_run.specs.States.{State, first_state}
 use Rattle.pr_run.specs.Steps.{Ends, Goes, Turn, step}
 
 -- ---- greater limits
@@ -31,7 +34,7 @@ turn_agrees p n more s (Goes u done) same h =
 turn_agrees p n more s (Ends done ending) same h = refl
 
 -- a run that does not use up its limit is the same within a greater one
-pub limits_agree : (p : Program) (limit more : ℕ) (s : State) → is_limit (run_from p limit s).ending ≡ false
+limits_agree : (p : Program) (limit more : ℕ) (s : State) → is_limit (run_from p limit s).ending ≡ false
     → run_from p (limit + more) s ≡ run_from p limit s
 unfolding run_from
 limits_agree p zero more s h = ended_stays p (zero + more) s (slice_get p.lines s.place.line) refl h
@@ -51,9 +54,27 @@ turn_goes_on p n more s (Goes u done) same =
 turn_goes_on p n more s (Ends done ending) same = ([], sym (append-nil done))
 
 -- within a greater limit a run performs the same, and then perhaps more
-pub limits_go_on : (p : Program) (limit more : ℕ) (s : State)
+limits_go_on : (p : Program) (limit more : ℕ) (s : State)
     → Begins (run_from p limit s).performed (run_from p (limit + more) s).performed
 unfolding run_from
 limits_go_on p zero more s = ((run_from p (zero + more) s).performed, refl)
 limits_go_on p (suc n) more s =
     rw (suc-add n more) (turn_goes_on p n more s (step p s) (λ u. limits_go_on p n more u))
+
+-- ---- runs of programs
+
+pub runs_agree : LimitsAgree
+unfolding run
+runs_agree p limit more h =
+    elim (cases_Bool (fits p first_state)) [
+      | inl hit ↦ let g = rw hit at h in rw hit (limits_agree p limit more first_state g)
+      | inr miss ↦ rw miss refl
+    ]
+
+pub runs_go_on : LimitsGoOn
+unfolding run
+runs_go_on p limit more =
+    elim (cases_Bool (fits p first_state)) [
+      | inl hit ↦ rw hit (limits_go_on p limit more first_state)
+      | inr miss ↦ rw miss ([], refl)
+    ]

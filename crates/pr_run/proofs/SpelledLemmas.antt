@@ -1,7 +1,6 @@
-use Rattle.std.proofs.Common.{◌≡◌, ◌⊎◌, inl, inr, ℕ, ◌+◌, ◌≤◌, ◌==◌, Bool, true, false, List, [], ◌∷◌, ◌++◌, length}
+use Rattle.std.proofs.Common.{◌≡◌, inl, inr, ℕ, ◌+◌, ◌≤◌, ◌==◌, Bool, true, false, List, [], ◌∷◌, ◌++◌, length}
 use Rattle.std.proofs.Common.{refl, sym}
-use Rattle.std.proofs.Common.{ap, ◌∙◌, arith, append_assoc, append-nil, length-append, Option, Some, None, Result, Ok}
-use Rattle.std.proofs.Common.{Err}
+use Rattle.std.proofs.Common.{ap, ◌∙◌, arith, append_assoc, append-nil, Some, None, Result, Ok}
 use Rattle.std.proofs.Common.{if◌then◌else◌, drop, suc, ◌-◌}
 use Rattle.pr_basic.specs.Text.{Text as Line}
 use Rattle.pr_basic.specs.declared.statement.Statement.{Statement as Output}
@@ -28,12 +27,11 @@ use Rattle.pr_interpreter.specs.Expressions.{turn}
 use Rattle.pr_interpreter.specs.Reading.{Read, and_then, or_fault, repeated, word_code}
 use Rattle.pr_interpreter.specs.Statements.{command, ended, file_items, finished, four_values, further, has_item, item}
 use Rattle.pr_interpreter.specs.Statements.{items, keyword_statement, leaves, line_statement, next_of_line, opens_more}
-use Rattle.pr_interpreter.specs.Statements.{output_statement, part, print_file, statement, statements}
+use Rattle.pr_interpreter.specs.Statements.{output_statement, part, print_file, statement}
 use Rattle.pr_run.specs.Lists as lists
-use Rattle.pr_run.specs.Outputs.{no_line}
 use Rattle.pr_run.specs.Plain.{AreParts, IsList, LineSays, Says, digits}
-use Rattle.pr_run.specs.Spelled.{AreGood, Character, IsGood, Listed, Quote, Semi, Spells, SpellsList, SpellsMore}
-use Rattle.pr_run.specs.Spelled.{LinesAreRead, ends_after, item_bytes, item_lexemes, items_bytes, items_lexemes, lexeme}
+use Rattle.pr_run.specs.Spelled.{AreGood, Character, Listed, Quote, Semi, Spells, SpellsList, SpellsMore}
+use Rattle.pr_run.specs.Spelled.{LinesAreRead, ends_after, item_bytes, items_bytes, items_lexemes, lexeme}
 use Rattle.pr_run.specs.Spelled.{AreSpelled, Empty, IsSpelled, LinePart, Performs, Remarks, number, parts_lexemes}
 use Rattle.pr_run.specs.Spelled.{parts_said}
 use Rattle.pr_run.proofs.LiteralLemmas.{character_constant, digits_number, string_constant}
@@ -84,17 +82,17 @@ operand_ends nodes taken end [] none = rw (closes nodes 0) refl
 operand_ends nodes taken end (l ∷ ls) none = ends_with nodes taken end l.place ls l.word none
 
 number_read : (place n end : ℕ) (rest : List Lexeme) → Stops rest
-    → expression end (number place n ∷ rest) ≡ Ok (digits place n ∷ [], 1)
+    → expression end (number place n ∷ rest) ≡ Ok (digits 0 place n ∷ [], 1)
 unfolding expression turn
-number_read place n end rest none = operand_ends (digits place n ∷ []) 1 end rest none
+number_read place n end rest none = operand_ends (digits 0 place n ∷ []) 1 end rest none
 
 -- ---- lists
 
 abbrev text_node : ℕ → ℕ → ℕ → Placed
-text_node place start end = record { node = TextNode start end; place = place }
+text_node place start end = record { node = TextNode start end; place = place; stacked = 0 }
 
 abbrev call_node : ℕ → Placed
-call_node place = record { node = Call (Function 199) 1; place = place }
+call_node place = record { node = Call (Function 199) 1; place = place; stacked = 0 }
 
 text_read : (place start stop end : ℕ) (rest : List Lexeme) → Stops rest
     → expression end (lexeme place (Text start stop) ∷ rest) ≡ Ok (text_node place start stop ∷ [], 1)
@@ -103,9 +101,9 @@ text_read place start stop end rest none = operand_ends (text_node place start s
 
 character_read : (p q r s n end : ℕ) (rest : List Lexeme) → Stops rest
     → expression end (lexeme p (Code 199) ∷ lexeme q (Code 40) ∷ number r n ∷ lexeme s (Code 41) ∷ rest)
-    ≡ Ok (digits r n ∷ call_node p ∷ [], 4)
+    ≡ Ok (digits 8 r n ∷ call_node p ∷ [], 4)
 unfolding expression turn operand_code closing_code settle
-character_read p q r s n end rest none = operand_ends (digits r n ∷ call_node p ∷ []) 4 end rest none
+character_read p q r s n end rest none = operand_ends (digits 8 r n ∷ call_node p ∷ []) 4 end rest none
 
 -- what follows a statement: the end of the line, or a colon
 data After : Type 0 where
@@ -119,7 +117,7 @@ after (Colon p more) = lexeme p (Code 58) ∷ more
 abbrev part_of : Listed → Item
 part_of (Semi p) = record { part = Semicolon; place = p }
 part_of (Quote p start end) = record { part = Shows (text_node p start end ∷ []); place = p }
-part_of (Character p q r s n) = record { part = Shows (digits r n ∷ call_node p ∷ []); place = p }
+part_of (Character p q r s n) = record { part = Shows (digits 8 r n ∷ call_node p ∷ []); place = p }
 
 abbrev parts_of : List Listed → List Item
 parts_of [] = []
@@ -225,29 +223,29 @@ more_read text end r line more (inr c) =
 
 print_file_read : (end p q file : ℕ) (r : After) (more : List Lexeme) (parts : List Item) → MoreRead end r more parts
     → statement end (lexeme p (Code 152) ∷ number q file ∷ (more ++ after r))
-    ≡ read_as (PrintFile (digits q file ∷ []) parts) (length (lexeme p (Code 152) ∷ number q file ∷ more))
+    ≡ read_as (PrintFile (digits 0 q file ∷ []) parts) (length (lexeme p (Code 152) ∷ number q file ∷ more))
 unfolding statement keyword_statement line_statement output_statement print_file and_then
 print_file_read end p q file r more parts c =
     rw (number_read q file end (more ++ after r) c.0, c.1)
-    (ap (λ (n : ℕ). read_as (PrintFile (digits q file ∷ []) parts) n) (omega arith))
+    (ap (λ (n : ℕ). read_as (PrintFile (digits 0 q file ∷ []) parts) n) (omega arith))
 
 command_read : (end p q file : ℕ) (r : After) (more : List Lexeme) (parts : List Item) → MoreRead end r more parts
     → statement end (lexeme p (Code 157) ∷ number q file ∷ (more ++ after r))
-    ≡ read_as (Command (digits q file ∷ []) parts) (length (lexeme p (Code 157) ∷ number q file ∷ more))
+    ≡ read_as (Command (digits 0 q file ∷ []) parts) (length (lexeme p (Code 157) ∷ number q file ∷ more))
 unfolding statement keyword_statement line_statement output_statement command and_then
 command_read end p q file r more parts c =
     rw (number_read q file end (more ++ after r) c.0, c.1)
-    (ap (λ (n : ℕ). read_as (Command (digits q file ∷ []) parts) n) (omega arith))
+    (ap (λ (n : ℕ). read_as (Command (digits 0 q file ∷ []) parts) n) (omega arith))
 
 close_read : (end p q file : ℕ) (r : After)
-    → statement end (lexeme p (Code 160) ∷ number q file ∷ after r) ≡ read_as (Close ((digits q file ∷ []) ∷ [])) 2
+    → statement end (lexeme p (Code 160) ∷ number q file ∷ after r) ≡ read_as (Close ((digits 0 q file ∷ []) ∷ [])) 2
 unfolding statement keyword_statement line_statement output_statement four_values and_then repeated
 close_read end p q file LineEnd = rw (number_read q file end [] tt) refl
 close_read end p q file (Colon c more) = rw (number_read q file end (lexeme c (Code 58) ∷ more) refl) refl
 
 open_read : (end p q s t file device : ℕ) (r : After)
     → statement end (lexeme p (Code 159) ∷ number q file ∷ lexeme s (Code 44) ∷ number t device ∷ after r)
-    ≡ read_as (Open ((digits q file ∷ []) ∷ (digits t device ∷ []) ∷ [])) 4
+    ≡ read_as (Open ((digits 0 q file ∷ []) ∷ (digits 0 t device ∷ []) ∷ [])) 4
 unfolding statement keyword_statement line_statement output_statement four_values and_then repeated
 open_read end p q s t file device LineEnd =
     rw (number_read q file end (lexeme s (Code 44) ∷ number t device ∷ []) refl, number_read t device end [] tt) refl
@@ -259,7 +257,7 @@ open_read end p q s t file device (Colon c more) =
 open_second_read : (end p q s t u v file device second : ℕ) (r : After)
     → statement end (lexeme p (Code 159) ∷ number q file ∷ lexeme s (Code 44) ∷ number t device ∷ lexeme u (Code 44)
     ∷ number v second ∷ after r)
-    ≡ read_as (Open ((digits q file ∷ []) ∷ (digits t device ∷ []) ∷ (digits v second ∷ []) ∷ [])) 6
+    ≡ read_as (Open ((digits 0 q file ∷ []) ∷ (digits 0 t device ∷ []) ∷ (digits 0 v second ∷ []) ∷ [])) 6
 unfolding statement keyword_statement line_statement output_statement four_values and_then repeated
 open_second_read end p q s t u v file device second LineEnd =
     rw (
@@ -293,7 +291,7 @@ statement_read : (text : List ℕ) (end : ℕ) (o : Output) (ls : List Lexeme) (
 statement_read text end (OpenFile file device None) ls r c =
     let few : device ≤ 255 = omega (arith, c.7) in
     record {
-      said = Open ((digits c.1 file ∷ []) ∷ (digits c.3 device ∷ []) ∷ []);
+      said = Open ((digits 0 c.1 file ∷ []) ∷ (digits 0 c.3 device ∷ []) ∷ []);
       first = lexeme c.0 (Code 159);
       others = number c.1 file ∷ lexeme c.2 (Code 44) ∷ number c.3 device ∷ [];
       begins = c.4;
@@ -302,8 +300,8 @@ statement_read text end (OpenFile file device None) ls r c =
       stays = refl;
       alone = refl;
       says = (
-        digits c.1 file ∷ [],
-        digits c.3 device ∷ [],
+        digits 0 c.1 file ∷ [],
+        digits 0 c.3 device ∷ [],
         refl,
         digits_number text c.1 file c.5,
         digits_number text c.3 device few,
@@ -315,7 +313,7 @@ statement_read text end (OpenFile file device (Some second)) ls r c =
     let few : device ≤ 255 = omega (arith, c.9) in
     let small : second ≤ 255 = omega (arith, c.10) in
     record {
-      said = Open ((digits c.1 file ∷ []) ∷ (digits c.3 device ∷ []) ∷ (digits c.5 second ∷ []) ∷ []);
+      said = Open ((digits 0 c.1 file ∷ []) ∷ (digits 0 c.3 device ∷ []) ∷ (digits 0 c.5 second ∷ []) ∷ []);
       first = lexeme c.0 (Code 159);
       others =
           number c.1 file ∷ lexeme c.2 (Code 44) ∷ number c.3 device ∷ lexeme c.4 (Code 44) ∷ number c.5 second ∷ [];
@@ -325,9 +323,9 @@ statement_read text end (OpenFile file device (Some second)) ls r c =
       stays = refl;
       alone = refl;
       says = (
-        digits c.1 file ∷ [],
-        digits c.3 device ∷ [],
-        digits c.5 second ∷ [],
+        digits 0 c.1 file ∷ [],
+        digits 0 c.3 device ∷ [],
+        digits 0 c.5 second ∷ [],
         refl,
         digits_number text c.1 file c.7,
         digits_number text c.3 device few,
@@ -340,7 +338,7 @@ statement_read text end (OpenFile file device (Some second)) ls r c =
 statement_read text end (Cmd file line) ls r c =
     let m = more_read text end r line c.2 c.5 in
     record {
-      said = Command (digits c.1 file ∷ []) m.0;
+      said = Command (digits 0 c.1 file ∷ []) m.0;
       first = lexeme c.0 (Code 157);
       others = number c.1 file ∷ c.2;
       begins = c.3;
@@ -348,12 +346,12 @@ statement_read text end (Cmd file line) ls r c =
       read = command_read end c.0 c.1 file r c.2 m.0 m.1;
       stays = refl;
       alone = refl;
-      says = (digits c.1 file ∷ [], m.0, refl, digits_number text c.1 file c.4, m.2);
+      says = (digits 0 c.1 file ∷ [], m.0, refl, digits_number text c.1 file c.4, m.2);
     }
 statement_read text end (PrintTo file line) ls r c =
     let m = more_read text end r line c.2 c.5 in
     record {
-      said = PrintFile (digits c.1 file ∷ []) m.0;
+      said = PrintFile (digits 0 c.1 file ∷ []) m.0;
       first = lexeme c.0 (Code 152);
       others = number c.1 file ∷ c.2;
       begins = c.3;
@@ -361,7 +359,7 @@ statement_read text end (PrintTo file line) ls r c =
       read = print_file_read end c.0 c.1 file r c.2 m.0 m.1;
       stays = refl;
       alone = refl;
-      says = (digits c.1 file ∷ [], m.0, refl, digits_number text c.1 file c.4, m.2);
+      says = (digits 0 c.1 file ∷ [], m.0, refl, digits_number text c.1 file c.4, m.2);
     }
 statement_read text end (Printed line) ls r c = record {
   said = Print (parts_of c.1);
@@ -375,7 +373,7 @@ statement_read text end (Printed line) ls r c = record {
   says = (parts_of c.1, refl, list_says text c.1 line c.3);
 }
 statement_read text end (CloseFile file) ls r c = record {
-  said = Close ((digits c.1 file ∷ []) ∷ []);
+  said = Close ((digits 0 c.1 file ∷ []) ∷ []);
   first = lexeme c.0 (Code 160);
   others = number c.1 file ∷ [];
   begins = c.2;
@@ -383,7 +381,7 @@ statement_read text end (CloseFile file) ls r c = record {
   read = close_read end c.0 c.1 file r;
   stays = refl;
   alone = refl;
-  says = (digits c.1 file ∷ [], refl, digits_number text c.1 file c.3);
+  says = (digits 0 c.1 file ∷ [], refl, digits_number text c.1 file c.3);
 }
 statement_read text end Rem ls r none = absurd none
 

@@ -1,16 +1,21 @@
-use Rattle.std.proofs.Common.{◌≡◌, inl, inr, ℕ, ◌+◌, ◌-◌, ◌<◌, ◌≤◌, false, arith, List, [], ◌++◌, refl, sym, ap, ◌∙◌}
+use Rattle.std.proofs.Common.{◌≡◌, inl, inr, ℕ, ◌+◌, ◌-◌, ◌<◌, ◌≤◌, Bool, true, false, arith, List, [], ◌++◌, refl, sym}
+use Rattle.std.proofs.Common.{ap, ◌∙◌}
 use Rattle.std.proofs.Common.{add-one, append_assoc, append-nil, Option, Some, None}
 use Rattle.std.specs.List.{slice_get}
 use Rattle.std.specs.Option.{option_to_list}
 use Rattle.pr_run.specs.declared.ending.Ending.{Ending}
+use Rattle.pr_run.specs.declared.ending.Ending.TheVariants.{Refused}
+use Rattle.pr_run.specs.declared.ending.Refusal.TheVariants.{FullMemory}
 use Rattle.pr_run.specs.declared.outcome.Outcome.{Outcome}
 use Rattle.pr_run.specs.declared.performed.Performed.{Performed}
 use Rattle.pr_run.specs.declared.programs.Program.{Program}
 use Rattle.pr_run.specs.declared.state.Run.{Run}
 use Rattle.pr_run.specs.declared.steps.Done.{Done}
 use Rattle.pr_run.specs.Endings.{is_memory}
-use Rattle.pr_run.specs.Runs.{after_turn, ending_in, outcome, run_from}
+use Rattle.pr_run.specs.Memory.{fits}
+use Rattle.pr_run.specs.Runs.{after_turn, ending_in, outcome, run, run_from}
 use Rattle.pr_run.specs.Seen.{LeadsOn, TurnEndsAs, joined, rest_of, state_of, turned, turned_by}
+use Rattle.pr_run.specs.States.{State, first_state}
 use Rattle.pr_run.specs.Steps.{Ends, step}
 
 -- what was performed before joins what a turn leads to
@@ -45,6 +50,27 @@ step_stops p before old new ending (inl none) given = let clash = rw none at giv
 step_stops p before old new ending (inr e) given = step_ended p before old new ending e
 
 -- ---- runs
+
+-- there is the memory for a program, and its run begins
+pub run_begins : (p : Program) (limit : ℕ) (performed : List Performed) (r : Run) (b : Bool) → performed ≡ []
+    → state_of r ≡ first_state → b ≡ fits p (state_of r) → b ≡ true
+    → joined performed (run_from p limit (state_of r)) ≡ run limit p
+unfolding run
+run_begins p limit performed r b none first test hit =
+    let enough : fits p first_state ≡ true = ap (λ (s : State). fits p s) (sym first) ∙ (sym test ∙ hit) in
+    let whole : run_from p limit first_state ≡ run limit p = rw enough refl in
+    ap (λ (s : State). joined performed (run_from p limit s)) first
+    ∙ (ap (λ (ps : List Performed). joined ps (run_from p limit first_state)) none ∙ whole)
+
+-- there may be none
+pub run_refused : (p : Program) (limit : ℕ) (performed : List Performed) (r : Run) (b : Bool) → performed ≡ []
+    → state_of r ≡ first_state → b ≡ fits p (state_of r) → b ≡ false
+    → outcome performed (Refused FullMemory 0) None ≡ run limit p
+unfolding run
+run_refused p limit performed r b none first test miss =
+    let few : fits p first_state ≡ false = ap (λ (s : State). fits p s) (sym first) ∙ (sym test ∙ miss) in
+    let whole : outcome [] (Refused FullMemory 0) None ≡ run limit p = rw few refl in
+    ap (λ (ps : List Performed). outcome ps (Refused FullMemory 0) None) none ∙ whole
 
 -- one of the steps that are left is done
 pub runs_on : (p : Program) (left : ℕ) (before after : List Performed) (old new : Run) (whole : Outcome) → 0 < left

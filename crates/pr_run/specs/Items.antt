@@ -85,15 +85,15 @@ if_all i true s = Ok s
 if_all i false s = Err (Error Syntax i.line)
 
 -- a variable or an element keeps the value of an item, before anything is said of what follows in the item
-abbrev pub item_kept : Use → Name → Option ℕ → DataItem → ItemValue → State → Worked State
-item_kept u name at i v s = and_then (assigned u name at v.value s) (λ r. if_all i v.is_all r)
+abbrev pub item_kept : Program → Use → Name → Option ℕ → DataItem → ItemValue → State → Worked State
+item_kept p u name at i v s = and_then (assigned p u name at v.value s) (λ r. if_all i v.is_all r)
 
 -- an item is read into a variable or an element
 abbrev pub read_item : Program → State → Target → Option ℕ → Option DataItem → Worked State
 read_item p s t at None = Err (Error OutOfData (line_at p s))
 read_item p s t at (Some i) = let u = use_at p s i.start in
     and_then (item_value t.name.kind u (slice_range p.text i.start i.end))
-    (λ v. item_kept u t.name at i v (next_item s))
+    (λ v. item_kept p u t.name at i v (next_item s))
 
 unfoldable pub read_target : Program → State → Target → Worked State
 read_target p s t =

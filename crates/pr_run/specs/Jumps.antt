@@ -129,7 +129,7 @@ with_limit p name to step s =
 abbrev pub for_kind : Program → State → Kind → Name → List Placed → Worked State
 for_kind p s Short name from = Err (Error Syntax (line_at p s))
 for_kind p s Letters name from = then_on (worked p s from) (λ v t. Err (Error TypeMismatch (line_at p t)))
-for_kind p s Numeric name from = then_on (worked p s from) (λ v t. assigned (use_of p t from) name None v t)
+for_kind p s Numeric name from = then_on (worked p s from) (λ v t. assigned p (use_of p t from) name None v t)
 
 -- a loop's variable has its first value
 unfoldable pub for_variable : Program → State → Name → List Placed → Worked State

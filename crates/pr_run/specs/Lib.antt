@@ -4,6 +4,7 @@ pub mod Endings
 pub mod Items
 pub mod Jumps
 pub mod Lists
+pub mod Memory
 pub mod Opened
 pub mod Outputs
 pub mod Places

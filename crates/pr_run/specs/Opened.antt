@@ -1,5 +1,5 @@
 -- Trusted: the loops of FOR and the calls of GOSUB that are open, the last first.
-use Rattle.std.specs.Prelude.{ℕ, ◌+◌, Bool, true, List, [], ◌∷◌, Option, Some, None, if◌then◌else◌}
+use Rattle.std.specs.Prelude.{ℕ, ◌+◌, ◌-◌, Bool, true, List, [], ◌∷◌, Option, Some, None, if◌then◌else◌}
 use Rattle.pr_interpreter.specs.declared.names.Name.{Name}
 use Rattle.pr_interpreter.specs.Memory.{same_name}
 use Rattle.pr_run.specs.declared.opened.Loop.{Loop}
@@ -54,6 +54,11 @@ abbrev pub stack_size : List Open → ℕ
 stack_size [] = 0
 stack_size (o ∷ os) = open_size o + stack_size os
 
--- how many bytes of the machine's stack are certain to be free for what is open
+-- How many bytes of the machine's stack are certain to be free for what is open, and for what waits in an expression.
+-- Of the 246 that there are in a statement, the machine wants 64 to be free, and the statement itself has at most 20.
 abbrev pub stack_limit : ℕ
 stack_limit = 162
+
+-- how many are left for an expression
+unfoldable pub stack_left : List Open → ℕ
+stack_left os = stack_limit - stack_size os

@@ -31,41 +31,46 @@ use Rattle.pr_run.specs.declared.outcome.Outcome.{Outcome}
 use Rattle.pr_run.specs.declared.performed.Performed.{Performed}
 use Rattle.pr_run.specs.declared.programs.Program.{Program}
 use Rattle.pr_run.specs.Lists.{ends_after}
+use Rattle.pr_run.specs.Memory.{memory_limit, program_bytes}
+use Rattle.pr_run.specs.Opened.{stack_limit}
 use Rattle.pr_run.specs.Outputs.{is_open, no_line, open_error}
 use Rattle.pr_run.specs.Runs.{outcome, run}
 use Rattle.pr_run.specs.Uses.{whole_of}
 
 -- ---- constants
 
--- an expression has this value, whatever the variables, arrays and functions are
+-- an expression has this value, whatever the variables, arrays and functions are, if no loop and no call is open
 abbrev pub IsConstant : List ℕ → List Placed → Value → Type 0
-IsConstant text nodes v = (s : Scope) (arrays : Arrays) → s.text ≡ text
+IsConstant text nodes v = (s : Scope) (arrays : Arrays) → s.text ≡ text → s.stack ≡ stack_limit
     → evaluation s arrays nodes ≡ record { value = Ok v; arrays = arrays }
 
 -- it is this whole number, of at most 255
 abbrev pub IsNumber : List ℕ → List Placed → ℕ → Type 0
 IsNumber text nodes n = (v : Value) × IsConstant text nodes v × (whole_of 255 v ≡ Ok n)
 
--- digits, as a program's text has them
-abbrev pub digits : ℕ → ℕ → Placed
-digits place n = record {
+-- digits, as a program's text has them, alone or in CHR$
+abbrev pub digits : ℕ → ℕ → ℕ → Placed
+digits stacked place n = record {
   node = Digits (record { digits = n; more = false; tens = Times 0; roundings = 0; plain = true });
   place = place;
+  stacked = stacked;
 }
 
 -- digits are the number that they write
 abbrev pub DigitsAreNumbers : Type 0
-DigitsAreNumbers = (text : List ℕ) (place n : ℕ) → n ≤ 255 → IsNumber text (digits place n ∷ []) n
+DigitsAreNumbers = (text : List ℕ) (place n : ℕ) → n ≤ 255 → IsNumber text (digits 0 place n ∷ []) n
 
 -- a string between quotes is its bytes
 abbrev pub StringsAreConstant : Type 0
 StringsAreConstant = (text : List ℕ) (place start end : ℕ) → start ≤ end → end ≤ length text → end - start ≤ 255
-    → IsConstant text (record { node = Quoted start end; place = place } ∷ []) (Text (slice_range text start end))
+    → IsConstant text (record { node = Quoted start end; place = place; stacked = 0 } ∷ [])
+    (Text (slice_range text start end))
 
 -- CHR$ of digits is the byte of that number
 abbrev pub CharactersAreConstant : Type 0
 CharactersAreConstant = (text : List ℕ) (place at n : ℕ) → n ≤ 255
-    → IsConstant text (digits place n ∷ record { node = Call (Function 199) 1; place = at } ∷ []) (Text (n ∷ []))
+    → IsConstant text (digits 8 place n ∷ record { node = Call (Function 199) 1; place = at; stacked = 0 } ∷ [])
+    (Text (n ∷ []))
 
 -- ---- which output statements the statements of a program are
 
@@ -167,7 +172,7 @@ abbrev pub step_count : List ProgramLine → ℕ
 step_count [] = 0
 step_count (l ∷ ls) = length l.statements + 1 + step_count ls
 
--- a plain program performs in order what it says
+-- a plain program for which the machine surely has the memory performs in order what it says
 abbrev pub PlainRuns : Type 0
-PlainRuns = (p : Program) (said : List Performed) (limit : ℕ)
+PlainRuns = (p : Program) (said : List Performed) (limit : ℕ) → program_bytes p ≤ memory_limit
     → LinesSay p.text p.lines said → step_count p.lines ≤ limit → run limit p ≡ in_order [] said

@@ -32,6 +32,7 @@ state_of r = record {
   variables = r.variables.items;
   arrays = r.arrays;
   functions = r.functions.items;
+  strings = r.strings;
   opened = reverse r.opened.items;
   items_read = r.items_read;
   files = r.files.items;

@@ -9,15 +9,16 @@ use Rattle.pr_run.specs.declared.place.Place.{Place}
 use Rattle.pr_run.specs.Places.{after_line}
 
 -- A state of a run: the place of the next statement (while a statement is performed, that is the one after it); the
--- variables that have a value, the arrays and the functions; the loops and calls that are open, the last first; how
--- many items of DATA were read; the numbers of the open files; the number of the file that has the output, 0 for the
--- screen; whether all that is on the screen ends with a return; whether something was sent to a file; and the number of
--- the line of the first POKE that was left out.
+-- variables, the arrays and the functions, and how many bytes strings take; the loops and calls that are open, the last
+-- first; how many items of DATA were read; the numbers of the open files; the number of the file that has the output, 0
+-- for the screen; whether all that is on the screen ends with a return; whether something was sent to a file; and the
+-- number of the line of the first POKE that was left out.
 pub record State : Type 0 where
   pub place : Place
   pub variables : List Variable
   pub arrays : Arrays
   pub functions : List Function
+  pub strings : ℕ
   pub opened : List Open
   pub items_read : ℕ
   pub files : List ℕ
@@ -28,7 +29,8 @@ pub record State : Type 0 where
 
 -- no variable has a value, and nothing is open, from a place on
 abbrev pub cleared : State → State
-cleared s = record s { variables = []; arrays = no_arrays; functions = []; opened = []; items_read = 0 }
+cleared s =
+    record s { variables = []; arrays = no_arrays; functions = []; strings = 0; opened = []; items_read = 0 }
 
 -- the next line is next
 abbrev pub next_line : State → State
@@ -41,6 +43,7 @@ first_state = record {
   variables = [];
   arrays = no_arrays;
   functions = [];
+  strings = 0;
   opened = [];
   items_read = 0;
   files = [];

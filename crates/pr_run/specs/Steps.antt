@@ -26,7 +26,8 @@ use Rattle.pr_run.specs.Outputs.{print_statement}
 use Rattle.pr_run.specs.Places.{Found, Doing, LineEnd, ProgramEnd, after_statement, found_at}
 use Rattle.pr_run.specs.declared.programs.Program.{Program}
 use Rattle.pr_run.specs.States.{State, next_line}
-use Rattle.pr_run.specs.Assignments.{clear_statement, dim_statement, is_system, let_statement, replaced}
+use Rattle.pr_run.specs.Assignments.{clear_statement, declared, dim_statement, in_memory, is_system}
+use Rattle.pr_run.specs.Assignments.{let_statement, replaced}
 use Rattle.pr_run.specs.declared.uses.Use.{Use}
 use Rattle.pr_run.specs.Uses.{Worked, line_at, statement_place, statement_use}
 use Rattle.pr_run.specs.Worked.{then_on, whole}
@@ -52,14 +53,17 @@ define_error name variable =
     or_error (kind_error name.kind)
     (or_error (kind_error variable.kind) (if is_system variable [] then Some Syntax else None))
 
-abbrev pub define_or : ℕ → Option BasicError → Function → State → Worked State
-define_or line (Some e) f s = Err (Error e line)
-define_or line None f s = Ok (record s { functions = with_function f s.functions })
+abbrev pub defined : Function → State → State
+defined f s = record s { functions = with_function f s.functions; variables = declared f.variable s.variables }
 
--- DEF FN: nothing is worked out yet
+abbrev pub define_or : Program → Use → Option BasicError → Function → State → Worked State
+define_or p u (Some e) f s = Err (Error e u.line)
+define_or p u None f s = in_memory p u (defined f s)
+
+-- DEF FN: nothing is worked out yet, but there is a variable of its variable's name
 unfoldable pub define_statement : Program → State → Name → Name → List Placed → Worked State
 define_statement p s name variable nodes =
-    define_or (line_at p s) (define_error name variable)
+    define_or p (statement_use p s) (define_error name variable)
     (record { name = name; variable = variable; value = nodes }) s
 
 -- Addresses where POKE cannot change what is printed: the screen, and the chips for picture, sound and colour. The

@@ -8,6 +8,7 @@ use Rattle.pr_interpreter.specs.declared.orders.Order.{Order}
 use Rattle.pr_interpreter.specs.declared.values.BasicError.TheVariants.{IllegalQuantity, TypeMismatch}
 use Rattle.pr_interpreter.specs.declared.values.Halt.{Halt}
 use Rattle.pr_interpreter.specs.declared.values.Halt.TheVariants.{Error as Reports, NotCertain as Doubts}
+use Rattle.pr_interpreter.specs.declared.values.Halt.TheVariants.{FullMemory as Fills, FullStack as Deepens}
 use Rattle.pr_interpreter.specs.declared.values.Halt.TheVariants.{NotTaken as Lacks, OutOfMemory as Exhausts}
 use Rattle.pr_interpreter.specs.declared.values.Stop.{Stop}
 use Rattle.pr_interpreter.specs.declared.values.Stop.TheVariants.{Error as Reported, NotCertain as Uncertain}
@@ -19,7 +20,7 @@ use Rattle.pr_interpreter.specs.Functions.{whole_to}
 use Rattle.pr_interpreter.specs.Numbers.{Known, floor, is_zero, order_of, whole_number, zero_number}
 use Rattle.pr_run.specs.declared.ending.Ending.{Ending}
 use Rattle.pr_run.specs.declared.ending.Ending.TheVariants.{Error, OutOfMemory, Refused}
-use Rattle.pr_run.specs.declared.ending.Refusal.TheVariants.{NotCertain, NotTaken}
+use Rattle.pr_run.specs.declared.ending.Refusal.TheVariants.{FullMemory, FullStack, NotCertain, NotTaken}
 use Rattle.pr_run.specs.declared.opened.Direction.{Direction}
 use Rattle.pr_run.specs.declared.opened.Direction.TheVariants.{Down, Still, Up}
 use Rattle.pr_run.specs.declared.programs.Program.{Program}
@@ -85,6 +86,8 @@ used u (Err stop) = Err (ending_of u stop)
 abbrev pub halted : ℕ → Halt → Ending
 halted line (Doubts place) = Refused NotCertain place
 halted line (Lacks place) = Refused NotTaken place
+halted line (Fills place) = Refused FullMemory place
+halted line (Deepens place) = Refused FullStack place
 halted line (Reports e) = Error e line
 halted line Exhausts = OutOfMemory
 

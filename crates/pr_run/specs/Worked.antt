@@ -7,6 +7,8 @@ use Rattle.pr_interpreter.specs.declared.values.Value.{Value}
 use Rattle.pr_interpreter.specs.Evaluation.{Scope, evaluation}
 use Rattle.pr_interpreter.specs.Numbers.{Known}
 use Rattle.pr_run.specs.declared.programs.Program.{Program}
+use Rattle.pr_run.specs.Memory.{bytes_for_arrays}
+use Rattle.pr_run.specs.Opened.{stack_left}
 use Rattle.pr_run.specs.States.{State}
 use Rattle.pr_run.specs.Uses.{Valued, Worked, and_then, halted, line_at, number_of, truth_of, use_of, used, whole_of}
 
@@ -42,6 +44,8 @@ scope p s = record {
   functions = s.functions;
   column = column s;
   has_sent = s.has_sent;
+  memory = bytes_for_arrays p s;
+  stack = stack_left s.opened;
 }
 
 abbrev pub worked_out : ℕ → State → Arrays → Result Value Halt → Worked (Valued Value)

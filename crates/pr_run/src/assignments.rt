@@ -4,24 +4,26 @@ ghost use Rattle.std.specs.Prelude.{◌≡◌, ◌+◌, ◌-◌, ◌<◌, ◌≤
 ghost use Rattle.std.specs.Prelude.{MatchOption, OnOk, Ok};
 ghost use Rattle.std.specs.List.{position_or_len};
 ghost use Rattle.std.specs.Option.{option_copied};
-ghost use Rattle.pr_interpreter.specs.Memory.{array_of, first_value, same_name, with_array};
+ghost use Rattle.pr_interpreter.specs.Memory.{array_bytes, array_of, first_value, same_name, with_array};
 ghost use Rattle.pr_run.specs.Seen.{EndsAs, gives, state_of};
-ghost use Rattle.pr_run.specs.Assignments.{array_with, clear_statement, dim_statement, dimension, dimensioned};
+ghost use Rattle.pr_run.specs.Assignments.{array_with, clear_statement, declared, dim_statement, dimension, dimensioned};
 ghost use Rattle.pr_run.specs.Assignments.{element_count, element_in, index, indices, is_system, let_statement};
 ghost use Rattle.pr_run.specs.Assignments.{made_array, made_undimensioned, place_in, stored, system_ending};
 ghost use Rattle.pr_run.specs.Assignments.{target_place, with_element, with_element_of, with_its_array, with_value_at};
 ghost use Rattle.pr_run.specs.Assignments.{with_variable};
+ghost use Rattle.pr_run.specs.Memory.{bytes_for_arrays};
 ghost use Rattle.pr_run.specs.Worked.{valued};
 
 use crate::ending::{Ending, Refusal};
 use crate::growth::put;
+use crate::memory::{bytes_for_arrays, need_memory, strings_with};
 use crate::programs::Program;
 use crate::state::Run;
 use crate::uses::{Use, ending_of, kept, whole_of};
-use crate::worked::{ended, line_at, statement_place, worked};
+use crate::worked::{ended, line_at, statement_place, use_of, worked};
 use pr_interpreter::{
     Array, Arrays, BasicError, Kind, Name, Nodes, Number, Placed, Target, Value, Variable,
-    array_of, element_bytes, is_clock, is_status, place_of, same_name, undimensioned,
+    array_bytes, array_of, is_clock, is_status, place_of, same_name, undimensioned,
     undimensioned_bytes,
 };
 use pr_page::Sequence;
@@ -51,6 +53,20 @@ fn set_variable(variables: &mut Vec<Variable>, name: Name, value: Value) -> Resu
         variables[place] = Variable { name, value };
         return Ok(());
     }
+    put(variables, Variable { name, value })?;
+    Ok(())
+}
+
+/// Adds a variable, 0 or empty, unless there is one of its name.
+pub fn declare(alloc: Global, variables: &mut Vec<Variable>, name: Name) -> Result<(), Ending>
+    ensures ok { OnOk result (variables.new.items ≡ declared name variables.old.items) }
+    ensures err { IfErr result (λ e. e ≡ Ending.OutOfMemory) }
+{
+    let place = variable_place(name, variables.as_slice());
+    if place < variables.len() {
+        return Ok(());
+    }
+    let value = first_value(alloc, name.kind);
     put(variables, Variable { name, value })?;
     Ok(())
 }
@@ -169,6 +185,7 @@ pub fn store(
     ensures opened { OnOk result (run.new.opened.items ≡ run.old.opened.items) }
     ensures err { IfErr result (λ e. e ≡ Ending.OutOfMemory) }
 {
+    run.strings = strings_with(run, name, place, &value);
     match place {
         None => set_variable(&mut run.variables, name, value),
         Some(place) => match set_value_at(alloc, &mut run.arrays, name, place as usize, value) {
@@ -197,7 +214,7 @@ fn index(
     }
 }
 
-/// Works out indices.
+/// Works out indices of an element that a statement names: with more than five the machine's stack may be full.
 #[tactic(auto, unfolding(crate::specs::Assignments::indices))]
 fn indices(
     alloc: Global,
@@ -209,6 +226,12 @@ fn indices(
     ensures ok { IfOk result (λ found. indices program.now at (state_of run.old) expressions.now ≡ gives found.items run.new) }
     ensures err { IfErr result (λ e. EndsAs e (indices program.now at (state_of run.old) expressions.now)) }
 {
+    if 5 < expressions.len() {
+        return Err(Ending::Refused {
+            refusal: Refusal::FullStack,
+            place: at.place,
+        });
+    }
     let mut found = Vec::new(alloc);
     'each: for nodes in expressions {
         let index = index(alloc, program, at, run, nodes.as_slice())?;
@@ -220,18 +243,20 @@ fn indices(
     Ok(found)
 }
 
-/// Adds an array with so many bytes for its elements.
+/// Adds an array that takes so many bytes.
 fn make_array(
     alloc: Global,
+    program: &Program,
     at: Use,
     run: &mut Run,
     array: Array,
     bytes: usize,
 ) -> Result<(), Ending>
-    ensures ok { OnOk result (made_array at (state_of run.old) (with_array array bytes (state_of run.old).arrays) ≡ Ok (state_of run.new)) }
-    ensures err { IfErr result (λ e. EndsAs e (made_array at (state_of run.old) (with_array array bytes (state_of run.old).arrays))) }
+    ensures ok { OnOk result (made_array at (state_of run.old) (with_array (bytes_for_arrays program.now (state_of run.old)) array bytes (state_of run.old).arrays) ≡ Ok (state_of run.new)) }
+    ensures err { IfErr result (λ e. EndsAs e (made_array at (state_of run.old) (with_array (bytes_for_arrays program.now (state_of run.old)) array bytes (state_of run.old).arrays))) }
 {
-    match run.arrays.add(alloc, array, bytes) {
+    let room = bytes_for_arrays(program, run);
+    match run.arrays.add(alloc, room, array, bytes) {
         Ok(true) => Ok(()),
         Ok(false) => Err(Ending::Refused {
             refusal: Refusal::FullMemory,
@@ -244,13 +269,14 @@ fn make_array(
 /// Makes an array that is used before DIM.
 fn make_undimensioned(
     alloc: Global,
+    program: &Program,
     at: Use,
     run: &mut Run,
     name: Name,
     count: usize,
 ) -> Result<(), Ending>
-    ensures ok { OnOk result (made_undimensioned at (state_of run.old) name count ≡ Ok (state_of run.new)) }
-    ensures err { IfErr result (λ e. EndsAs e (made_undimensioned at (state_of run.old) name count)) }
+    ensures ok { OnOk result (made_undimensioned program.now at (state_of run.old) name count ≡ Ok (state_of run.new)) }
+    ensures err { IfErr result (λ e. EndsAs e (made_undimensioned program.now at (state_of run.old) name count)) }
 {
     let Some(bytes) = undimensioned_bytes(name.kind, count) else {
         return Err(Ending::Refused {
@@ -259,7 +285,7 @@ fn make_undimensioned(
         });
     };
     match undimensioned(alloc, name, count) {
-        Ok(array) => make_array(alloc, at, run, array, bytes),
+        Ok(array) => make_array(alloc, program, at, run, array, bytes),
         Err(_) => Err(Ending::OutOfMemory),
     }
 }
@@ -289,17 +315,18 @@ fn place_in(
 /// Makes the array of a name, if it is used before DIM.
 fn make_its_array(
     alloc: Global,
+    program: &Program,
     at: Use,
     run: &mut Run,
     name: Name,
     count: usize,
 ) -> Result<(), Ending>
-    ensures ok { OnOk result (with_its_array at (state_of run.old) name count (array_of name (state_of run.old).arrays.list) ≡ Ok (state_of run.new)) }
-    ensures err { IfErr result (λ e. EndsAs e (with_its_array at (state_of run.old) name count (array_of name (state_of run.old).arrays.list))) }
+    ensures ok { OnOk result (with_its_array program.now at (state_of run.old) name count (array_of name (state_of run.old).arrays.list) ≡ Ok (state_of run.new)) }
+    ensures err { IfErr result (λ e. EndsAs e (with_its_array program.now at (state_of run.old) name count (array_of name (state_of run.old).arrays.list))) }
 {
     match array_of(name, run.arrays.list.as_slice()) {
         Some(_) => Ok(()),
-        None => make_undimensioned(alloc, at, run, name, count),
+        None => make_undimensioned(alloc, program, at, run, name, count),
     }
 }
 
@@ -307,15 +334,16 @@ fn make_its_array(
 #[tactic(auto, unfolding(crate::specs::Assignments::element_in))]
 fn element_in(
     alloc: Global,
+    program: &Program,
     at: Use,
     run: &mut Run,
     name: Name,
     indices: &[u16],
 ) -> Result<Option<u32>, Ending>
-    ensures ok { IfOk result (λ n. element_in at (state_of run.old) name indices.now ≡ gives n run.new) }
-    ensures err { IfErr result (λ e. EndsAs e (element_in at (state_of run.old) name indices.now)) }
+    ensures ok { IfOk result (λ n. element_in program.now at (state_of run.old) name indices.now ≡ gives n run.new) }
+    ensures err { IfErr result (λ e. EndsAs e (element_in program.now at (state_of run.old) name indices.now)) }
 {
-    make_its_array(alloc, at, run, name, indices.len())?;
+    make_its_array(alloc, program, at, run, name, indices.len())?;
     let array = array_of(name, run.arrays.list.as_slice());
     place_in(at, run, indices, array)
 }
@@ -365,7 +393,7 @@ pub fn target_place(
         return Ok(None);
     }
     let found = indices(alloc, program, at, run, target.indices.as_slice())?;
-    element_in(alloc, at, run, target.name, found.as_slice())
+    element_in(alloc, program, at, run, target.name, found.as_slice())
 }
 
 /// Performs LET: where the value is kept is worked out first.
@@ -383,7 +411,11 @@ pub fn let_statement(
     let place = target_place(alloc, program, run, target)?;
     let value = worked(alloc, program, run, nodes)?;
     match kept(target.name.kind, value) {
-        Ok(value) => store(alloc, run, target.name, place, value),
+        Ok(value) => {
+            let at = use_of(program, run, nodes);
+            store(alloc, run, target.name, place, value)?;
+            need_memory(program, at, run)
+        }
         Err(stop) => Err(ended(program, run, nodes, stop)),
     }
 }
@@ -403,16 +435,29 @@ fn element_count(bounds: &[u16]) -> Option<usize>
     Some(count)
 }
 
+/// Returns how many bytes an array takes; None of one for which no machine has the memory.
+#[tactic(auto, using(crate::proofs::CountLemmas::many_elements, crate::proofs::CountLemmas::many_dimensions))]
+fn bytes_of(kind: Kind, bounds: &[u16]) -> Option<usize>
+    ensures { MatchOption result (38911 < array_bytes kind (length bounds.now) (element_count bounds.now)) (λ n. n ≡ array_bytes kind (length bounds.now) (element_count bounds.now)) }
+{
+    if 30_000 < bounds.len() {
+        return None;
+    }
+    let count = element_count(bounds)?;
+    Some(array_bytes(kind, bounds.len(), count))
+}
+
 /// Makes an array with these greatest indices, if there is none of its name.
 fn dimensioned(
     alloc: Global,
+    program: &Program,
     at: Use,
     run: &mut Run,
     name: Name,
     bounds: Vec<u16>,
 ) -> Result<(), Ending>
-    ensures ok { OnOk result (dimensioned at (state_of run.old) name bounds.items (array_of name (state_of run.old).arrays.list) ≡ Ok (state_of run.new)) }
-    ensures err { IfErr result (λ e. EndsAs e (dimensioned at (state_of run.old) name bounds.items (array_of name (state_of run.old).arrays.list))) }
+    ensures ok { OnOk result (dimensioned program.now at (state_of run.old) name bounds.items (array_of name (state_of run.old).arrays.list) ≡ Ok (state_of run.new)) }
+    ensures err { IfErr result (λ e. EndsAs e (dimensioned program.now at (state_of run.old) name bounds.items (array_of name (state_of run.old).arrays.list))) }
 {
     if array_of(name, run.arrays.list.as_slice()).is_some() {
         return Err(Ending::Error {
@@ -420,7 +465,7 @@ fn dimensioned(
             line: at.line,
         });
     }
-    let Some(count) = element_count(bounds.as_slice()) else {
+    let Some(bytes) = bytes_of(name.kind, bounds.as_slice()) else {
         return Err(Ending::Refused {
             refusal: Refusal::FullMemory,
             place: at.place,
@@ -431,10 +476,10 @@ fn dimensioned(
         bounds: Sequence::from_vec(bounds),
         elements: Sequence::new(alloc),
     };
-    make_array(alloc, at, run, array, element_bytes(name.kind) * count)
+    make_array(alloc, program, at, run, array, bytes)
 }
 
-/// Makes an array that DIM has. A variable is not changed.
+/// Makes an array that DIM has. A variable is not changed, but there is one.
 #[tactic(auto, unfolding(crate::specs::Assignments::dimension))]
 fn dimension(alloc: Global, program: &Program, run: &mut Run, target: &Target) -> Result<(), Ending>
     ensures ok { OnOk result (dimension program.now (state_of run.old) target.now ≡ Ok (state_of run.new)) }
@@ -448,10 +493,11 @@ fn dimension(alloc: Global, program: &Program, run: &mut Run, target: &Target) -
         return Err(system_ending(at, target.name.kind));
     }
     if target.indices.is_empty() {
-        return Ok(());
+        declare(alloc, &mut run.variables, target.name)?;
+        return need_memory(program, at, run);
     }
     let bounds = indices(alloc, program, at, run, target.indices.as_slice())?;
-    dimensioned(alloc, at, run, target.name, bounds)
+    dimensioned(alloc, program, at, run, target.name, bounds)
 }
 
 /// Performs DIM.

@@ -21,9 +21,9 @@ pub enum Refusal {
     LongList,
     /// CLR while a file is open: the machine forgets the file, which no script can do.
     OpenFiles,
-    /// The machine's stack may be full of loops and calls.
+    /// The machine's stack may be full of loops and calls, and of what waits in an expression.
     FullStack,
-    /// The machine's memory may be full of arrays.
+    /// The machine's memory may be full of the program, its variables, its arrays and its strings.
     FullMemory,
 }
 

@@ -14,6 +14,7 @@ ghost use Rattle.pr_run.specs.Seen.{EndsAs, state_of};
 use crate::assignments::{store, target_place};
 use crate::data::{DataItem, slice_of};
 use crate::ending::{Ending, Refusal};
+use crate::memory::need_memory;
 use crate::programs::Program;
 use crate::state::Run;
 use crate::uses::{Use, ending_of, kept};
@@ -178,17 +179,21 @@ fn item_value(alloc: Global, kind: Kind, at: Use, bytes: &[u8]) -> Result<ItemVa
 /// Keeps a value as the kind of a name wants it.
 fn assign(
     alloc: Global,
+    program: &Program,
     at: Use,
     run: &mut Run,
     name: Name,
     place: Option<u32>,
     value: Value,
 ) -> Result<(), Ending>
-    ensures ok { OnOk result (assigned at name place value (state_of run.old) ≡ Ok (state_of run.new)) }
-    ensures err { IfErr result (λ e. EndsAs e (assigned at name place value (state_of run.old))) }
+    ensures ok { OnOk result (assigned program.now at name place value (state_of run.old) ≡ Ok (state_of run.new)) }
+    ensures err { IfErr result (λ e. EndsAs e (assigned program.now at name place value (state_of run.old))) }
 {
     match kept(name.kind, value) {
-        Ok(value) => store(alloc, run, name, place, value),
+        Ok(value) => {
+            store(alloc, run, name, place, value)?;
+            need_memory(program, at, run)
+        }
         Err(stop) => Err(ending_of(at, stop)),
     }
 }
@@ -196,6 +201,7 @@ fn assign(
 /// Keeps the value of an item, before anything is said of what follows in the item.
 fn keep_item(
     alloc: Global,
+    program: &Program,
     at: Use,
     run: &mut Run,
     name: Name,
@@ -203,11 +209,11 @@ fn keep_item(
     item: DataItem,
     found: ItemValue,
 ) -> Result<(), Ending>
-    ensures ok { OnOk result (item_kept at name place item found (state_of run.old) ≡ Ok (state_of run.new)) }
-    ensures err { IfErr result (λ e. EndsAs e (item_kept at name place item found (state_of run.old))) }
+    ensures ok { OnOk result (item_kept program.now at name place item found (state_of run.old) ≡ Ok (state_of run.new)) }
+    ensures err { IfErr result (λ e. EndsAs e (item_kept program.now at name place item found (state_of run.old))) }
 {
     let is_all = found.is_all;
-    assign(alloc, at, run, name, place, found.value)?;
+    assign(alloc, program, at, run, name, place, found.value)?;
     if !is_all {
         return Err(Ending::Error {
             error: BasicError::Syntax,
@@ -242,7 +248,7 @@ fn read_item(
     let bytes = slice_of(program.text.as_slice(), item.start, item.end);
     let found = item_value(alloc, target.name.kind, at, bytes)?;
     run.items_read += 1;
-    keep_item(alloc, at, run, target.name, place, item, found)
+    keep_item(alloc, program, at, run, target.name, place, item, found)
 }
 
 /// Reads the next item into a target.

@@ -13,6 +13,7 @@ ghost use Rattle.pr_run.specs.Seen.{EndsAs, gives, passes, state_of};
 
 use crate::assignments::{is_system, store, system_ending, target_place};
 use crate::ending::{Ending, Refusal};
+use crate::memory::need_memory;
 use crate::opened::{CALL, Direction, LOOP, Loop, Open, has_room, loop_of, take_caller};
 use crate::place::beginning;
 use crate::programs::Program;
@@ -268,7 +269,11 @@ fn set_loop_variable(
         });
     }
     match kept(variable.kind, value) {
-        Ok(value) => store(alloc, run, variable, None, value),
+        Ok(value) => {
+            let at = use_of(program, run, from);
+            store(alloc, run, variable, None, value)?;
+            need_memory(program, at, run)
+        }
         Err(stop) => Err(ended(program, run, from, stop)),
     }
 }

@@ -11,7 +11,8 @@
 //! - `worked` works out expressions, and `uses` says what statements make of their values.
 //! - `assignments` has LET, DIM and CLR, `jumps` GOTO, GOSUB, RETURN, ON, IF, FOR and NEXT, `items` READ and RESTORE,
 //!   `lists` what PRINT writes, and `outputs` OPEN, CLOSE, CMD, PRINT and PRINT#.
-//! - `growth` adds to lists; `steps` has one step, with DEF FN and POKE, and `run` all.
+//! - `memory` says how much of the machine's memory is taken; `growth` adds to lists; `steps` has one step, with DEF FN
+//!   and POKE, and `run` all.
 #![tactic(auto)]
 
 mod assignments;
@@ -21,6 +22,7 @@ mod growth;
 mod items;
 mod jumps;
 mod lists;
+mod memory;
 mod opened;
 mod outcome;
 mod outputs;

@@ -1,13 +1,13 @@
 //! What is open: loops of FOR, and calls of GOSUB.
 
 ghost use Rattle.std.specs.Prelude.{◌≡◌, ◌<◌, ◌≤◌, ◌+◌, ◌∷◌, None, MatchOption, length, nat_le, reverse};
-ghost use Rattle.pr_run.specs.Opened.{caller_of, is_wanted, loop_of, open_size, stack_limit, stack_size};
+ghost use Rattle.pr_run.specs.Opened.{caller_of, is_wanted, loop_of, open_size, stack_left, stack_limit, stack_size};
 ghost use Rattle.pr_run.specs.Seen.{FindsCaller, FindsLoop};
 
 use crate::place::Place;
 use pr_interpreter::{Name, Number, same_name};
 
-/// How many bytes of the machine's stack are surely free for what is open.
+/// How many bytes of the machine's stack are surely free for what is open, and for what waits in an expression.
 const STACK: usize = 162;
 
 /// How many bytes of it a loop takes.
@@ -99,6 +99,18 @@ fn open_size(open: &Open) -> usize
         Open::Looping(_) => LOOP,
         Open::Calling(_) => CALL,
     }
+}
+
+/// Returns how many bytes of the machine's stack are left for what waits in an expression.
+#[tactic(auto, unfolding(crate::specs::Opened::stack_left))]
+pub fn stack_left(opened: &[Open]) -> u8
+    ensures { result ≡ stack_left (reverse opened.now) }
+{
+    let mut left = STACK;
+    for open in opened {
+        left = left.saturating_sub(open_size(open));
+    }
+    left as u8
 }
 
 /// Returns whether the machine's stack surely has room for so many bytes more.

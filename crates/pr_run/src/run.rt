@@ -7,7 +7,8 @@ ghost use Rattle.pr_run.specs.Runs.{ending_in, run};
 ghost use Rattle.pr_run.specs.Endings.{is_memory};
 ghost use Rattle.pr_run.specs.Seen.{LeadsOn};
 
-use crate::ending::Ending;
+use crate::ending::{Ending, Refusal};
+use crate::memory::fits;
 use crate::outcome::Outcome;
 use crate::performed::Performed;
 use crate::programs::Program;
@@ -79,17 +80,28 @@ fn without_steps(program: &Program, run: &Run) -> Ending
 }
 
 /// Runs a program, for so many steps at most: a step is a statement, or goes from the end of a line to the next one.
-/// Returns what it performs, how it ends, and the line of the first POKE that it leaves out.
+/// Returns what it performs, how it ends, and the line of the first POKE that it leaves out. A program for which the
+/// machine may not have the memory is refused at its first byte.
 ///
 /// # Errors
 ///
 /// Memory ran out.
-#[tactic(auto, using(crate::proofs::StepLemmas::runs_on, crate::proofs::StepLemmas::runs_ended, crate::proofs::StepLemmas::runs_out), unfolding(crate::specs::Runs::run))]
+#[tactic(auto, using(crate::proofs::StepLemmas::run_begins, crate::proofs::StepLemmas::run_refused, crate::proofs::StepLemmas::runs_on, crate::proofs::StepLemmas::runs_ended, crate::proofs::StepLemmas::runs_out), unfolding(crate::specs::Runs::run))]
 pub fn run_program(alloc: Global, program: &Program, limit: u64) -> Result<Outcome, AllocError>
     ensures { IfOk result (λ outcome. outcome ≡ run limit program.now) }
 {
     let mut run = Run::new(alloc);
     let mut performed = Vec::new(alloc);
+    if !fits(program, &run) {
+        return Ok(Outcome {
+            performed: Sequence::from_vec(performed),
+            ending: Ending::Refused {
+                refusal: Refusal::FullMemory,
+                place: 0,
+            },
+            skipped_poke: None,
+        });
+    }
     let mut left = limit;
     'steps: while 0 < left {
         left -= 1;

@@ -14,10 +14,11 @@ use std::alloc::Global;
 pub struct Run {
     /// The place of the next statement.
     pub place: Place,
-    /// The variables that have a value.
     pub variables: Vec<Variable>,
     pub arrays: Arrays,
     pub functions: Vec<Function>,
+    /// How many bytes the strings of variables and elements take.
+    pub strings: u16,
     /// The loops and calls that are open, the last at the end.
     pub opened: Vec<Open>,
     /// How many items of DATA were read.
@@ -47,6 +48,7 @@ impl Run {
             variables: Vec::new(alloc),
             arrays: Arrays::new(alloc),
             functions: Vec::new(alloc),
+            strings: 0,
             opened: Vec::new(alloc),
             items_read: 0,
             files: Vec::new(alloc),
@@ -64,6 +66,7 @@ impl Run {
         self.variables.clear();
         self.arrays = Arrays::new(alloc);
         self.functions.clear();
+        self.strings = 0;
         self.opened.clear();
         self.items_read = 0;
     }

@@ -8,13 +8,14 @@ ghost use Rattle.pr_run.specs.Steps.{changed, define_error, define_statement, is
 ghost use Rattle.pr_run.specs.Steps.{poke_statement, step, turn, with_function};
 ghost use Rattle.pr_run.specs.Uses.{line_at, statement_place};
 
-use crate::assignments::{clear_statement, dim_statement, is_system, let_statement};
+use crate::assignments::{clear_statement, declare, dim_statement, is_system, let_statement};
 use crate::ending::{Ending, Refusal};
 use crate::growth::put;
 use crate::items::{read_statement, restore_statement};
 use crate::jumps::{
     for_statement, if_statement, jump, next_statement, on_statement, return_statement,
 };
+use crate::memory::need_memory;
 use crate::outputs::{
     Output, close_statement, command_statement, open_statement, print_file_statement,
     print_statement,
@@ -88,7 +89,7 @@ fn define_error(name: Name, variable: Name) -> Option<BasicError>
     None
 }
 
-/// Performs DEF FN.
+/// Performs DEF FN: there is a variable of its variable's name, too.
 #[tactic(auto, unfolding(crate::specs::Steps::define_statement))]
 fn define_statement(
     alloc: Global,
@@ -101,10 +102,11 @@ fn define_statement(
     ensures ok { OnOk result (define_statement program.now (state_of run.old) name variable nodes.now ≡ Ok (state_of run.new)) }
     ensures err { IfErr result (λ e. EndsAs e (define_statement program.now (state_of run.old) name variable nodes.now)) }
 {
+    let at = statement_use(program, run);
     if let Some(error) = define_error(name, variable) {
         return Err(Ending::Error {
             error,
-            line: line_at(program, run),
+            line: at.line,
         });
     }
     let Ok(copy) = Vec::from_slice(alloc, nodes) else {
@@ -115,7 +117,9 @@ fn define_statement(
         variable,
         value: Sequence::from_vec(copy),
     };
-    set_function(&mut run.functions, function)
+    declare(alloc, &mut run.variables, variable)?;
+    set_function(&mut run.functions, function)?;
+    need_memory(program, at, run)
 }
 
 /// Returns whether POKE to an address cannot change what is printed.

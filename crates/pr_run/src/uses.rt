@@ -50,6 +50,14 @@ pub fn halted(line: u16, halt: Halt) -> Ending
             refusal: Refusal::NotTaken,
             place,
         },
+        Halt::FullMemory(place) => Ending::Refused {
+            refusal: Refusal::FullMemory,
+            place,
+        },
+        Halt::FullStack(place) => Ending::Refused {
+            refusal: Refusal::FullStack,
+            place,
+        },
         Halt::Error(error) => Ending::Error { error, line },
         Halt::OutOfMemory => Ending::OutOfMemory,
     }

@@ -6,6 +6,8 @@ ghost use Rattle.pr_run.specs.Uses.{ending_of, line_at, statement_place, stateme
 ghost use Rattle.pr_run.specs.Worked.{number, truth, whole, worked};
 
 use crate::ending::Ending;
+use crate::memory::bytes_for_arrays;
+use crate::opened::stack_left;
 use crate::programs::Program;
 use crate::state::Run;
 use crate::uses::{Use, ending_of, first_place, halted, number_of, truth_of, whole_of};
@@ -70,12 +72,16 @@ pub fn worked(
     ensures err { IfErr result (λ e. EndsAs e (worked program.now (state_of run.old) nodes.now)) }
 {
     let line = line_at(program, run);
+    let memory = bytes_for_arrays(program, run);
+    let stack = stack_left(run.opened.as_slice());
     let scope = Scope {
         text: program.text.as_slice(),
         variables: run.variables.as_slice(),
         functions: run.functions.as_slice(),
         column: if run.at_left { Some(0) } else { None },
         has_sent: run.has_sent,
+        memory,
+        stack,
     };
     match evaluate(alloc, &scope, &mut run.arrays, nodes) {
         Ok(value) => Ok(value),

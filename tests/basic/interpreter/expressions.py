@@ -4,7 +4,6 @@ from __future__ import annotations
 
 from collections.abc import Callable
 from dataclasses import dataclass
-from functools import cached_property
 from typing import TYPE_CHECKING, Union
 
 from .text import Name
@@ -50,12 +49,13 @@ class Expression:
         raise NotImplementedError
 
     @property
-    def gives_text(self) -> bool:
+    def makes_text(self) -> bool:
+        """Whether it gives a string that the machine makes for the expression."""
         return False
 
-    def strings(self) -> tuple[int, int]:
-        """How many strings the machine has to keep at once while it works this out, and how many are left: 1 or 0."""
-        return 0, 0
+    @property
+    def gives_text(self) -> bool:
+        return self.makes_text
 
 
 @dataclass(frozen=True)
@@ -64,15 +64,10 @@ class Whole(Expression):
 
     part: Expression
 
-    @cached_property
-    def is_too_complex(self) -> bool:
-        """Whether the machine would have to keep more strings at once than it can."""
-        return self.part.strings()[0] > 3
-
     def evaluate(self, run: Run) -> Value:
-        if self.is_too_complex:
-            raise BasicError("FORMULA TOO COMPLEX")
-        return self.part.evaluate(run)
+        found = self.part.evaluate(run)
+        run.free(self.part)
+        return found
 
 
 @dataclass(frozen=True)
@@ -82,17 +77,15 @@ class Literal(Expression):
     written: Union[Constant, bytes]
 
     def evaluate(self, run: Run) -> Value:
+        run.need_stack(self.place)
         if isinstance(self.written, bytes):
-            return self.written
+            return run.made(self.written)
         with used_at(self.place):
             return self.written.number
 
     @property
-    def gives_text(self) -> bool:
+    def makes_text(self) -> bool:
         return isinstance(self.written, bytes)
-
-    def strings(self) -> tuple[int, int]:
-        return (1, 1) if self.gives_text else (0, 0)
 
 
 @dataclass(frozen=True)
@@ -102,28 +95,57 @@ class Variable(Expression):
     name: Name
     indices: tuple[Expression, ...] = ()
 
+    def is_system(self) -> bool:
+        return not self.indices and (self.name.letters, self.name.kind) in (("TI", ""), ("TI", "$"), ("ST", ""))
+
     @property
     def gives_text(self) -> bool:
         return self.name.kind == "$"
 
-    def is_system(self) -> bool:
-        return not self.indices and (self.name.letters, self.name.kind) in (("TI", ""), ("TI", "$"), ("ST", ""))
+    def whole_indices(self, run: Run, *waiting: int) -> tuple[int, ...]:
+        """Its indices, where so many bytes wait on the machine's stack while each is worked out."""
+        with used_at(self.place):
+            return tuple(whole(run.number(it, size), 0, 32767) for it, size in zip(self.indices, waiting))
+
+    def named_indices(self, run: Run) -> tuple[int, ...]:
+        """Its indices where a statement names it, which has the stack for five."""
+        if len(self.indices) > 5:
+            raise Refused(self.place, "the stack may be full")
+        return self.whole_indices(run, *(0 for _ in self.indices))
 
     def slot(self, run: Run) -> Slot:
-        """Where its value is kept."""
+        """Where its value is kept that a statement names."""
         if not self.indices:
             return run.variables, self.name
-        with used_at(self.place):
-            return run.element(self.name, tuple(whole(run.number(it), 0, 32767) for it in self.indices), self.place)
+        return run.element(self.name, self.named_indices(run), self.place)
 
     def evaluate(self, run: Run) -> Value:
+        if self.indices:
+            waiting = (14 + 2 * at for at in range(len(self.indices)))
+            values, key = run.element(self.name, self.whole_indices(run, *waiting), self.place)
+            return values.get(key, self.name.first_value)
+        run.need_stack(self.place)
         if self.is_system():
             return run.system_variable(self.name, self.place)
-        values, key = self.slot(run)
-        return values.get(key, b"" if self.name.kind == "$" else ZERO)
+        return run.variables.get(self.name, self.name.first_value)
 
-    def strings(self) -> tuple[int, int]:
-        return max((it.strings()[0] for it in self.indices), default=0), 0
+
+@dataclass(frozen=True)
+class Group(Expression):
+    """What is in parentheses."""
+
+    part: Expression
+
+    def evaluate(self, run: Run) -> Value:
+        return run.value(self.part, 5)
+
+    @property
+    def makes_text(self) -> bool:
+        return self.part.makes_text
+
+    @property
+    def gives_text(self) -> bool:
+        return self.part.gives_text
 
 
 @dataclass(frozen=True)
@@ -134,14 +156,12 @@ class Unary(Expression):
     operand: Expression
 
     def evaluate(self, run: Run) -> Value:
-        value = run.number(self.operand)
+        value = run.number(self.operand, WAITING)
         with used_at(self.place):
             return negated(value) if self.word == "-" else exact(~signed_whole(value))
 
-    def strings(self) -> tuple[int, int]:
-        return self.operand.strings()[0], 0
 
-
+WAITING = 13  # bytes of the stack that an operator takes until its last operand has a value
 OPERATIONS: dict[str, Callable[[Number, Number], Number]] = {
     "^": power,
     "*": multiply,
@@ -165,26 +185,23 @@ class Binary(Expression):
         left = self.left.evaluate(run)
         if isinstance(left, bytes) and self.word in OPERATIONS and self.word != "+":
             raise BasicError("TYPE MISMATCH")
-        right = self.right.evaluate(run)
+        right = run.value(self.right, WAITING)
+        run.free(self.left, self.right)
         with used_at(self.place):
             if isinstance(left, bytes) and isinstance(right, bytes):
-                return self.of_strings(left, right)
+                return self.of_strings(run, left, right)
             if isinstance(left, bytes) or isinstance(right, bytes):
                 raise BasicError("TYPE MISMATCH")
             if self.word in OPERATIONS:
                 return OPERATIONS[self.word](left, right)
             return self.compared(left.orders(right))
 
-    @property
-    def gives_text(self) -> bool:
-        return self.word == "+" and self.left.gives_text
-
-    def of_strings(self, left: bytes, right: bytes) -> Value:
+    def of_strings(self, run: Run, left: bytes, right: bytes) -> Value:
         if self.word != "+":
             return self.compared({"<" if left < right else ">" if left > right else "="})
         if len(left + right) > 255:
             raise BasicError("STRING TOO LONG")
-        return left + right
+        return run.made(left + right)
 
     def compared(self, orders: set[str]) -> Number:
         """-1 where the comparison accepts all that may be, 0 where it accepts nothing of it."""
@@ -193,9 +210,9 @@ class Binary(Expression):
             raise NotCertain
         return exact(-1 if accepted else 0)
 
-    def strings(self) -> tuple[int, int]:
-        (most, left), (more, _) = self.left.strings(), self.right.strings()
-        return max(most, left + more, self.gives_text), int(self.gives_text)
+    @property
+    def makes_text(self) -> bool:
+        return self.word == "+" and self.left.gives_text
 
 
 @dataclass(frozen=True)
@@ -206,24 +223,19 @@ class Call(Expression):
     arguments: tuple[Expression, ...]
 
     def evaluate(self, run: Run) -> Value:
-        values = [it.evaluate(run) for it in self.arguments]
+        values = [run.value(it, 4 + 4 * at) for at, it in enumerate(self.arguments, 1)]
         if any(isinstance(it, bytes) != (self.word in OF_STRINGS and not at) for at, it in enumerate(values)):
             raise BasicError("TYPE MISMATCH")
         if self.word in INEXACT:
             raise Refused(self.place, f"{self.word} is not certain")
         with used_at(self.place):
-            return run.column() if self.word == "POS" else FUNCTIONS[self.word](*values)
+            found = run.column() if self.word == "POS" else FUNCTIONS[self.word](*values)
+        run.free(*self.arguments)
+        return run.made(found) if isinstance(found, bytes) else found
 
     @property
-    def gives_text(self) -> bool:
+    def makes_text(self) -> bool:
         return self.word.endswith("$")
-
-    def strings(self) -> tuple[int, int]:
-        most = held = 0
-        for it in self.arguments:
-            more, left = it.strings()
-            most, held = max(most, held + more), held + left
-        return max(most, self.gives_text), int(self.gives_text)
 
 
 OF_STRINGS = ("LEN", "VAL", "ASC", "LEFT$", "RIGHT$", "MID$")
@@ -270,19 +282,13 @@ class OwnCall(Expression):
     argument: Expression
 
     def evaluate(self, run: Run) -> Value:
-        value = run.number(self.argument)
+        value = run.number(self.argument, 9)
         if self.name not in run.functions:
             raise BasicError("UNDEF'D FUNCTION")
-        if run.depth > 8:
-            raise Refused(self.place, "the stack may be full")
+        run.need_stack(self.place, 16)
         parameter, body = run.functions[self.name]
-        before = run.variables.get(parameter, ZERO)
+        before = run.variable(parameter)
         run.variables[parameter] = value
-        run.depth += 1
-        found = run.number(body)
-        run.depth -= 1
+        found = run.number(body, 16)
         run.variables[parameter] = before
         return found
-
-    def strings(self) -> tuple[int, int]:
-        return self.argument.strings()[0], 0

@@ -6,7 +6,7 @@ import re
 from collections.abc import Callable, Sequence
 from typing import Optional, TypeVar
 
-from .expressions import COUNTS, FUNCTIONS, INEXACT, Binary, Call, Expression, Literal, OwnCall, Unary, Variable, Whole
+from .expressions import COUNTS, FUNCTIONS, INEXACT, Binary, Call, Expression, Group, Literal, OwnCall, Unary, Variable, Whole
 from .statements import (
     ALONE,
     Assign,
@@ -99,7 +99,7 @@ class Reader:
         if lexeme.word in ("-", "NOT"):
             return Unary(lexeme.place, lexeme.word, self.operation((MINUS if lexeme.word == "-" else NOT) + 1))
         if lexeme.word == "(":
-            found = self.operation(1)
+            found = Group(lexeme.place, self.operation(1))
             self.require(")")
             return found
         if isinstance(lexeme.value, (Constant, bytes)) and lexeme.word in ("CONSTANT", "TEXT"):

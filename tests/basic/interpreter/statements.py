@@ -224,8 +224,7 @@ class Read(Statement):
 
     def perform(self, run: Run) -> Optional[int]:
         for it in self.targets:
-            values, key = it.slot(run)
-            values[key] = run.next_item(it.name)
+            run.read(it)
         return None
 
 
@@ -240,7 +239,7 @@ class Restore(Statement):
 
 @dataclass(frozen=True)
 class Dim(Statement):
-    """DIM; a variable without indices changes nothing."""
+    """DIM; a variable without indices is there after it."""
 
     variables: Sequence[Variable]
 
@@ -248,8 +247,9 @@ class Dim(Statement):
         for it in self.variables:
             if not it.indices:
                 run.target(it)
+                run.declare(it.name, it.place)
             else:
-                sizes = tuple(run.whole(size, 32767) for size in it.indices)
+                sizes = it.named_indices(run)
                 if it.name in run.arrays:
                     raise BasicError("REDIM'D ARRAY")
                 run.make_array(it.name, sizes, it.place)
@@ -281,6 +281,8 @@ class Define(Statement):
                 raise BasicError("SYNTAX" if kind == "%" else "TYPE MISMATCH")
         run.target(Variable(self.place, self.parameter))
         run.functions[self.name] = self.parameter, self.body
+        run.declare(self.parameter, self.place)
+        run.need_memory(self.place)
         return None
 
 

@@ -7,7 +7,7 @@ from collections.abc import Iterator
 from dataclasses import dataclass
 from typing import NamedTuple, Optional, Union
 
-from .values import CONSTANT, Constant, Refused, constant_of
+from .values import CONSTANT, ZERO, Constant, Refused, Value, constant_of
 
 WORDS = """END FOR NEXT DATA INPUT# INPUT DIM READ LET GOTO RUN IF RESTORE GOSUB RETURN REM STOP ON WAIT LOAD SAVE VERIFY DEF
 POKE PRINT# PRINT CONT LIST CLR CMD SYS OPEN CLOSE GET NEW TAB( TO FN SPC( THEN NOT STEP + - * / ^ AND OR > = < SGN INT ABS
@@ -47,11 +47,22 @@ def string_of(text: bytes, place: int) -> bytes:
     return bytes(found)
 
 
+def size_of(text: bytes) -> int:
+    """How many bytes a program's text has, where each name of a key in quotes is as many as it stands for."""
+    keys = (it for quoted in re.findall(rb'"[^"\r\n]*', text) for it in KEY.finditer(quoted))
+    return len(text) + sum(int(it[1] or 1) - len(it[0]) for it in keys)
+
+
 class Name(NamedTuple):
     """A variable's name as far as it counts: two characters, and `$` or `%` or nothing."""
 
     letters: str
     kind: str
+
+    @property
+    def first_value(self) -> Value:
+        """Its value before it is given one."""
+        return b"" if self.kind == "$" else ZERO
 
 
 @dataclass(frozen=True)

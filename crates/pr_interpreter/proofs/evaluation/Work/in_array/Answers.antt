@@ -10,6 +10,6 @@ returns-in_ok-give-in-Some c =
     let found =
     c.in_ok-found.ensures
     ∙ ap (λ (arrays : List Array). element_of (array_of c.args.name arrays) c.args.indices.now) c.as_slice.ensures in
-    in_array_some c.args.place c.args.name c.args.indices.now (seen c.args.self.now) (seen c.give.new.self)
+    in_array_some c.args.room c.args.place c.args.name c.args.indices.now (seen c.args.self.now) (seen c.give.new.self)
     (array_of c.args.name c.args.self.now.arrays.list) c.in-Some.given (sym c.in-Some.is ∙ found)
     c.in_ok-give-in-Some.ensures
