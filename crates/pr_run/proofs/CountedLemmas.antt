@@ -362,7 +362,7 @@ part_sound p u s (Spaces nodes) h =
     on_then (After None) (After None) (worked p s nodes) (λ v t. valued t _) (worked_sound None p s nodes h)
     (λ r k. valued_sound None r.after _ k)
 part_sound p u s Comma h = valued_sound None s _ h
-part_sound p u s Semicolon h = valued_sound None s (Ok []) h
+part_sound p u s Semicolon h = valued_sound {A = List ℕ} None s (Ok []) h
 
 with_part_sound : (p : Program) (before : List ℕ) (s : State) (i : Item) → Sound None s
     → IfOk (with_part p before s i) (After None)
