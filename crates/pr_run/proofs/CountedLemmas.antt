@@ -1,4 +1,4 @@
-use Rattle.std.proofs.Common.{inr, ℕ, zero, suc, ◌+◌, ◌==◌, ◌||◌, not, Bool, true, false, arith, refl, sym, subst, List}
+use Rattle.std.proofs.Common.{inr, ℕ, zero, suc, ◌+◌, ◌==◌, ◌||◌, Bool, true, false, arith, refl, sym, subst, List}
 use Rattle.std.proofs.Common.{[], ◌∷◌, ◌++◌, take, drop, nat_le, nat_lt, Option, Some, None, Ok, Err, IfOk}
 use Rattle.pr_basic.specs.declared.statement.Statement.{Statement as Written}
 use Rattle.pr_basic.specs.declared.statement.Statement.TheVariants.{Cmd, OpenFile, Print as Printed, PrintTo}
@@ -152,6 +152,7 @@ define_sound p s name variable nodes h =
     define_or_sound p (statement_use p s) (define_error name variable)
     (record { name = name; variable = variable; value = nodes }) s h
 
+-- nothing is held at first
 none_counted : Counted [] [] 0
 none_counted = record { all = refl; kinds = refl; few = omega arith }
 
@@ -563,6 +564,7 @@ step_sound : (p : Program) (s : State) → Sound None s → SoundTurn (step p s)
 unfolding step
 step_sound p s h = found_sound p s (found_at p.lines s.place) h
 
+-- each state that a run comes to is sound
 state_sound : (p : Program) (n : ℕ) (s : State) → IsAfter p n s → Sound None s
 state_sound p zero s e = subst (λ (t : State). Sound None t) (sym e) (none_counted, tt)
 state_sound p (suc n) s r =

@@ -23,19 +23,23 @@ fresh : (f : Value → ℕ) (first : Value) (n : ℕ) → f first ≡ 0 → sum_
 fresh f first n none =
     let product : n * f first ≡ n * 0 = ap (λ (k : ℕ). n * k) none in omega (arith, sum_by-replicate f n first, product)
 
+-- elements up to a place
 abbrev filled : Value → ℕ → List Value → List Value
 filled first n es = es ++ replicate (n + 1 - length es) first
 
+-- the place is among them
 filled_size : (first : Value) (n : ℕ) (es : List Value) → n < length (filled first n es)
 filled_size first n es =
     let all = length-append es (replicate (n + 1 - length es) first) in
     let more = length-replicate (n + 1 - length es) first in omega arith
 
+-- and has the same value
 filled_at : (first : Value) (n : ℕ) (es : List Value) → get_or (filled first n es) n first ≡ get_or es n first
 filled_at first n es = go (within_or_past n (length es))
   where
     within_or_past : (i k : ℕ) → (i < k) ⊎ (k ≤ i)
     within_or_past i k = grind arith
+
     go : (n < length es) ⊎ (length es ≤ n) → get_or (filled first n es) n first ≡ get_or es n first
     go (inl within) = get_or_append_left es (replicate (n + 1 - length es) first) first n within
     go (inr past) =
@@ -47,6 +51,7 @@ filled_at first n es = go (within_or_past n (length es))
 abbrev Parts : ℕ → ℕ → ℕ → ℕ → Type 0
 Parts old new before after = (rest : ℕ) × (before ≡ old + rest) × (after ≡ new + rest)
 
+-- an element has another value
 element_parts : (f : Value → ℕ) (first v : Value) (n : ℕ) (es : List Value) → f first ≡ 0
     → Parts (f (get_or es n first)) (f v) (sum_by f es) (sum_by f (with_element first n v es))
 element_parts f first v n es none =
@@ -67,6 +72,7 @@ in_variables g vs = sum_by (λ v. g v.name.kind v.value) vs
 abbrev pub in_arrays : (Kind → Value → ℕ) → List Array → ℕ
 in_arrays g list = sum_by (λ a. sum_by (g a.name.kind) a.elements) list
 
+-- kinds that are the same are one
 kind_is : (a b : Kind) → same_kind a b ≡ true → a ≡ b
 kind_is Numeric Numeric e = refl
 kind_is Numeric Short e = absurd (cc)
@@ -84,6 +90,7 @@ unfolding same_name
 name_kind a b e = kind_is a.kind b.kind (and_parts _ _ e).1
 
 module _ (g : Kind → Value → ℕ) (none : (k : Kind) → g k (first_value k) ≡ 0) where
+  -- a variable has another value
   pub variable_parts : (name : Name) (v : Value) (vs : List Variable)
       → Parts (g name.kind (variable_value name vs)) (g name.kind v) (in_variables g vs)
       (in_variables g (with_variable name v vs))
@@ -134,6 +141,7 @@ module _ (g : Kind → Value → ℕ) (none : (k : Kind) → g k (first_value k)
       let r = element_parts (g x.name.kind) (first_value x.name.kind) v n x.elements (none x.name.kind) in
       (r.0 + in_arrays g xs, before ∙ omega (arith, r.1, old), after ∙ omega (arith, r.2, new))
 
+  -- an element of the array of a name has another value
   pub array_parts : (name : Name) (n : ℕ) (v : Value) (a : Array) (list : List Array) → array_of name list ≡ Some a
       → Parts (g name.kind (element_at a n)) (g name.kind v) (in_arrays g list)
       (in_arrays g (replaced (λ x. same_name name x.name) (array_with n v a) list))
@@ -174,6 +182,7 @@ odd_byte Letters v = 0
 odd_byte Numeric v = string_bytes v
 odd_byte Short v = string_bytes v
 
+-- first values have neither
 pub first_none : (k : Kind) → each_byte k (first_value k) ≡ 0
 first_none Numeric = refl
 first_none Short = refl

@@ -52,6 +52,7 @@ Has (Some name) list = (a : Array) × (array_of name list ≡ Some a)
 abbrev pub Sound : Option Name → State → Type 0
 Sound wanted s = Counted s.variables s.arrays.list s.strings × Has wanted s.arrays.list
 
+-- one more array without elements holds nothing
 added_counted : (vs : List Variable) (a : Array) (list : List Array) (strings : ℕ) → a.elements ≡ []
     → Counted vs list strings → Counted vs (list ++ a ∷ []) strings
 added_counted vs a list strings e h = record {
@@ -60,6 +61,7 @@ added_counted vs a list strings e h = record {
   few = h.few;
 }
 
+-- the array of a name is still the first one
 found_first : (name : Name) (a b : Array) (list : List Array) → array_of name list ≡ Some a
     → array_of name (list ++ b ∷ []) ≡ Some a
 found_first name a b [] e = absurd (cc)
@@ -83,6 +85,7 @@ rest_stays wanted s a list e h =
 
 -- ---- what is worked out
 
+-- what is true of what is worked out, and leads on
 pub on_and : {A B : Type 0} (P : A → Type 0) (R : B → Type 0) (w : Worked A) (more : A → Worked B) → IfOk w P
     → ((a : A) → P a → IfOk (more a) R) → IfOk (and_then w more) R
 on_and P R (Ok a) more h next = next a h
@@ -110,6 +113,7 @@ on_any (Err ending) = tt
 abbrev pub After : {A : Type 0} → Option Name → Valued A → Type 0
 After wanted r = Sound wanted r.after
 
+-- what is worked out of a value changes no state
 pub valued_sound : {A : Type 0} (wanted : Option Name) (s : State) (w : Worked A) → Sound wanted s
     → IfOk (valued s w) (After wanted)
 valued_sound wanted s (Ok a) h = h
@@ -120,6 +124,7 @@ out_sound : (wanted : Option Name) (line : ℕ) (s : State) (arrays : Arrays) (v
 out_sound wanted line s arrays (Ok v) h = h
 out_sound wanted line s arrays (Err halt) h = tt
 
+-- an expression at most makes arrays
 pub worked_sound : (wanted : Option Name) (p : Program) (s : State) (nodes : List Placed) → Sound wanted s
     → IfOk (worked p s nodes) (After wanted)
 unfolding worked
@@ -303,6 +308,7 @@ StoresIn name n v s found = Room (counted_on name (element_value name n found) v
     → Counted s.variables (with_element_of name n v found s.arrays.list)
     (counted_on name (element_value name n found) v s.strings)
 
+-- a value is kept
 pub stored_sound : (name : Name) (at : Option ℕ) (v : Value) (s : State) → Sound (wanted_by name at) s
     → odd_byte name.kind v ≡ 0 → Room (strings_with name at v s) v → Sound None (stored name at v s)
 unfolding with_value_at
@@ -341,6 +347,7 @@ memory_sound p u s h =
       | inr miss ↦ rw miss tt
     ]
 
+-- a value is assigned
 pub assigned_sound : (p : Program) (u : Use) (name : Name) (at : Option ℕ) (v : Value) (s : State)
     → Sound (wanted_by name at) s → IfOk (assigned p u name at v s) (Sound None)
 assigned_sound p u name at v s h =

@@ -68,11 +68,12 @@ IsAfter p zero s = s ≡ first_state
 IsAfter p (suc n) s = (before : State) × (performed : List Performed)
     × IsAfter p n before × (step p before ≡ Goes s performed)
 
--- how many bytes the strings have that variables and elements of arrays hold
+-- how many bytes the strings have that variables and elements of arrays hold: elements after the last one are still
+-- 0 or empty
 abbrev pub held_bytes : State → ℕ
 held_bytes s = sum_by (λ v. string_bytes v.value) s.variables
     + sum_by (λ a. sum_by string_bytes a.elements) s.arrays.list
 
--- in each state that a run comes to, exactly these are counted
+-- in each state that a run comes to, exactly these are counted: a run ends before there are too many to count
 abbrev pub StringsAreCounted : Type 0
 StringsAreCounted = (p : Program) (n : ℕ) (s : State) → IsAfter p n s → s.strings ≡ held_bytes s

@@ -16,8 +16,8 @@ pub fn statements_come_from_their_lines()
     ensures { AllComeFrom }
 {}
 
-/// A law: in each state that a run comes to, the bytes that are counted for strings are exactly those of the strings that
-/// variables and elements of arrays hold.
+/// A law: in each state that a run comes to, the bytes that are counted for strings are exactly those of the strings
+/// that variables and elements of arrays hold.
 pub fn strings_are_counted()
     ensures { StringsAreCounted }
 {}
