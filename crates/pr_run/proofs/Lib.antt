@@ -1,7 +1,11 @@
 pub mod ArrayLemmas
 pub mod CountLemmas
+pub mod CountedLemmas
 pub mod DataLemmas
 pub mod ElementLemmas
+pub mod GrownLemmas
+pub mod HeldLemmas
+pub mod KeptLemmas
 pub mod LiteralLemmas
 pub mod OpenedLemmas
 pub mod OriginLemmas

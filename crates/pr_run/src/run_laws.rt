@@ -1,7 +1,7 @@
 //! Laws of the definitions, with nothing to run.
 
 ghost use Rattle.pr_run.specs.Plain.{CharactersAreConstant, DigitsAreNumbers, PlainRuns, StringsAreConstant};
-ghost use Rattle.pr_run.specs.RunLaws.{AllComeFrom, LimitsAgree, LimitsGoOn};
+ghost use Rattle.pr_run.specs.RunLaws.{AllComeFrom, LimitsAgree, LimitsGoOn, StringsAreCounted};
 ghost use Rattle.pr_run.specs.Spelled.{LinesAreRead};
 
 /// A law: a greater limit of steps changes no run that does not use up a smaller one, and what is performed within a
@@ -14,6 +14,12 @@ pub fn limits_agree()
 /// A law: each output statement that a run performs comes from a statement of its kind, in the line of its number.
 pub fn statements_come_from_their_lines()
     ensures { AllComeFrom }
+{}
+
+/// A law: in each state that a run comes to, the bytes that are counted for strings are exactly those of the strings
+/// that variables and elements of arrays hold.
+pub fn strings_are_counted()
+    ensures { StringsAreCounted }
 {}
 
 /// A law: digits of at most 255, a string between quotes, and CHR$ of such digits are constants.
