@@ -2,7 +2,10 @@
 
 ghost use Rattle.pr_run.specs.Plain.{CharactersAreConstant, DigitsAreNumbers, PlainRuns, StringsAreConstant};
 ghost use Rattle.pr_run.specs.RunLaws.{AllComeFrom, LimitsAgree, LimitsGoOn};
+ghost use Rattle.pr_run.specs.ScriptTexts.{TextsSayTheSame};
 ghost use Rattle.pr_run.specs.Spelled.{LinesAreRead};
+
+use pr_basic::laws::lexemes_are_found;
 
 /// A law: a greater limit of steps changes no run that does not use up a smaller one, and what is performed within a
 /// smaller one is performed first within a greater one.
@@ -34,3 +37,10 @@ pub fn plain_programs_run_in_order()
 pub fn script_lines_are_read()
     ensures { LinesAreRead }
 {}
+
+/// A law: a script whose lines are numbered in ascending order is a program that says the same statements.
+pub fn numbered_scripts_are_programs()
+    ensures { TextsSayTheSame }
+{
+    lexemes_are_found();
+}

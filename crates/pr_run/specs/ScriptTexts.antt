@@ -1,0 +1,76 @@
+-- Trusted: which texts are scripts and programs alike, and that they then say the same.
+use Rattle.std.specs.Prelude.{ℕ, ◌≡◌, ◌⊎◌, ◌+◌, ◌≤◌, ◌==◌, ◌&&◌, ⊤, IsTrue, Bool, true, false, not, List, [], ◌∷◌}
+use Rattle.std.specs.Prelude.{length, map, Ok}
+use Rattle.std.specs.List.{filter, list_all}
+use Rattle.pr_base.specs.Lines.{lines_of}
+use Rattle.pr_basic.specs.Grammar.{IsScript, without_return}
+use Rattle.pr_basic.specs.Lexemes.{AreLexemes, CloseParen, Colon, Comma, Digits, Lexeme, OpenParen, Quoted, Remark}
+use Rattle.pr_basic.specs.Lexemes.{Semicolon, Stray, Word}
+use Rattle.pr_basic.specs.LineAt.{HasBasicNumber}
+use Rattle.pr_basic.specs.declared.statement.Statement.{Statement as Output}
+use Rattle.pr_basic.specs.declared.statement.Statement.TheVariants.{CloseFile, Cmd, OpenFile, Print, PrintTo, Rem}
+use Rattle.pr_interpreter.specs.declared.program.ProgramLine.{ProgramLine}
+use Rattle.pr_interpreter.specs.Programs.{program}
+use Rattle.pr_run.specs.declared.performed.Performed.{Performed}
+use Rattle.pr_run.specs.Plain.{LinesSay}
+
+-- ---- texts that are both
+
+-- a byte that scripts and programs take alike: no tab (9), and no carriage return (13)
+abbrev pub is_typed : ℕ → Bool
+is_typed b = not (b == 9) && not (b == 13)
+
+-- a number has at most 255 digits
+abbrev pub IsShort : Lexeme → Type 0
+IsShort (Digits ds) = length ds ≤ 255
+IsShort (Word k) = ⊤
+IsShort Remark = ⊤
+IsShort (Quoted s) = ⊤
+IsShort Comma = ⊤
+IsShort Semicolon = ⊤
+IsShort Colon = ⊤
+IsShort OpenParen = ⊤
+IsShort CloseParen = ⊤
+IsShort Stray = ⊤
+
+abbrev pub AreShort : List Lexeme → Type 0
+AreShort [] = ⊤
+AreShort (l ∷ ls) = IsShort l × AreShort ls
+
+-- a line, without its end, that scripts and programs take alike
+pub record IsTypedLine (line : List ℕ) : Type 0 where
+  pub bytes : IsTrue (list_all is_typed line)
+  pub short : (lexemes : List Lexeme) → AreLexemes line lexemes → AreShort lexemes
+
+-- a blank
+abbrev pub is_blank : ℕ → Bool
+is_blank b = b == 32
+
+-- each line is blank or begins with a number, the first with at least so much and each other with more than the one
+-- before it
+abbrev pub AreNumbered : ℕ → List (List ℕ) → Type 0
+AreNumbered least [] = ⊤
+AreNumbered least (l ∷ ls) = IsTypedLine (without_return l)
+    × ((IsTrue (list_all is_blank (without_return l)) × AreNumbered least ls)
+    ⊎ ((n : ℕ) × HasBasicNumber (without_return l) n × (least ≤ n) × AreNumbered (n + 1) ls))
+
+-- ---- what they say
+
+-- a remark performs nothing
+abbrev pub is_performed : Output → Bool
+is_performed Rem = false
+is_performed (OpenFile file device second) = true
+is_performed (Cmd file line) = true
+is_performed (PrintTo file line) = true
+is_performed (Print line) = true
+is_performed (CloseFile file) = true
+
+abbrev pub statement_of : Performed → Output
+statement_of d = d.statement
+
+-- a text that is a script of some statements, and whose lines are numbered in order, is a program that says the same
+-- statements but for remarks
+abbrev pub TextsSayTheSame : Type 0
+TextsSayTheSame = (text : List ℕ) (ss : List Output) → IsScript text ss → AreNumbered 0 (lines_of text)
+    → (lines : List ProgramLine) × (said : List Performed) × (program text ≡ Ok lines) × LinesSay text lines said
+    × (map statement_of said ≡ filter is_performed ss)
