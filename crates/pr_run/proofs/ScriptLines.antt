@@ -5,12 +5,13 @@ use Rattle.std.specs.Prelude.{codes, nat_lt, slice_range}
 use Rattle.std.specs.Char.{to_ascii_lowercase}
 use Rattle.std.specs.List.{filter, list_all, position_or_len}
 use Rattle.std.proofs.lemmas.Bool.{and_parts, eq-eqb, eqb-true, le-ltb, leb-true, lt-ltb, ne_eqb}
-use Rattle.std.proofs.lemmas.List.{take_at}
+use Rattle.std.proofs.lemmas.List.{nil_from_length, take_at}
 use Rattle.pr_base.specs.Digits.{is_digit, number_after, number_of}
 use Rattle.pr_basic.specs.Grammar.{AreParts, HasNumber, IsLine, IsPrinting, IsStatement, parts}
 use Rattle.pr_basic.specs.LexemeLaws.{LexemesAreFound}
 use Rattle.pr_basic.specs.Lexemes.{AreLexemes, CloseParen, Colon, Comma, Digits, IsLexeme, IsWord, Lexeme as Script}
 use Rattle.pr_basic.specs.Lexemes.{OpenParen, Quoted, Remark as Remarked, Semicolon, Spells, Stray, Word as Keywords}
+use Rattle.pr_basic.specs.Lexemes.{is_space}
 use Rattle.pr_basic.specs.LineAt.{HasBasicNumber}
 use Rattle.pr_basic.specs.Text.{Text as Written}
 use Rattle.pr_basic.specs.declared.lexemes.Keyword.{Keyword}
@@ -23,6 +24,7 @@ use Rattle.pr_interpreter.specs.declared.lexemes.Lexeme.{Lexeme}
 use Rattle.pr_interpreter.specs.declared.lines.Line.{Line}
 use Rattle.pr_interpreter.specs.declared.program.ProgramLine.{ProgramLine}
 use Rattle.pr_interpreter.specs.declared.statements.PlacedStatement.{PlacedStatement}
+use Rattle.pr_interpreter.specs.declared.symbols.Symbol.{Symbol}
 use Rattle.pr_interpreter.specs.declared.symbols.Writing.TheVariants.{Typed}
 use Rattle.pr_interpreter.specs.Lexemes.{lexemes, line_lexemes}
 use Rattle.pr_interpreter.specs.Lines.{blanks, front, is_mark, is_text, line_in, line_number, next_number}
@@ -33,7 +35,7 @@ use Rattle.pr_run.specs.Plain.{LineSays}
 use Rattle.pr_run.specs.ScriptTexts.{AreShort, IsTypedLine, is_blank, is_performed, is_typed}
 use Rattle.pr_run.proofs.ScriptLexemes.{lexemes_match}
 use Rattle.pr_run.proofs.ScriptParts.{Cut, cut_parts, no_parts, parts_plain, parts_spelled, plain_known, remark_last}
-use Rattle.pr_run.proofs.ScriptSymbols.{AreBlank, AreKnown, letters_cut, no_symbols, part_at, spaces_blank, spelled_of}
+use Rattle.pr_run.proofs.ScriptSymbols.{AreBlank, AreKnown, IsKnown, letters_cut, no_symbols, part_at, spaces_blank, spelled_of}
 use Rattle.pr_run.proofs.ScriptSymbols.{symbols_blank, symbols_found, typed_parts}
 use Rattle.pr_run.proofs.SpelledLemmas.{lines_read}
 
@@ -327,6 +329,160 @@ only_blanks (b ∷ bs) e = rw (e.0, only_blanks bs e.1) (omega arith)
 same_itself : (n : ℕ) → (n == n) ≡ true
 same_itself n = eq-eqb n n refl
 
+-- blanks are spaces
+blanks_spaces : (bs : List ℕ) → list_all is_blank bs ≡ true → list_all is_space bs ≡ true
+blanks_spaces [] e = refl
+blanks_spaces (b ∷ bs) e =
+    let p = and_parts (is_blank b) (list_all is_blank bs) e in rw (p.0, blanks_spaces bs p.1) refl
+
 pub blank_line : (start : ℕ) (row : List ℕ) → list_all is_blank row ≡ true → line_in start row ≡ no_line
 unfolding line_in
 blank_line start row e = rw (only_blanks row (all_blank row e), same_itself (length row)) refl
+
+-- ---- what a line of a script is in a program
+
+-- no statements are read of nothing
+nothing_read : (end place : ℕ) → statements end (lexemes 0 (symbols Typed place 0 [])) ≡ read_all []
+unfolding further lexemes
+nothing_read end place = rw (no_symbols place 0) refl
+
+abbrev read_line : ℕ → List PlacedStatement → Result ProgramLine ProgramFault
+read_line n said = Ok (record { number = n; statements = said })
+
+-- a row is a line of a program that says output statements; with nothing after its number it says nothing
+pub record IsLineSaid (text : List ℕ) (place : ℕ) (row : List ℕ) (n : ℕ) (ss : List Output) : Type 0 where
+  pub line : Line
+  pub is : line_in place row ≡ some_line line
+  pub numbered : line.number ≡ n
+  pub said : List PlacedStatement
+  pub read : program_line text line ≡ read_line n said
+  pub says : LineSays text said (filter is_performed ss)
+  pub empty : (line.start == line.end) ≡ true → said ≡ []
+
+-- a row of a text, by what it begins with
+row_said : LexemesAreFound → (text row spaces ds after before back : List ℕ) (place n : ℕ) (rest : List Script)
+    (ss : List Output) → place ≡ length before → text ≡ before ++ (row ++ back) → row ≡ spaces ++ (ds ++ after)
+    → AreBlank spaces → 0 < length ds → list_all is_digit ds ≡ true → number_of ds ≡ n → n ≤ 63999
+    → list_all is_typed after ≡ true → AreShort rest → AreLexemes after rest → AreParts (parts rest) ss
+    → IsLineSaid text place row n ss
+unfolding program_line line_lexemes
+row_said found text row spaces ds after before back place n rest ss at is cut blank some digits number few typed short e
+    c =
+    let last = remark_last found rest after e in
+    let plain = parts_plain (parts rest) rest ss refl c last in
+    let known = plain_known rest plain in
+    let b = body_cut rest after typed (parts_start (parts rest) rest ss refl c) known e in
+    let more = b.0 in
+    let body = b.1 in
+    let small : number_of ds ≤ 63999 = omega arith in
+    let whole : row ≡ (spaces ++ (ds ++ more)) ++ body =
+    cut ∙ (ap (λ (t : List ℕ). spaces ++ (ds ++ t)) b.2.cut
+    ∙ (ap (λ (t : List ℕ). spaces ++ t) (sym (append_assoc ds more body))
+    ∙ sym (append_assoc spaces (ds ++ more) body))) in
+    let r : IsRow row spaces ds more body = record {
+      cut = whole;
+      before = blank;
+      some = some;
+      digits = digits;
+      after = b.2.blank;
+      begins = b.2.begins;
+      small = small;
+    } in
+    let f = row_front row spaces ds more body r in
+    let z = row_size row spaces ds more body r in
+    let start = place + front row in
+    let end = place + length row in
+    let l = line_at (number_of ds) start end in
+    let head = spaces ++ (ds ++ more) in
+    let in_text : text ≡ (before ++ head) ++ (body ++ back) =
+    is ∙ (ap (λ (t : List ℕ). before ++ (t ++ back)) whole
+    ∙ (ap (λ (t : List ℕ). before ++ t) (append_assoc head body back)
+    ∙ sym (append_assoc before head (body ++ back)))) in
+    let head_size : length (before ++ head) ≡ start =
+    omega (arith, length-append before head, length-append spaces (ds ++ more), length-append ds more) in
+    let body_size : length body ≡ end - start = omega arith in
+    let part : slice_range text start end ≡ body =
+    ap (λ (t : List ℕ). slice_range t start end) in_text
+    ∙ part_at (before ++ head) body back start end head_size body_size in
+    let rest_text : text ≡ (before ++ (spaces ++ ds)) ++ (after ++ back) =
+    is ∙ (ap (λ (t : List ℕ). before ++ (t ++ back)) (cut ∙ sym (append_assoc spaces ds after))
+    ∙ (ap (λ (t : List ℕ). before ++ t) (append_assoc (spaces ++ ds) after back)
+    ∙ sym (append_assoc before (spaces ++ ds) (after ++ back)))) in
+    let rest_place = length (before ++ (spaces ++ ds)) in
+    let said = line_said found text rest after (before ++ (spaces ++ ds)) back rest_place end ss refl rest_text typed short
+    e c in
+    let same : symbols Typed rest_place 0 after ≡ symbols Typed start 0 body =
+    ap (λ (t : List ℕ). symbols Typed rest_place 0 t) b.2.cut
+    ∙ (symbols_blank rest_place more body b.2.blank
+    ∙ ap (λ (p : ℕ). symbols Typed p 0 body)
+    (omega (arith, length-append before (spaces ++ ds), length-append spaces ds))) in
+    let in_line : statements end (lexemes 0 (symbols Typed start 0 body)) ≡ read_all said.0 =
+    ap (λ (ss : List Symbol). statements end (lexemes 0 ss)) (sym same) ∙ said.1 in
+    let read : program_line text l ≡ read_line n said.0 = rw (part, in_line, number) refl in
+    let none : (start == end) ≡ true → said.0 ≡ [] = λ t.
+    (let equal : start ≡ end = eqb-true start end t in
+    let no_body : body ≡ [] = nil_from_length body (omega arith) in
+    let nothing : statements end (lexemes 0 (symbols Typed start 0 body)) ≡ read_all [] =
+    ap (λ (t : List ℕ). statements end (lexemes 0 (symbols Typed start 0 t))) no_body ∙ nothing_read end start in
+    let both : read_all said.0 ≡ read_all [] = sym in_line ∙ nothing in
+    cc) in
+    record {
+      line = l;
+      is = row_line place row spaces ds more body r;
+      numbered = number;
+      said = said.0;
+      read = read;
+      says = said.2;
+      empty = none;
+    }
+
+-- the lexemes of a line with a number
+numbered_lexemes : LexemesAreFound → (row : List ℕ) (n : ℕ) (ss : List Output) → HasBasicNumber row n → IsLine row ss
+    → (ds : List ℕ) × (rest : List Script) × AreLexemes row (Digits ds ∷ rest) × (number_of ds ≡ n) × (n ≤ 63999)
+    × AreParts (parts rest) ss
+numbered_lexemes found row n ss h c = by c.3
+  where
+    same : c.0 ≡ Digits h.2 ∷ h.3
+    same = sym (found row c.0 c.2) ∙ (found row h.0 h.1 ∙ h.4)
+    by : HasNumber c.0 c.1 → (ds : List ℕ) × (rest : List Script) × AreLexemes row (Digits ds ∷ rest)
+        × (number_of ds ≡ n) × (n ≤ 63999) × AreParts (parts rest) ss
+    by (inl none) = absurd (none.1 h.2 h.3 same)
+    by (inr some) =
+        let both : Digits some.0 ∷ c.1 ≡ Digits h.2 ∷ h.3 = sym some.1 ∙ same in
+        let digits : some.0 ≡ h.2 = cc in (
+          some.0,
+          c.1,
+          subst (λ (ls : List Script). AreLexemes row ls) some.1 c.2,
+          ap number_of digits ∙ h.5,
+          h.6,
+          c.4,
+        )
+
+pub numbered_row : LexemesAreFound → (text row before back : List ℕ) (place n : ℕ) (ss : List Output)
+    → place ≡ length before → text ≡ before ++ (row ++ back) → IsTypedLine row → HasBasicNumber row n → IsLine row ss
+    → IsLineSaid text place row n ss
+numbered_row found text row before back place n ss at is typed h c =
+    let l = numbered_lexemes found row n ss h c in
+    let ds = l.0 in
+    let e = l.2 in
+    let never : IsKnown (Digits ds) = λ stray. cc in
+    let spelled = spelled_of (Digits ds) e.1 e.2 never e.5 in
+    let cut : row ≡ e.0 ++ (ds ++ e.2) = e.3 ∙ ap (λ (t : List ℕ). e.0 ++ (t ++ e.2)) spelled.0 in
+    let all : list_all is_typed (e.0 ++ (e.1 ++ e.2)) ≡ true = rw e.3 at typed.bytes in
+    let first = typed_parts e.0 (e.1 ++ e.2) all in
+    let second = typed_parts e.1 e.2 first.1 in
+    let short = typed.short (Digits ds ∷ l.1) e in
+    row_said found text row e.0 ds e.2 before back place n l.1 ss at is cut (spaces_blank e.0 e.4 first.0) spelled.1
+    spelled.2 l.3 l.4 second.1 short.1 e.6 l.5
+
+-- a row of blanks says nothing
+pub blank_said : LexemesAreFound → (row : List ℕ) (ss : List Output) → list_all is_blank row ≡ true → IsLine row ss
+    → ss ≡ []
+unfolding parts
+blank_said found row ss e c = by c.3
+  where
+    none : c.0 ≡ []
+    none = sym (found row c.0 c.2) ∙ found row [] (blanks_spaces row e)
+    by : HasNumber c.0 c.1 → ss ≡ []
+    by (inl k) = subst (λ (ls : List Script). AreParts (parts ls) ss) (sym k.0 ∙ none) c.4
+    by (inr k) = absurd (let never : [] ≡ Digits k.0 ∷ c.1 = sym none ∙ k.1 in cc)

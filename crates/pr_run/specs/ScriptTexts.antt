@@ -12,7 +12,10 @@ use Rattle.pr_basic.specs.declared.statement.Statement.TheVariants.{CloseFile, C
 use Rattle.pr_interpreter.specs.declared.program.ProgramLine.{ProgramLine}
 use Rattle.pr_interpreter.specs.Programs.{program}
 use Rattle.pr_run.specs.declared.performed.Performed.{Performed}
-use Rattle.pr_run.specs.Plain.{LinesSay}
+use Rattle.pr_run.specs.declared.programs.Program.{Program}
+use Rattle.pr_run.specs.Memory.{memory_limit, program_bytes}
+use Rattle.pr_run.specs.Plain.{LinesSay, in_order, step_count}
+use Rattle.pr_run.specs.Runs.{program_of, run}
 
 -- ---- texts that are both
 
@@ -74,3 +77,11 @@ abbrev pub TextsSayTheSame : Type 0
 TextsSayTheSame = (text : List ℕ) (ss : List Output) → IsScript text ss → AreNumbered 0 (lines_of text)
     → (lines : List ProgramLine) × (said : List Performed) × (program text ≡ Ok lines) × LinesSay text lines said
     × (map statement_of said ≡ filter is_performed ss)
+
+-- and for which the machine surely has the memory, performs these statements in order, up to the first that has an
+-- error
+abbrev pub ScriptsRun : Type 0
+ScriptsRun = (text : List ℕ) (ss : List Output) → IsScript text ss → AreNumbered 0 (lines_of text)
+    → (p : Program) × (said : List Performed) × (program_of text ≡ Ok p)
+    × (map statement_of said ≡ filter is_performed ss)
+    × ((limit : ℕ) → program_bytes p ≤ memory_limit → step_count p.lines ≤ limit → run limit p ≡ in_order [] said)

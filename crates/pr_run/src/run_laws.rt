@@ -2,7 +2,7 @@
 
 ghost use Rattle.pr_run.specs.Plain.{CharactersAreConstant, DigitsAreNumbers, PlainRuns, StringsAreConstant};
 ghost use Rattle.pr_run.specs.RunLaws.{AllComeFrom, LimitsAgree, LimitsGoOn};
-ghost use Rattle.pr_run.specs.ScriptTexts.{TextsSayTheSame};
+ghost use Rattle.pr_run.specs.ScriptTexts.{ScriptsRun, TextsSayTheSame};
 ghost use Rattle.pr_run.specs.Spelled.{LinesAreRead};
 
 use pr_basic::laws::lexemes_are_found;
@@ -40,7 +40,8 @@ pub fn script_lines_are_read()
 
 /// A law: a script whose lines are numbered in ascending order is a program that says the same statements.
 pub fn numbered_scripts_are_programs()
-    ensures { TextsSayTheSame }
+    ensures same { TextsSayTheSame }
+    ensures runs { ScriptsRun }
 {
     lexemes_are_found();
 }
