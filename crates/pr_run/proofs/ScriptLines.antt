@@ -32,12 +32,24 @@ use Rattle.pr_interpreter.specs.Programs.{program_line}
 use Rattle.pr_interpreter.specs.Statements.{further, statements}
 use Rattle.pr_interpreter.specs.Symbols.{symbols}
 use Rattle.pr_run.specs.Plain.{LineSays}
-use Rattle.pr_run.specs.ScriptTexts.{AreShort, IsTypedLine, is_blank, is_performed, is_typed}
+use Rattle.pr_run.specs.ScriptTexts.{AreShort, AreSpaced, IsNumberedLine, is_blank, is_performed}
 use Rattle.pr_run.proofs.ScriptLexemes.{lexemes_match}
 use Rattle.pr_run.proofs.ScriptParts.{Cut, cut_parts, no_parts, parts_plain, parts_spelled, plain_known, remark_last}
-use Rattle.pr_run.proofs.ScriptSymbols.{AreBlank, AreKnown, IsKnown, letters_cut, no_symbols, part_at, spaces_blank, spelled_of}
-use Rattle.pr_run.proofs.ScriptSymbols.{symbols_blank, symbols_found, typed_parts}
+use Rattle.pr_run.proofs.ScriptSymbols.{AreBlank, AreKnown, IsKnown, all_blank, letters_cut, no_symbols, part_at}
+use Rattle.pr_run.proofs.ScriptSymbols.{spelled_of, symbols_blank, symbols_found}
 use Rattle.pr_run.proofs.SpelledLemmas.{lines_read}
+
+-- ---- lexemes with blanks around them
+
+blanks_spaces : (bs : List ℕ) → list_all is_blank bs ≡ true → list_all is_space bs ≡ true
+blanks_spaces [] e = refl
+blanks_spaces (b ∷ bs) e =
+    let p = and_parts (is_blank b) (list_all is_blank bs) e in rw (p.0, blanks_spaces bs p.1) refl
+
+spaced_lexemes : (ls : List Script) (line : List ℕ) → AreSpaced line ls → AreLexemes line ls
+spaced_lexemes [] line e = blanks_spaces line e
+spaced_lexemes (l ∷ ls) line e =
+    (e.0, e.1, e.2, e.3, blanks_spaces e.0 e.4, e.5, spaced_lexemes ls e.2 e.6)
 
 -- ---- the statements of a line
 
@@ -51,13 +63,13 @@ AreSaid text end place line ss = (said : List PlacedStatement)
     × LineSays text said (filter is_performed ss)
 
 line_said : LexemesAreFound → (text : List ℕ) (rest : List Script) (line before back : List ℕ) (place end : ℕ)
-    (ss : List Output) → place ≡ length before → text ≡ before ++ (line ++ back) → list_all is_typed line ≡ true
-    → AreShort rest → AreLexemes line rest → AreParts (parts rest) ss → AreSaid text end place line ss
-line_said found text rest line before back place end ss at is typed short e c =
-    let last = remark_last found rest line e in
+    (ss : List Output) → place ≡ length before → text ≡ before ++ (line ++ back) → AreShort rest → AreSpaced line rest
+    → AreParts (parts rest) ss → AreSaid text end place line ss
+line_said found text rest line before back place end ss at is short e c =
+    let last = remark_last found rest line (spaced_lexemes rest line e) in
     let plain = parts_plain (parts rest) rest ss refl c last in
     let known = plain_known rest plain in
-    let all = symbols_found text rest line before back place at is typed known e in
+    let all = symbols_found text rest line before back place at is known e in
     let m = lexemes_match text rest (symbols Typed place 0 line) plain short all in
     let p = parts_spelled text (parts rest) rest ss (lexemes 0 (symbols Typed place 0 line)) refl c last m in
     let r = lines_read text end (p.0 ∷ p.1) p.2 in
@@ -161,22 +173,19 @@ record IsCut (bytes spaces body : List ℕ) : Type 0 where
   pub blank : AreBlank spaces
   pub begins : BeginsText body
 
-body_cut : (ls : List Script) (line : List ℕ) → list_all is_typed line ≡ true → Starts ls
-    → AreKnown ls → AreLexemes line ls
+body_cut : (ls : List Script) (line : List ℕ) → Starts ls → AreKnown ls → AreSpaced line ls
     → (spaces : List ℕ) × (body : List ℕ) × IsCut line spaces body
-body_cut [] line typed starts known e =
-    (line, [], record { cut = sym (append-nil line); blank = spaces_blank line e typed; begins = tt })
-body_cut (l ∷ ls) line typed starts known e =
-    let all : list_all is_typed (e.0 ++ (e.1 ++ e.2)) ≡ true = rw e.3 at typed in
-    let first = typed_parts e.0 (e.1 ++ e.2) all in (
-      e.0,
-      e.1 ++ e.2,
-      record {
-        cut = e.3;
-        blank = spaces_blank e.0 e.4 first.0;
-        begins = lexeme_text l e.1 e.2 starts (spelled_of l e.1 e.2 known.0 e.5);
-      },
-    )
+body_cut [] line starts known e =
+    (line, [], record { cut = sym (append-nil line); blank = all_blank line e; begins = tt })
+body_cut (l ∷ ls) line starts known e = (
+  e.0,
+  e.1 ++ e.2,
+  record {
+    cut = e.3;
+    blank = all_blank e.0 e.4;
+    begins = lexeme_text l e.1 e.2 starts (spelled_of l e.1 e.2 known.0 e.5);
+  },
+)
 
 -- ---- the number of a line
 
@@ -317,23 +326,12 @@ row_line start row spaces ds more body c =
     rw (first, second, row_number row spaces ds more body c, third) refl
 
 -- a row of blanks is no line
-all_blank : (bs : List ℕ) → list_all is_blank bs ≡ true → AreBlank bs
-all_blank [] e = tt
-all_blank (b ∷ bs) e =
-    let p = and_parts (is_blank b) (list_all is_blank bs) e in (eqb-true b 32 p.0, all_blank bs p.1)
-
 only_blanks : (bs : List ℕ) → AreBlank bs → blanks bs ≡ length bs
 only_blanks [] e = refl
 only_blanks (b ∷ bs) e = rw (e.0, only_blanks bs e.1) (omega arith)
 
 same_itself : (n : ℕ) → (n == n) ≡ true
 same_itself n = eq-eqb n n refl
-
--- blanks are spaces
-blanks_spaces : (bs : List ℕ) → list_all is_blank bs ≡ true → list_all is_space bs ≡ true
-blanks_spaces [] e = refl
-blanks_spaces (b ∷ bs) e =
-    let p = and_parts (is_blank b) (list_all is_blank bs) e in rw (p.0, blanks_spaces bs p.1) refl
 
 pub blank_line : (start : ℕ) (row : List ℕ) → list_all is_blank row ≡ true → line_in start row ≡ no_line
 unfolding line_in
@@ -363,15 +361,13 @@ pub record IsLineSaid (text : List ℕ) (place : ℕ) (row : List ℕ) (n : ℕ)
 row_said : LexemesAreFound → (text row spaces ds after before back : List ℕ) (place n : ℕ) (rest : List Script)
     (ss : List Output) → place ≡ length before → text ≡ before ++ (row ++ back) → row ≡ spaces ++ (ds ++ after)
     → AreBlank spaces → 0 < length ds → list_all is_digit ds ≡ true → number_of ds ≡ n → n ≤ 63999
-    → list_all is_typed after ≡ true → AreShort rest → AreLexemes after rest → AreParts (parts rest) ss
-    → IsLineSaid text place row n ss
+    → AreShort rest → AreSpaced after rest → AreParts (parts rest) ss → IsLineSaid text place row n ss
 unfolding program_line line_lexemes
-row_said found text row spaces ds after before back place n rest ss at is cut blank some digits number few typed short e
-    c =
-    let last = remark_last found rest after e in
+row_said found text row spaces ds after before back place n rest ss at is cut blank some digits number few short e c =
+    let last = remark_last found rest after (spaced_lexemes rest after e) in
     let plain = parts_plain (parts rest) rest ss refl c last in
     let known = plain_known rest plain in
-    let b = body_cut rest after typed (parts_start (parts rest) rest ss refl c) known e in
+    let b = body_cut rest after (parts_start (parts rest) rest ss refl c) known e in
     let more = b.0 in
     let body = b.1 in
     let small : number_of ds ≤ 63999 = omega arith in
@@ -409,8 +405,8 @@ row_said found text row spaces ds after before back place n rest ss at is cut bl
     ∙ (ap (λ (t : List ℕ). before ++ t) (append_assoc (spaces ++ ds) after back)
     ∙ sym (append_assoc before (spaces ++ ds) (after ++ back)))) in
     let rest_place = length (before ++ (spaces ++ ds)) in
-    let said = line_said found text rest after (before ++ (spaces ++ ds)) back rest_place end ss refl rest_text typed short
-    e c in
+    let said = line_said found text rest after (before ++ (spaces ++ ds)) back rest_place end ss refl rest_text short e
+    c in
     let same : symbols Typed rest_place 0 after ≡ symbols Typed start 0 body =
     ap (λ (t : List ℕ). symbols Typed rest_place 0 t) b.2.cut
     ∙ (symbols_blank rest_place more body b.2.blank
@@ -436,44 +432,36 @@ row_said found text row spaces ds after before back place n rest ss at is cut bl
       empty = none;
     }
 
--- the lexemes of a line with a number
-numbered_lexemes : LexemesAreFound → (row : List ℕ) (n : ℕ) (ss : List Output) → HasBasicNumber row n → IsLine row ss
-    → (ds : List ℕ) × (rest : List Script) × AreLexemes row (Digits ds ∷ rest) × (number_of ds ≡ n) × (n ≤ 63999)
-    × AreParts (parts rest) ss
-numbered_lexemes found row n ss h c = by c.3
+-- the statements after the number of a line
+numbered_parts : LexemesAreFound → (row : List ℕ) (n : ℕ) (ss : List Output) (h : IsNumberedLine row n) → IsLine row ss
+    → (n ≤ 63999) × AreParts (parts h.rest) ss
+numbered_parts found row n ss h c = by c.3
   where
-    same : c.0 ≡ Digits h.2 ∷ h.3
-    same = sym (found row c.0 c.2) ∙ (found row h.0 h.1 ∙ h.4)
-    by : HasNumber c.0 c.1 → (ds : List ℕ) × (rest : List Script) × AreLexemes row (Digits ds ∷ rest)
-        × (number_of ds ≡ n) × (n ≤ 63999) × AreParts (parts rest) ss
-    by (inl none) = absurd (none.1 h.2 h.3 same)
+    same : c.0 ≡ Digits h.digits ∷ h.rest
+    same = sym (found row c.0 c.2)
+        ∙ found row (Digits h.digits ∷ h.rest) (spaced_lexemes (Digits h.digits ∷ h.rest) row h.spelled)
+    by : HasNumber c.0 c.1 → (n ≤ 63999) × AreParts (parts h.rest) ss
+    by (inl none) = absurd (none.1 h.digits h.rest same)
     by (inr some) =
-        let both : Digits some.0 ∷ c.1 ≡ Digits h.2 ∷ h.3 = sym some.1 ∙ same in
-        let digits : some.0 ≡ h.2 = cc in (
-          some.0,
-          c.1,
-          subst (λ (ls : List Script). AreLexemes row ls) some.1 c.2,
-          ap number_of digits ∙ h.5,
-          h.6,
-          c.4,
-        )
+        let both : Digits some.0 ∷ c.1 ≡ Digits h.digits ∷ h.rest = sym some.1 ∙ same in
+        let digits : some.0 ≡ h.digits = cc in
+        let rest : c.1 ≡ h.rest = cc in
+        let number : number_of some.0 ≡ n = ap number_of digits ∙ h.number in
+        let small = some.2 in
+        (omega arith, subst (λ (ls : List Script). AreParts (parts ls) ss) rest c.4)
 
 pub numbered_row : LexemesAreFound → (text row before back : List ℕ) (place n : ℕ) (ss : List Output)
-    → place ≡ length before → text ≡ before ++ (row ++ back) → IsTypedLine row → HasBasicNumber row n → IsLine row ss
+    → place ≡ length before → text ≡ before ++ (row ++ back) → IsNumberedLine row n → IsLine row ss
     → IsLineSaid text place row n ss
-numbered_row found text row before back place n ss at is typed h c =
-    let l = numbered_lexemes found row n ss h c in
-    let ds = l.0 in
-    let e = l.2 in
+numbered_row found text row before back place n ss at is h c =
+    let p = numbered_parts found row n ss h c in
+    let ds = h.digits in
+    let e = h.spelled in
     let never : IsKnown (Digits ds) = λ stray. cc in
     let spelled = spelled_of (Digits ds) e.1 e.2 never e.5 in
     let cut : row ≡ e.0 ++ (ds ++ e.2) = e.3 ∙ ap (λ (t : List ℕ). e.0 ++ (t ++ e.2)) spelled.0 in
-    let all : list_all is_typed (e.0 ++ (e.1 ++ e.2)) ≡ true = rw e.3 at typed.bytes in
-    let first = typed_parts e.0 (e.1 ++ e.2) all in
-    let second = typed_parts e.1 e.2 first.1 in
-    let short = typed.short (Digits ds ∷ l.1) e in
-    row_said found text row e.0 ds e.2 before back place n l.1 ss at is cut (spaces_blank e.0 e.4 first.0) spelled.1
-    spelled.2 l.3 l.4 second.1 short.1 e.6 l.5
+    row_said found text row e.0 ds e.2 before back place n h.rest ss at is cut (all_blank e.0 e.4) spelled.1 spelled.2
+    h.number p.0 h.short e.6 p.1
 
 -- a row of blanks says nothing
 pub blank_said : LexemesAreFound → (row : List ℕ) (ss : List Output) → list_all is_blank row ≡ true → IsLine row ss

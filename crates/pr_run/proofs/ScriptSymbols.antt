@@ -25,7 +25,7 @@ use Rattle.pr_interpreter.specs.declared.symbols.Symbol.{Symbol}
 use Rattle.pr_interpreter.specs.declared.symbols.Writing.TheVariants.{Typed}
 use Rattle.pr_interpreter.specs.Symbols.{begins, first_token, front, is_quote, keyword_at, keyword_front, stored}
 use Rattle.pr_interpreter.specs.Symbols.{string_front, symbols, typed_token}
-use Rattle.pr_run.specs.ScriptTexts.{is_typed}
+use Rattle.pr_run.specs.ScriptTexts.{AreSpaced, is_blank}
 
 abbrev pub kept : ℕ → Stored → Symbol
 kept place s = record { stored = s; place = place }
@@ -561,46 +561,29 @@ pub spelled_of : (l : Lexeme) (bytes after : List ℕ) → IsKnown l → IsLexem
 spelled_of l bytes after known (inl e) = e
 spelled_of l bytes after known (inr e) = absurd (known e.0)
 
-pub typed_parts : (xs ys : List ℕ) → list_all is_typed (xs ++ ys) ≡ true
-    → (list_all is_typed xs ≡ true) × (list_all is_typed ys ≡ true)
-typed_parts xs ys e =
-    and_parts (list_all is_typed xs) (list_all is_typed ys) (sym (list_all-append is_typed xs ys) ∙ e)
-
--- spaces that are typed are blanks
-pub spaces_blank : (bs : List ℕ) → list_all is_space bs ≡ true → list_all is_typed bs ≡ true → AreBlank bs
-spaces_blank [] e f = tt
-spaces_blank (b ∷ bs) e f =
-    let space = and_parts (is_space b) (list_all is_space bs) e in
-    let typed = and_parts (is_typed b) (list_all is_typed bs) f in
-    (one (or_cases (b == 32) (b == 9) space.0) typed.0, spaces_blank bs space.1 typed.1)
-  where
-    one : (((b == 32) ≡ true) ⊎ ((b == 9) ≡ true)) → is_typed b ≡ true → b ≡ 32
-    one (inl blank) typed = eqb-true b 32 blank
-    one (inr tab) typed = absurd (false≢true (rw tab at typed))
+pub all_blank : (bs : List ℕ) → list_all is_blank bs ≡ true → AreBlank bs
+all_blank [] e = tt
+all_blank (b ∷ bs) e =
+    let p = and_parts (is_blank b) (list_all is_blank bs) e in (eqb-true b 32 p.0, all_blank bs p.1)
 
 pub symbols_found : (text : List ℕ) (ls : List Lexeme) (line before back : List ℕ) (place : ℕ) → place ≡ length before
-    → text ≡ before ++ (line ++ back) → list_all is_typed line ≡ true → AreKnown ls → AreLexemes line ls
+    → text ≡ before ++ (line ++ back) → AreKnown ls → AreSpaced line ls
     → AreSymbols text ls (symbols Typed place 0 line)
-symbols_found text [] line before back place at is typed known e =
-    let blank = spaces_blank line e typed in
+symbols_found text [] line before back place at is known e =
     ap (λ (t : List ℕ). symbols Typed place 0 t) (sym (append-nil line))
-    ∙ (symbols_blank place line [] blank ∙ no_symbols (place + length line) 0)
-symbols_found text (l ∷ ls) line before back place at is typed known e =
-    let spaces = e.0 in
+    ∙ (symbols_blank place line [] (all_blank line e) ∙ no_symbols (place + length line) 0)
+symbols_found text (l ∷ ls) line before back place at is known e =
+    let blanks = e.0 in
     let bytes = e.1 in
     let after = e.2 in
     let cut = e.3 in
-    let typed_all : list_all is_typed (spaces ++ (bytes ++ after)) ≡ true = rw cut at typed in
-    let first = typed_parts spaces (bytes ++ after) typed_all in
-    let second = typed_parts bytes after first.1 in
-    let blank = spaces_blank spaces e.4 first.0 in
-    let before_word = before ++ spaces in
-    let place_word = place + length spaces in
-    let at_word : place_word ≡ length before_word = omega (arith, length-append before spaces) in
+    let before_word = before ++ blanks in
+    let place_word = place + length blanks in
+    let at_word : place_word ≡ length before_word = omega (arith, length-append before blanks) in
     let whole : text ≡ before_word ++ (bytes ++ (after ++ back)) =
-    is ∙ rw cut (ap (λ (t : List ℕ). before ++ t) (append_assoc spaces (bytes ++ after) back)
-    ∙ (ap (λ (t : List ℕ). before ++ (spaces ++ t)) (append_assoc bytes after back)
-    ∙ sym (append_assoc before spaces (bytes ++ (after ++ back))))) in
+    is ∙ rw cut (ap (λ (t : List ℕ). before ++ t) (append_assoc blanks (bytes ++ after) back)
+    ∙ (ap (λ (t : List ℕ). before ++ (blanks ++ t)) (append_assoc bytes after back)
+    ∙ sym (append_assoc before blanks (bytes ++ (after ++ back))))) in
     let piece = piece_found text before_word back place_word l bytes after at_word whole
     (spelled_of l bytes after known.0 e.5) in
     let at_rest : place_word + length bytes ≡ length (before_word ++ bytes) =
@@ -608,10 +591,11 @@ symbols_found text (l ∷ ls) line before back place at is typed known e =
     let rest_whole : text ≡ (before_word ++ bytes) ++ (after ++ back) =
     whole ∙ sym (append_assoc before_word bytes (after ++ back)) in
     let rest = symbols_found text ls after (before_word ++ bytes) back (place_word + length bytes) at_rest rest_whole
-    second.1 known.1 e.6 in (
+    known.1 e.6 in (
       piece.0,
       symbols Typed (place_word + length bytes) 0 after,
-      ap (λ (t : List ℕ). symbols Typed place 0 t) cut ∙ (symbols_blank place spaces (bytes ++ after) blank ∙ piece.2),
+      ap (λ (t : List ℕ). symbols Typed place 0 t) cut
+          ∙ (symbols_blank place blanks (bytes ++ after) (all_blank blanks e.4) ∙ piece.2),
       piece.1,
       rest,
     )

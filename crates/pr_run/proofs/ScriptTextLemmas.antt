@@ -8,7 +8,6 @@ use Rattle.std.proofs.lemmas.List.{drop_all, map-append, take_all}
 use Rattle.pr_base.specs.Lines.{lines_of, onto_first}
 use Rattle.pr_basic.specs.Grammar.{AreLines, IsLine, IsScript, without_return}
 use Rattle.pr_basic.specs.LexemeLaws.{LexemesAreFound}
-use Rattle.pr_basic.specs.LineAt.{HasBasicNumber}
 use Rattle.pr_basic.specs.declared.statement.Statement.{Statement as Output}
 use Rattle.pr_interpreter.specs.declared.fault.ProgramFault.{ProgramFault}
 use Rattle.pr_interpreter.specs.declared.lines.Line.{Line}
@@ -19,8 +18,8 @@ use Rattle.pr_interpreter.specs.Lines.{line_in, others, place_for, program_lines
 use Rattle.pr_interpreter.specs.Programs.{each_line, or_stop, program, program_line}
 use Rattle.pr_run.specs.Plain.{LineSays, LinesSay, in_line}
 use Rattle.pr_run.specs.declared.performed.Performed.{Performed}
-use Rattle.pr_run.specs.ScriptTexts.{AreNumbered, ScriptsRun, TextsSayTheSame, is_blank, is_performed, is_typed}
-use Rattle.pr_run.specs.ScriptTexts.{statement_of}
+use Rattle.pr_run.specs.ScriptTexts.{AreNumbered, IsNumberedLine, ScriptsRun, TextsSayTheSame, is_blank}
+use Rattle.pr_run.specs.ScriptTexts.{is_no_return, is_performed, statement_of}
 use Rattle.pr_run.specs.declared.programs.Program.{Program}
 use Rattle.pr_run.specs.Data.{data_of}
 use Rattle.pr_run.specs.Runs.{program_of}
@@ -175,12 +174,23 @@ abbrev InRow : List ℕ → Type 0
 InRow [] = Unit {0}
 InRow (b ∷ bs) = (ends_row b ≡ false) × InRow bs
 
-in_row : (bs : List ℕ) → NoFeed bs → list_all is_typed bs ≡ true → InRow bs
+in_row : (bs : List ℕ) → NoFeed bs → list_all is_no_return bs ≡ true → InRow bs
 in_row [] e f = tt
 in_row (b ∷ bs) e f =
-    let p = and_parts (is_typed b) (list_all is_typed bs) f in
-    let q = and_parts (not (b == 9)) (not (b == 13)) p.0 in
-    (rw (e.0, not-true (b == 13) q.1) refl, in_row bs e.1 p.1)
+    let p = and_parts (is_no_return b) (list_all is_no_return bs) f in
+    (rw (e.0, not-true (b == 13) p.0) refl, in_row bs e.1 p.1)
+
+blanks_one_row : (bs : List ℕ) → list_all is_blank bs ≡ true → list_all is_no_return bs ≡ true
+blanks_one_row [] e = refl
+blanks_one_row (b ∷ bs) e =
+    let p = and_parts (is_blank b) (list_all is_blank bs) e in
+    rw (eqb-true b 32 p.0, blanks_one_row bs p.1) refl
+
+-- a line of a script has no carriage return
+one_row : (least : ℕ) (l : List ℕ) (ls : List (List ℕ)) → AreNumbered least (l ∷ ls)
+    → list_all is_no_return (without_return l) ≡ true
+one_row least l ls (inl k) = blanks_one_row (without_return l) k.0
+one_row least l ls (inr k) = k.1.one_row
 
 rows_in : (start place : ℕ) (bs rest : List ℕ) → InRow bs
     → rows_from start place (bs ++ rest) ≡ rows_from start (place + length bs) rest
@@ -321,7 +331,7 @@ line_step : LexemesAreFound → (text l before back : List ℕ) (ls : List (List
     (first : List Output) → place ≡ length before → text ≡ before ++ (without_return l ++ back)
     → IsLine (without_return l) first → AreNumbered least (l ∷ ls) → AllBelow least lines
     → IsStep text place (length (without_return l)) least lines first ls
-line_step found text l before back ls place least lines first at is c n below = by n.1
+line_step found text l before back ls place least lines first at is c n below = by n
   where
     bytes : List ℕ
     bytes = without_return l
@@ -357,7 +367,7 @@ line_step found text l before back ls place least lines first at is c n below = 
           );
         }
     by : ((list_all is_blank bytes ≡ true) × AreNumbered least ls)
-        ⊎ ((m : ℕ) × HasBasicNumber bytes m × (least ≤ m) × AreNumbered (m + 1) ls)
+        ⊎ ((m : ℕ) × IsNumberedLine bytes m × (least ≤ m) × AreNumbered (m + 1) ls)
         → IsStep text place (length bytes) least lines first ls
     by (inl k) =
         let none : filter is_performed first ≡ [] =
@@ -371,7 +381,7 @@ line_step found text l before back ls place least lines first at is c n below = 
           goes = λ rows os a. (a.0, a.1, said_after_none text a.0 first os none a.2);
         }
     by (inr k) =
-        let s = numbered_row found text bytes before back place k.0 first at is n.0 k.1 c in
+        let s = numbered_row found text bytes before back place k.0 first at is k.1 c in
         let number = s.numbered in
         let least_k = k.2 in
         let low : least ≤ s.line.number = omega arith in
@@ -434,7 +444,7 @@ rest_more found text l ls goal before rest place least lines ss at is e c n belo
         let q = place + length bytes in
         let rest_is : rest ≡ bytes ++ tail = cut.1.1 ∙ ap (λ (t : List ℕ). t ++ tail) same in
         let whole : text ≡ before ++ (bytes ++ tail) = is ∙ ap (λ (t : List ℕ). before ++ t) rest_is in
-        let inside = in_row bytes (subst NoFeed same cut.0) n.0.bytes in
+        let inside = in_row bytes (subst NoFeed same cut.0) (one_row least l ls n) in
         let rows : rows_from place place rest ≡ row place q ∷ later q tail =
         ap (λ (t : List ℕ). rows_from place place t) rest_is
         ∙ (rows_in place place bytes tail inside ∙ row_ends place q tail ls cut.1.2) in
@@ -450,7 +460,7 @@ rest_more found text l ls goal before rest place least lines ss at is e c n belo
         let rest_is : rest ≡ bytes ++ (13 ∷ tail) =
         cut.1.1 ∙ (ap (λ (t : List ℕ). t ++ tail) same ∙ append_assoc bytes (13 ∷ []) tail) in
         let whole : text ≡ before ++ (bytes ++ (13 ∷ tail)) = is ∙ ap (λ (t : List ℕ). before ++ t) rest_is in
-        let inside = in_row bytes (feed_front bytes (13 ∷ []) (subst NoFeed same cut.0)) n.0.bytes in
+        let inside = in_row bytes (feed_front bytes (13 ∷ []) (subst NoFeed same cut.0)) (one_row least l ls n) in
         let rows : rows_from place place rest ≡ row place (place + length bytes) ∷ row q q ∷ later q tail =
         ap (λ (t : List ℕ). rows_from place place t) rest_is
         ∙ (rows_in place place bytes (13 ∷ tail) inside

@@ -1,12 +1,12 @@
 -- Trusted: which texts are scripts and programs alike, and that they then say the same.
-use Rattle.std.specs.Prelude.{ℕ, ◌≡◌, ◌⊎◌, ◌+◌, ◌≤◌, ◌==◌, ◌&&◌, ⊤, IsTrue, Bool, true, false, not, List, [], ◌∷◌}
-use Rattle.std.specs.Prelude.{length, map, Ok}
+use Rattle.std.specs.Prelude.{ℕ, ◌≡◌, ◌⊎◌, ◌+◌, ◌≤◌, ◌==◌, ⊤, IsTrue, Bool, true, false, not, List, [], ◌∷◌}
+use Rattle.std.specs.Prelude.{◌++◌, length, map, Ok}
 use Rattle.std.specs.List.{filter, list_all}
+use Rattle.pr_base.specs.Digits.{number_of}
 use Rattle.pr_base.specs.Lines.{lines_of}
 use Rattle.pr_basic.specs.Grammar.{IsScript, without_return}
-use Rattle.pr_basic.specs.Lexemes.{AreLexemes, CloseParen, Colon, Comma, Digits, Lexeme, OpenParen, Quoted, Remark}
-use Rattle.pr_basic.specs.Lexemes.{Semicolon, Stray, Word}
-use Rattle.pr_basic.specs.LineAt.{HasBasicNumber}
+use Rattle.pr_basic.specs.Lexemes.{CloseParen, Colon, Comma, Digits, IsLexeme, Lexeme, OpenParen, Quoted}
+use Rattle.pr_basic.specs.Lexemes.{Remark, Semicolon, Stray, Word}
 use Rattle.pr_basic.specs.declared.statement.Statement.{Statement as Output}
 use Rattle.pr_basic.specs.declared.statement.Statement.TheVariants.{CloseFile, Cmd, OpenFile, Print, PrintTo, Rem}
 use Rattle.pr_interpreter.specs.declared.program.ProgramLine.{ProgramLine}
@@ -19,9 +19,20 @@ use Rattle.pr_run.specs.Runs.{program_of, run}
 
 -- ---- texts that are both
 
--- a byte that scripts and programs take alike: no tab (9), and no carriage return (13)
-abbrev pub is_typed : ℕ → Bool
-is_typed b = not (b == 9) && not (b == 13)
+-- a blank; no tab (9), which is a space in scripts alone
+abbrev pub is_blank : ℕ → Bool
+is_blank b = b == 32
+
+-- no carriage return, which ends a line of a program wherever it is
+abbrev pub is_no_return : ℕ → Bool
+is_no_return b = not (b == 13)
+
+-- bytes are these lexemes, as `AreLexemes` has them, but with blanks alone around them
+abbrev pub AreSpaced : List ℕ → List Lexeme → Type 0
+AreSpaced line [] = IsTrue (list_all is_blank line)
+AreSpaced line (l ∷ ls) = (blanks : List ℕ) × (bytes : List ℕ) × (after : List ℕ)
+    × (line ≡ blanks ++ (bytes ++ after)) × IsTrue (list_all is_blank blanks)
+    × IsLexeme l bytes after × AreSpaced after ls
 
 -- a number has at most 255 digits
 abbrev pub IsShort : Lexeme → Type 0
@@ -40,22 +51,21 @@ abbrev pub AreShort : List Lexeme → Type 0
 AreShort [] = ⊤
 AreShort (l ∷ ls) = IsShort l × AreShort ls
 
--- a line, without its end, that scripts and programs take alike
-pub record IsTypedLine (line : List ℕ) : Type 0 where
-  pub bytes : IsTrue (list_all is_typed line)
-  pub short : (lexemes : List Lexeme) → AreLexemes line lexemes → AreShort lexemes
-
--- a blank
-abbrev pub is_blank : ℕ → Bool
-is_blank b = b == 32
+-- a line, without its end, begins with a number; what follows is taken alike by scripts and programs
+pub record IsNumberedLine (line : List ℕ) (n : ℕ) : Type 0 where
+  pub digits : List ℕ
+  pub rest : List Lexeme
+  pub spelled : AreSpaced line (Digits digits ∷ rest)
+  pub number : number_of digits ≡ n
+  pub short : AreShort rest
+  pub one_row : IsTrue (list_all is_no_return line)
 
 -- each line is blank or begins with a number, the first with at least so much and each other with more than the one
 -- before it
 abbrev pub AreNumbered : ℕ → List (List ℕ) → Type 0
 AreNumbered least [] = ⊤
-AreNumbered least (l ∷ ls) = IsTypedLine (without_return l)
-    × ((IsTrue (list_all is_blank (without_return l)) × AreNumbered least ls)
-    ⊎ ((n : ℕ) × HasBasicNumber (without_return l) n × (least ≤ n) × AreNumbered (n + 1) ls))
+AreNumbered least (l ∷ ls) = (IsTrue (list_all is_blank (without_return l)) × AreNumbered least ls)
+    ⊎ ((n : ℕ) × IsNumberedLine (without_return l) n × (least ≤ n) × AreNumbered (n + 1) ls)
 
 -- ---- what they say
 
