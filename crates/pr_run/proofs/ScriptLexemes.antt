@@ -1,14 +1,13 @@
-use Rattle.std.proofs.Common.{◌≡◌, ℕ, zero, suc, ◌+◌, ◌-◌, ◌*◌, ◌<◌, ◌≤◌, ◌==◌, Bool, true, false, List, [], ◌∷◌, ◌++◌}
-use Rattle.std.proofs.Common.{length, drop, refl, ap, sym, ◌∙◌, arith}
+use Rattle.std.proofs.Common.{◌≡◌, ℕ, suc, ◌+◌, ◌-◌, ◌*◌, ◌≤◌, ◌==◌, true, false, List, [], ◌∷◌, ◌++◌}
+use Rattle.std.proofs.Common.{length, refl, ap, arith}
 use Rattle.std.specs.Prelude.{nat_le, nat_lt, slice_range}
 use Rattle.std.specs.List.{list_all}
-use Rattle.std.proofs.lemmas.Bool.{and_parts, le-leb, leb-true, lt-leb, lt-ltb, ne_eqb}
+use Rattle.std.proofs.lemmas.Bool.{and_parts, le-leb, leb-true, lt-leb, lt-ltb}
 use Rattle.std.proofs.lemmas.List.{drop_at}
 use Rattle.pr_base.specs.Digits.{is_digit, number_after, number_of}
 use Rattle.pr_basic.specs.Lexemes.{CloseParen, Colon, Comma, Digits, Lexeme as Script, OpenParen, Quoted}
 use Rattle.pr_basic.specs.Lexemes.{Remark as Remarked, Semicolon, Stray, Word as Keywords}
 use Rattle.pr_basic.specs.declared.lexemes.Keyword.TheVariants.{Chr, Close, Cmd, Open, Print, PrintTo}
-use Rattle.pr_interpreter.specs.declared.constants.Constant.{Constant as Value}
 use Rattle.pr_interpreter.specs.declared.constants.Tens.TheVariants.{Times}
 use Rattle.pr_interpreter.specs.declared.lexemes.Lexeme.{Lexeme}
 use Rattle.pr_interpreter.specs.declared.lexemes.Word.{Word}
@@ -18,7 +17,7 @@ use Rattle.pr_interpreter.specs.declared.numerals.Numeral.{Numeral}
 use Rattle.pr_interpreter.specs.declared.symbols.Stored.TheVariants.{Code as CodeOf, Remark as RemarkOf, Text as TextOf}
 use Rattle.pr_interpreter.specs.declared.symbols.Symbol.{Symbol}
 use Rattle.pr_interpreter.specs.Lexemes.{begins_constant, constant_front, is_letter, is_sign, lexemes, word_front}
-use Rattle.pr_interpreter.specs.Numerals.{after_code, constant_of, exponent_of, no_digits, numeral, numeral_size}
+use Rattle.pr_interpreter.specs.Numerals.{after_code, constant_of, exponent_of, numeral, numeral_size}
 use Rattle.pr_interpreter.specs.Numerals.{with_digit}
 use Rattle.pr_interpreter.specs.Symbols.{first_code}
 use Rattle.pr_run.specs.ScriptTexts.{AreShort}
@@ -27,6 +26,7 @@ use Rattle.pr_run.proofs.ScriptSymbols.{AreSymbols, IsPiece, digit_symbols, kept
 
 -- ---- numbers
 
+-- digits that made a number
 abbrev whole : ℕ → Numeral
 whole n = record { digits = n; more = false; further = 0; decimals = 0; point = false }
 
@@ -34,11 +34,13 @@ whole n = record { digits = n; more = false; further = 0; decimals = 0; point = 
 abbrev NoNumber : List Symbol → Type 0
 NoNumber ss = (is_digit (first_code ss) ≡ false) × ((first_code ss == 46) ≡ false) × ((first_code ss == 69) ≡ false)
 
+-- more digits make no smaller number
 number_grows : (n : ℕ) (ds : List ℕ) → n ≤ number_after n ds
 number_grows n [] = omega arith
 number_grows n (d ∷ ds) =
     let more = number_grows (10 * n + (d - 48)) ds in omega arith
 
+-- a numeral ends where no digit follows
 numeral_stops : (n : ℕ) (ss : List Symbol) → NoNumber ss → numeral (whole n) ss ≡ whole n
 unfolding after_code
 numeral_stops n [] stop = refl
@@ -49,6 +51,7 @@ unfolding after_code
 size_stops n [] stop = refl
 size_stops n (s ∷ ss) stop = rw (stop.0, stop.1) refl
 
+-- digits are read as their number
 numeral_read : (place n : ℕ) (ds : List ℕ) (rest : List Symbol) → list_all is_digit ds ≡ true
     → number_after n ds ≤ 255 → NoNumber rest
     → numeral (whole n) (digit_symbols place ds ++ rest) ≡ whole (number_after n ds)
@@ -61,6 +64,7 @@ numeral_read place n (d ∷ ds) rest e h stop =
     let next : n * 10 + (d - 48) ≡ 10 * n + (d - 48) = omega arith in
     rw (parts.0, room, next) (numeral_read (place + 1) (10 * n + (d - 48)) ds rest parts.1 h stop)
 
+-- and all of them are read
 size_read : (place n : ℕ) (ds : List ℕ) (rest : List Symbol) → list_all is_digit ds ≡ true
     → number_after n ds ≤ 255 → NoNumber rest
     → numeral_size (whole n) (digit_symbols place ds ++ rest) ≡ length ds
@@ -78,6 +82,7 @@ digits_length : (place : ℕ) (ds : List ℕ) → length (digit_symbols place ds
 digits_length place [] = refl
 digits_length place (d ∷ ds) = ap suc (digits_length (place + 1) ds)
 
+-- the word of a number
 abbrev pub constant : ℕ → Word
 constant n = Constant (record { digits = n; more = false; tens = Times 0; roundings = 0; plain = true })
 
@@ -91,6 +96,7 @@ exponent_none ss e = rw e refl
 abbrev read_as : Word → ℕ → Word × ℕ
 read_as w n = (w, n)
 
+-- digits are the constant of their number
 constant_read : (place : ℕ) (ds : List ℕ) (rest : List Symbol) → list_all is_digit ds ≡ true → number_of ds ≤ 255
     → length ds ≤ 255 → NoNumber rest
     → constant_front (digit_symbols place ds ++ rest) ≡ read_as (constant (number_of ds)) (length ds)
@@ -116,6 +122,7 @@ no_letter d e =
     let none : nat_le 65 d ≡ false = lt-leb 65 d (omega arith) in
     rw none refl
 
+-- and one lexeme
 number_lexeme : (place d : ℕ) (ds : List ℕ) (rest : List Symbol) → list_all is_digit (d ∷ ds) ≡ true
     → number_of (d ∷ ds) ≤ 255 → length (d ∷ ds) ≤ 255 → NoNumber rest
     → lexemes 0 (digit_symbols place (d ∷ ds) ++ rest)
@@ -129,16 +136,19 @@ number_lexeme place d ds rest e h k stop =
 
 -- ---- other lexemes
 
+-- a code that is no letter, digit or sign of a comparison is a lexeme
 code_lexeme : (p c : ℕ) (rest : List Symbol) → is_letter c ≡ false → begins_constant c ≡ false → is_sign c ≡ false
     → lexemes 0 (kept p (CodeOf c) ∷ rest) ≡ lexeme p (Code c) ∷ lexemes 0 rest
 unfolding lexemes word_front
 code_lexeme p c rest letter digit sign = rw (letter, digit, sign) refl
 
+-- so is a string
 text_lexeme : (p a b : ℕ) (rest : List Symbol)
     → lexemes 0 (kept p (TextOf a b) ∷ rest) ≡ lexeme p (Text a b) ∷ lexemes 0 rest
 unfolding lexemes word_front
 text_lexeme p a b rest = refl
 
+-- and a remark
 remark_lexeme : (p : ℕ) (rest : List Symbol) → lexemes 0 (kept p RemarkOf ∷ rest) ≡ lexeme p Remark ∷ lexemes 0 rest
 unfolding lexemes word_front
 remark_lexeme p rest = refl
@@ -158,6 +168,7 @@ EndsDigits (Digits ds) = ⊥
 EndsDigits (Quoted s) = ⊥
 EndsDigits Stray = ⊥
 
+-- so it ends
 abbrev pub EndsNumber : List Script → Type 0
 EndsNumber [] = Unit {0}
 EndsNumber (l ∷ ls) = EndsDigits l
@@ -175,6 +186,7 @@ IsPlain Colon ls = Unit {0}
 IsPlain OpenParen ls = Unit {0}
 IsPlain CloseParen ls = Unit {0}
 
+-- lexemes of statements, one after another
 abbrev pub ArePlain : List Script → Type 0
 ArePlain [] = Unit {0}
 ArePlain (l ∷ ls) = IsPlain l ls × ArePlain ls
@@ -199,6 +211,7 @@ AllMatch text [] xs = xs ≡ []
 AllMatch text (l ∷ ls) xs = (p : ℕ) × (w : Word) × (rest : List Lexeme) × (xs ≡ lexeme p w ∷ rest)
     × Matches text l w × AllMatch text ls rest
 
+-- symbols before others are a lexeme that is that of a script
 abbrev Made : List ℕ → Script → List Symbol → List Symbol → Type 0
 Made text l xs rest = (p : ℕ) × (w : Word) × (lexemes 0 (xs ++ rest) ≡ lexeme p w ∷ lexemes 0 rest) × Matches text l w
 
@@ -213,7 +226,9 @@ code_ends : (text : List ℕ) (c : ℕ) (ss xs rest : List Symbol) → ss ≡ xs
     → (c == 46) ≡ false → (c == 69) ≡ false → (p : ℕ) × (xs ≡ kept p (CodeOf c) ∷ []) → NoNumber ss
 code_ends text c ss xs rest cut digit point exponent e = rw (cut, e.1) (digit, point, exponent)
 
-number_ends : (text : List ℕ) (ls : List Script) (ss : List Symbol) → EndsNumber ls → AreSymbols text ls ss → NoNumber ss
+-- what follows a number does not go on with it
+number_ends : (text : List ℕ) (ls : List Script) (ss : List Symbol) → EndsNumber ls → AreSymbols text ls ss
+    → NoNumber ss
 number_ends text [] ss ends e = rw e (refl, refl, refl)
 number_ends text (Comma ∷ ls) ss ends e = code_ends text 44 ss e.0 e.1 e.2 refl refl refl e.3
 number_ends text (Colon ∷ ls) ss ends e = code_ends text 58 ss e.0 e.1 e.2 refl refl refl e.3
@@ -232,6 +247,7 @@ number_made text [] xs rest e h k stop = let some = e.2 in absurd (omega arith)
 number_made text (d ∷ ds) xs rest e h k stop =
     (e.0, constant (number_of (d ∷ ds)), rw e.1 (number_lexeme e.0 d ds rest e.3 h k stop), refl)
 
+-- the symbols of each lexeme of a script are one lexeme
 piece_made : (text : List ℕ) (l : Script) (ls : List Script) (xs rest : List Symbol) → IsPiece text l xs
     → ArePlain (l ∷ ls) → AreShort (l ∷ ls) → AreSymbols text ls rest → Made text l xs rest
 piece_made text (Keywords Open) ls xs rest e plain short others = code_made 159 xs rest refl refl refl e
@@ -257,6 +273,7 @@ no_lexemes : (ss : List Symbol) → ss ≡ [] → lexemes 0 ss ≡ []
 unfolding lexemes
 no_lexemes ss e = rw e refl
 
+-- the lexemes of symbols are those of a script
 pub lexemes_match : (text : List ℕ) (ls : List Script) (ss : List Symbol) → ArePlain ls → AreShort ls
     → AreSymbols text ls ss → AllMatch text ls (lexemes 0 ss)
 lexemes_match text [] ss plain short e = no_lexemes ss e

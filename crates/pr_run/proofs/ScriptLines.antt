@@ -1,18 +1,16 @@
-use Rattle.std.proofs.Common.{◌≡◌, ◌⊎◌, ℕ, ◌+◌, ◌-◌, ◌*◌, ◌<◌, ◌≤◌, ◌==◌, ◌||◌, ◌&&◌, Bool, true, false, not, List, []}
-use Rattle.std.proofs.Common.{◌∷◌, ◌++◌, length, map, take, inl, inr, Some, None, Ok, refl, ap, sym, ◌∙◌, arith, subst}
+use Rattle.std.proofs.Common.{◌≡◌, ℕ, ◌+◌, ◌-◌, ◌*◌, ◌<◌, ◌≤◌, ◌==◌, true, false, List, []}
+use Rattle.std.proofs.Common.{◌∷◌, ◌++◌, length, take, inl, inr, Some, None, Ok, refl, ap, sym, ◌∙◌, arith, subst}
 use Rattle.std.proofs.Common.{append_assoc, append-nil, length-append, Option, Result}
-use Rattle.std.specs.Prelude.{codes, nat_lt, slice_range}
-use Rattle.std.specs.Char.{to_ascii_lowercase}
+use Rattle.std.specs.Prelude.{nat_lt, slice_range}
 use Rattle.std.specs.List.{filter, list_all, position_or_len}
 use Rattle.std.proofs.lemmas.Bool.{and_parts, eq-eqb, eqb-true, le-ltb, leb-true, lt-ltb, ne_eqb}
 use Rattle.std.proofs.lemmas.List.{nil_from_length, take_at}
 use Rattle.pr_base.specs.Digits.{is_digit, number_after, number_of}
 use Rattle.pr_basic.specs.Grammar.{AreParts, HasNumber, IsLine, IsPrinting, IsStatement, parts}
 use Rattle.pr_basic.specs.LexemeLaws.{LexemesAreFound}
-use Rattle.pr_basic.specs.Lexemes.{AreLexemes, CloseParen, Colon, Comma, Digits, IsLexeme, IsWord, Lexeme as Script}
+use Rattle.pr_basic.specs.Lexemes.{AreLexemes, CloseParen, Colon, Comma, Digits, IsWord, Lexeme as Script}
 use Rattle.pr_basic.specs.Lexemes.{OpenParen, Quoted, Remark as Remarked, Semicolon, Spells, Stray, Word as Keywords}
 use Rattle.pr_basic.specs.Lexemes.{is_space}
-use Rattle.pr_basic.specs.LineAt.{HasBasicNumber}
 use Rattle.pr_basic.specs.Text.{Text as Written}
 use Rattle.pr_basic.specs.declared.lexemes.Keyword.{Keyword}
 use Rattle.pr_basic.specs.declared.lexemes.Keyword.TheVariants.{Chr, Close, Cmd, Open, Print as PrintWord}
@@ -27,7 +25,7 @@ use Rattle.pr_interpreter.specs.declared.statements.PlacedStatement.{PlacedState
 use Rattle.pr_interpreter.specs.declared.symbols.Symbol.{Symbol}
 use Rattle.pr_interpreter.specs.declared.symbols.Writing.TheVariants.{Typed}
 use Rattle.pr_interpreter.specs.Lexemes.{lexemes, line_lexemes}
-use Rattle.pr_interpreter.specs.Lines.{blanks, front, is_mark, is_text, line_in, line_number, next_number}
+use Rattle.pr_interpreter.specs.Lines.{blanks, front, is_text, line_in, line_number, next_number}
 use Rattle.pr_interpreter.specs.Programs.{program_line}
 use Rattle.pr_interpreter.specs.Statements.{further, statements}
 use Rattle.pr_interpreter.specs.Symbols.{symbols}
@@ -41,11 +39,13 @@ use Rattle.pr_run.proofs.SpelledLemmas.{lines_read}
 
 -- ---- lexemes with blanks around them
 
+-- blanks are spaces
 blanks_spaces : (bs : List ℕ) → list_all is_blank bs ≡ true → list_all is_space bs ≡ true
 blanks_spaces [] e = refl
 blanks_spaces (b ∷ bs) e =
     let p = and_parts (is_blank b) (list_all is_blank bs) e in rw (p.0, blanks_spaces bs p.1) refl
 
+-- lexemes with blanks around them are those of the line
 spaced_lexemes : (ls : List Script) (line : List ℕ) → AreSpaced line ls → AreLexemes line ls
 spaced_lexemes [] line e = blanks_spaces line e
 spaced_lexemes (l ∷ ls) line e =
@@ -62,6 +62,7 @@ AreSaid text end place line ss = (said : List PlacedStatement)
     × (statements end (lexemes 0 (symbols Typed place 0 line)) ≡ read_all said)
     × LineSays text said (filter is_performed ss)
 
+-- bytes of statements are read as statements that say them
 line_said : LexemesAreFound → (text : List ℕ) (rest : List Script) (line before back : List ℕ) (place end : ℕ)
     (ss : List Output) → place ≡ length before → text ≡ before ++ (line ++ back) → AreShort rest → AreSpaced line rest
     → AreParts (parts rest) ss → AreSaid text end place line ss
@@ -73,7 +74,8 @@ line_said found text rest line before back place end ss at is short e c =
     let m = lexemes_match text rest (symbols Typed place 0 line) plain short all in
     let p = parts_spelled text (parts rest) rest ss (lexemes 0 (symbols Typed place 0 line)) refl c last m in
     let r = lines_read text end (p.0 ∷ p.1) p.2 in
-    (r.0, ap (λ (xs : List Lexeme). statements end xs) p.3 ∙ r.1, subst (λ (os : List Output). LineSays text r.0 os) p.4 r.2)
+    let read = ap (λ (xs : List Lexeme). statements end xs) p.3 ∙ r.1 in
+    (r.0, read, subst (λ (os : List Output). LineSays text r.0 os) p.4 r.2)
 
 -- ---- where the statements of a line begin
 
@@ -81,6 +83,7 @@ line_said found text rest line before back place end ss at is short e c =
 abbrev NoDigits : Script → Type 0
 NoDigits l = (ds : List ℕ) → l ≡ Digits ds → ⊥
 
+-- lexemes do not begin with a number
 abbrev Starts : List Script → Type 0
 Starts [] = Unit {0}
 Starts (l ∷ ls) = NoDigits l
@@ -93,6 +96,7 @@ printing_starts : (k : Keyword) (file : ℕ) (line : Written) (ls : List Script)
 printing_starts k file line ls (f, n, inl c) = subst Starts (sym c.0) (word_starts k)
 printing_starts k file line ls (f, n, inr c) = subst Starts (sym c.1) (word_starts k)
 
+-- no statement does
 statement_starts : (s : Output) (ls : List Script) → IsStatement s ls → Starts ls
 statement_starts (output.OpenFile file device None) ls c = subst Starts (sym c.2) (word_starts Open)
 statement_starts (output.OpenFile file device (Some second)) ls c = subst Starts (sym c.3) (word_starts Open)
@@ -113,6 +117,7 @@ part_starts p ps ss (inr c) = statement_starts c.0 p c.2
 some_parts : (l : Script) (ls : List Script) → parts (l ∷ ls) ≡ [] → ⊥
 some_parts l ls e = let never : l ∷ ls ≡ [] = no_parts (l ∷ ls) e in cc
 
+-- and so no line after its number
 parts_start : (ps : List (List Script)) (ls : List Script) (ss : List Output) → parts ls ≡ ps → AreParts ps ss
     → Starts ls
 parts_start [] [] ss e c = tt
@@ -123,6 +128,7 @@ parts_start (p ∷ ps) ls ss e c = by (cut_parts ls p ps e)
     by (inl k) = subst Starts (sym k.0) (part_starts p ps ss c)
     by (inr k) = subst Starts (sym k.1) (starts_joined p k.0 (part_starts p ps ss c))
 
+-- a letter is text
 text_letter : (b : ℕ) → 65 ≤ b → is_text b ≡ true
 text_letter b h =
     let first : (b == 32) ≡ false = ne_eqb b 32 (λ e. omega arith) in
@@ -140,6 +146,7 @@ word_text c cs bytes after h e =
     let cut = letters_cut c cs bytes h e in
     subst (λ (t : List ℕ). BeginsText (t ++ after)) (sym cut.2.cut) (text_letter cut.0 cut.2.low)
 
+-- each lexeme but a number is text
 lexeme_text : (l : Script) (bytes after : List ℕ) → NoDigits l → Spells l bytes after → BeginsText (bytes ++ after)
 lexeme_text (Keywords Open) bytes after other e =
     word_text 111 (112 ∷ 101 ∷ 110 ∷ []) bytes after (omega arith) e
@@ -173,6 +180,7 @@ record IsCut (bytes spaces body : List ℕ) : Type 0 where
   pub blank : AreBlank spaces
   pub begins : BeginsText body
 
+-- lexemes that do not begin with a number are text after blanks
 body_cut : (ls : List Script) (line : List ℕ) → Starts ls → AreKnown ls → AreSpaced line ls
     → (spaces : List ℕ) × (body : List ℕ) × IsCut line spaces body
 body_cut [] line starts known e =
@@ -194,6 +202,7 @@ abbrev AreFront : List ℕ → Type 0
 AreFront [] = Unit {0}
 AreFront (b ∷ bs) = (is_text b ≡ false) × AreFront bs
 
+-- such bytes joined are such bytes
 front_joined : (xs ys : List ℕ) → AreFront xs → AreFront ys → AreFront (xs ++ ys)
 front_joined [] ys e f = f
 front_joined (x ∷ xs) ys e f = (e.0, front_joined xs ys e.1 f)
@@ -221,18 +230,22 @@ text_at : (body : List ℕ) → BeginsText body → position_or_len is_text body
 text_at [] e = refl
 text_at (b ∷ bs) e = rw e refl
 
+-- the front of a row goes as far as they do
 front_size : (xs body : List ℕ) → AreFront xs → BeginsText body → front (xs ++ body) ≡ length xs
 front_size [] body e f = text_at body f
 front_size (x ∷ xs) body e f = rw (e.0, front_size xs body e.1 f) (omega arith)
 
+-- its blanks go as far as its number
 blanks_size : (bs rest : List ℕ) (d : ℕ) → AreBlank bs → (d == 32) ≡ false → blanks (bs ++ (d ∷ rest)) ≡ length bs
 blanks_size [] rest d e f = rw f refl
 blanks_size (b ∷ bs) rest d e f = rw (e.0, blanks_size bs rest d e.1 f) (omega arith)
 
+-- blanks change no number
 number_blank : (n : ℕ) (bs rest : List ℕ) → AreBlank bs → line_number n (bs ++ rest) ≡ line_number n rest
 number_blank n [] rest e = refl
 number_blank n (b ∷ bs) rest e = rw e.0 (number_blank n bs rest e.1)
 
+-- digits make their number
 number_digits : (n : ℕ) (ds rest : List ℕ) → list_all is_digit ds ≡ true
     → line_number n (ds ++ rest) ≡ line_number (number_after n ds) rest
 number_digits n [] rest e = refl
@@ -268,6 +281,7 @@ some_line l = Ok (Some l)
 abbrev no_line : Result (Option Line) ProgramFault
 no_line = Ok None
 
+-- a row has the number that its digits make
 row_number : (row spaces ds more body : List ℕ) → IsRow row spaces ds more body
     → line_number 0 (take (front row) row) ≡ number_of ds
 row_number row spaces ds more body c =
@@ -280,6 +294,7 @@ row_number row spaces ds more body c =
     (number_blank 0 spaces (ds ++ more) c.before
     ∙ (number_digits 0 ds more c.digits ∙ number_ends (number_of ds) more c.after))
 
+-- how many bytes come before its text
 row_front : (row spaces ds more body : List ℕ) → IsRow row spaces ds more body
     → front row ≡ length spaces + length ds + length more
 row_front row spaces ds more body c =
@@ -290,6 +305,7 @@ row_front row spaces ds more body c =
     (front_joined ds more (digits_front ds c.digits) (blanks_front more c.after))) c.begins in
     rw (c.cut, size) (omega (arith, length-append spaces (ds ++ more), length-append ds more))
 
+-- how many blanks it begins with
 row_blanks : (row spaces ds more body : List ℕ) → IsRow row spaces ds more body → blanks row ≡ length spaces
 row_blanks row spaces [] more body c = let some = c.some in absurd (omega arith)
 row_blanks row spaces (d ∷ ds) more body c =
@@ -300,6 +316,7 @@ row_blanks row spaces (d ∷ ds) more body c =
     rw (c.cut, append_assoc spaces (d ∷ (ds ++ more)) body)
     (blanks_size spaces ((ds ++ more) ++ body) d c.before first)
 
+-- how many bytes it has
 row_size : (row spaces ds more body : List ℕ) → IsRow row spaces ds more body
     → length row ≡ length spaces + length ds + length more + length body
 row_size row spaces ds more body c =
@@ -311,6 +328,7 @@ row_size row spaces ds more body c =
       length-append ds more,
     ))
 
+-- a row with a number is a line
 row_line : (start : ℕ) (row spaces ds more body : List ℕ) → IsRow row spaces ds more body
     → line_in start row ≡ some_line (line_at (number_of ds) (start + front row) (start + length row))
 unfolding line_in
@@ -333,6 +351,7 @@ only_blanks (b ∷ bs) e = rw (e.0, only_blanks bs e.1) (omega arith)
 same_itself : (n : ℕ) → (n == n) ≡ true
 same_itself n = eq-eqb n n refl
 
+-- a row of blanks is none
 pub blank_line : (start : ℕ) (row : List ℕ) → list_all is_blank row ≡ true → line_in start row ≡ no_line
 unfolding line_in
 blank_line start row e = rw (only_blanks row (all_blank row e), same_itself (length row)) refl
@@ -440,6 +459,7 @@ numbered_parts found row n ss h c = by c.3
     same : c.0 ≡ Digits h.digits ∷ h.rest
     same = sym (found row c.0 c.2)
         ∙ found row (Digits h.digits ∷ h.rest) (spaced_lexemes (Digits h.digits ∷ h.rest) row h.spelled)
+
     by : HasNumber c.0 c.1 → (n ≤ 63999) × AreParts (parts h.rest) ss
     by (inl none) = absurd (none.1 h.digits h.rest same)
     by (inr some) =
@@ -450,6 +470,7 @@ numbered_parts found row n ss h c = by c.3
         let small = some.2 in
         (omega arith, subst (λ (ls : List Script). AreParts (parts ls) ss) rest c.4)
 
+-- a line of a script that has a number says its statements in a program
 pub numbered_row : LexemesAreFound → (text row before back : List ℕ) (place n : ℕ) (ss : List Output)
     → place ≡ length before → text ≡ before ++ (row ++ back) → IsNumberedLine row n → IsLine row ss
     → IsLineSaid text place row n ss
@@ -471,6 +492,7 @@ blank_said found row ss e c = by c.3
   where
     none : c.0 ≡ []
     none = sym (found row c.0 c.2) ∙ found row [] (blanks_spaces row e)
+
     by : HasNumber c.0 c.1 → ss ≡ []
     by (inl k) = subst (λ (ls : List Script). AreParts (parts ls) ss) (sym k.0 ∙ none) c.4
     by (inr k) = absurd (let never : [] ≡ Digits k.0 ∷ c.1 = sym none ∙ k.1 in cc)

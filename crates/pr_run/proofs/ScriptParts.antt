@@ -1,16 +1,16 @@
-use Rattle.std.proofs.Common.{◌≡◌, ◌⊎◌, ℕ, ◌+◌, ◌-◌, ◌<◌, ◌≤◌, ◌==◌, Bool, true, false, List, [], ◌∷◌, ◌++◌, length}
-use Rattle.std.proofs.Common.{inl, inr, min, Some, None, refl, ap, sym, ◌∙◌, arith, append_assoc, append-nil}
-use Rattle.std.proofs.Common.{length-append, length-drop, length-take, drop, take, subst}
+use Rattle.std.proofs.Common.{◌≡◌, ◌⊎◌, ℕ, ◌-◌, ◌≤◌, Bool, true, false, List, [], ◌∷◌, ◌++◌, length}
+use Rattle.std.proofs.Common.{inl, inr, Some, None, refl, ap, sym, ◌∙◌, arith}
+use Rattle.std.proofs.Common.{length-append, length-drop, length-take, drop, subst}
 use Rattle.std.specs.Prelude.{slice_range}
 use Rattle.std.specs.List.{filter}
 use Rattle.pr_base.specs.Digits.{number_of}
 use Rattle.pr_base.specs.Lines.{onto_first}
-use Rattle.pr_basic.specs.Grammar.{AreItems, AreParts, Code as CodeItem, IsList, IsNumber, IsPrinting, IsStatement, Item}
-use Rattle.pr_basic.specs.Grammar.{Quote as QuoteItem, Semi as SemiItem, parts}
+use Rattle.pr_basic.specs.Grammar.{AreItems, AreParts, Code as CodeItem, IsList, IsNumber, IsPrinting, IsStatement}
+use Rattle.pr_basic.specs.Grammar.{Item, Quote as QuoteItem, Semi as SemiItem, parts}
 use Rattle.pr_basic.specs.Grammar as grammar
 use Rattle.pr_basic.specs.LexemeLaws.{LexemesAreFound}
 use Rattle.pr_basic.specs.Lexemes.{AreLexemes, CloseParen, Colon, Comma, Digits, IsLexeme, Lexeme as Script, OpenParen}
-use Rattle.pr_basic.specs.Lexemes.{Quoted, Remark as Remarked, Semicolon, Spells as SpellsLexeme, Stray, Word as Keywords}
+use Rattle.pr_basic.specs.Lexemes.{Quoted, Remark as Remarked, Semicolon, Stray, Word as Keywords}
 use Rattle.pr_basic.specs.Lexing.{lexemes_after}
 use Rattle.pr_basic.specs.Text.{Text as Line}
 use Rattle.pr_basic.specs.declared.lexemes.Keyword.{Keyword}
@@ -20,10 +20,10 @@ use Rattle.pr_basic.specs.declared.statement.Statement.TheVariants.{CloseFile, C
 use Rattle.pr_basic.specs.declared.statement.Statement.TheVariants.{Rem}
 use Rattle.pr_interpreter.specs.declared.lexemes.Lexeme.{Lexeme}
 use Rattle.pr_interpreter.specs.declared.lexemes.Word.{Word}
-use Rattle.pr_interpreter.specs.declared.lexemes.Word.TheVariants.{Code, Remark, Text}
-use Rattle.pr_run.specs.ScriptTexts.{AreShort, is_performed}
+use Rattle.pr_interpreter.specs.declared.lexemes.Word.TheVariants.{Code}
+use Rattle.pr_run.specs.ScriptTexts.{is_performed}
 use Rattle.pr_run.specs.Spelled.{AreGood, AreSpelled, Character, Empty, IsSpelled, LinePart, Listed, Performs, Quote}
-use Rattle.pr_run.specs.Spelled.{Remarks, Semi, Spells, SpellsList, SpellsMore, ends_after, items_bytes, items_lexemes}
+use Rattle.pr_run.specs.Spelled.{Remarks, Semi, SpellsList, SpellsMore, ends_after, items_bytes, items_lexemes}
 use Rattle.pr_run.specs.Spelled.{lexeme, number, part_lexemes, part_said, parts_lexemes, parts_said}
 use Rattle.pr_run.proofs.ScriptLexemes.{AllMatch, ArePlain, EndsNumber, IsPlain, Matches, constant}
 use Rattle.pr_run.proofs.ScriptSymbols.{AreKnown}
@@ -47,9 +47,11 @@ pub record AreListed (text : List ℕ) (items : List Item) (xs : List Lexeme) : 
   pub bytes : items_bytes text listed ≡ grammar.items_bytes items
   pub ends : (ends : Bool) → ends_after ends listed ≡ grammar.ends_after ends items
 
+-- how many bytes a part of a text has
 range_size : (text : List ℕ) (a b : ℕ) → b ≤ length text → length (slice_range text a b) ≡ b - a
 range_size text a b h = omega (arith, length-take (b - a) (drop a text), length-drop a text)
 
+-- the lexemes of items are those of a list
 items_listed : (text : List ℕ) (items : List Item) (xs : List Lexeme) → AreItems items
     → length (grammar.items_bytes items) ≤ 255 → AllMatch text (grammar.items_lexemes items) xs
     → AreListed text items xs
@@ -98,6 +100,7 @@ items_listed text (CodeItem ds ∷ is) xs good short m =
       ends = λ ends. r.ends true;
     }
 
+-- the lexemes of a list spell its line
 list_spelled : (text : List ℕ) (list : List Script) (line : Line) (xs : List Lexeme) → IsList list line
     → AllMatch text list xs → (items : List Listed) × (xs ≡ items_lexemes items) × SpellsList text items line
 list_spelled text list line xs c m =
@@ -150,10 +153,12 @@ printing_spelled text k token file line ls xs is (f, n, inr c) m =
 abbrev pub EndsRemark : Script → List Script → Type 0
 EndsRemark l ls = l ≡ Remarked → ls ≡ []
 
+-- a remark is the last lexeme
 abbrev pub RemarkIsLast : List Script → Type 0
 RemarkIsLast [] = Unit {0}
 RemarkIsLast (l ∷ ls) = EndsRemark l ls × RemarkIsLast ls
 
+-- the lexemes of a statement spell it; a remark is none
 statement_spelled : (text : List ℕ) (s : Output) (ls : List Script) (xs : List Lexeme) → IsStatement s ls
     → RemarkIsLast ls → AllMatch text ls xs → PartOf text s xs
 statement_spelled text (OpenFile file device None) ls xs c last m =
@@ -191,8 +196,8 @@ statement_spelled text (OpenFile file device (Some second)) ls xs c last m =
         f.0,
         g.0,
         put a.3 a.4
-        (put b.3 (digits_are b.4 c.4.0)
-        (put d.3 d.4 (put e.3 (digits_are e.4 c.5.0) (put f.3 f.4 (put g.3 (digits_are g.4 c.6.0) g.5))))),
+            (put b.3 (digits_are b.4 c.4.0)
+            (put d.3 d.4 (put e.3 (digits_are e.4 c.5.0) (put f.3 f.4 (put g.3 (digits_are g.4 c.6.0) g.5))))),
         c.4.2,
         c.5.1,
         c.5.2,
@@ -255,6 +260,7 @@ onto_some : (l : Script) (ps : List (List Script)) → onto_first l ps ≡ [] �
 onto_some l [] e = cc
 onto_some l (p ∷ ps) e = cc
 
+-- without parts there are no lexemes
 pub no_parts : (ls : List Script) → parts ls ≡ [] → ls ≡ []
 no_parts [] e = refl
 no_parts (l ∷ ls) e = absurd (none (parts_step l ls))
@@ -267,6 +273,7 @@ no_front : (p : List Script) (ps : List (List Script)) → parts [] ≡ p ∷ ps
 unfolding parts
 no_front p ps e = cc
 
+-- lexemes are their first part, and perhaps a colon and others
 pub cut_parts : (ls p : List Script) (ps : List (List Script)) → parts ls ≡ p ∷ ps → Cut ls p ps
 cut_parts [] p ps e = absurd (no_front p ps e)
 cut_parts (l ∷ ls) p ps e = by (λ q qs some. cut_parts ls q qs some) (parts_step l ls)
@@ -277,6 +284,7 @@ cut_parts (l ∷ ls) p ps e = by (λ q qs some. cut_parts ls q qs some) (parts_s
         let cut : l ∷ ls ≡ p ++ (Colon ∷ c.0) =
         ap (λ (t : List Script). l ∷ t) c.1 ∙ ap (λ (t : List Script). t ++ (Colon ∷ c.0)) front in
         inr (c.0, cut, c.2 ∙ back)
+
     on : ((q : List Script) (qs : List (List Script)) → parts ls ≡ q ∷ qs → Cut ls q qs)
         → (qs : List (List Script)) → parts ls ≡ qs → onto_first l qs ≡ p ∷ ps → Cut (l ∷ ls) p ps
     on more [] none k =
@@ -288,6 +296,7 @@ cut_parts (l ∷ ls) p ps e = by (λ q qs some. cut_parts ls q qs some) (parts_s
         let front : l ∷ q ≡ p = cc in
         let back : qs ≡ ps = cc in
         further q qs (more q qs some) front back
+
     by : ((q : List Script) (qs : List (List Script)) → parts ls ≡ q ∷ qs → Cut ls q qs)
         → ((l ≡ Colon) × (parts (l ∷ ls) ≡ [] ∷ parts ls)) ⊎ (parts (l ∷ ls) ≡ onto_first l (parts ls))
         → Cut (l ∷ ls) p ps
@@ -300,6 +309,7 @@ cut_parts (l ∷ ls) p ps e = by (λ q qs some. cut_parts ls q qs some) (parts_s
         inr (ls, cut, back)
     by more (inr c) = on more (parts ls) refl (sym c ∙ e)
 
+-- so are the lexemes that are those of a script
 match_parts : (text : List ℕ) (p more : List Script) (xs : List Lexeme) → AllMatch text (p ++ (Colon ∷ more)) xs
     → (front : List Lexeme) × (c : ℕ) × (back : List Lexeme) × (xs ≡ front ++ (lexeme c (Code 58) ∷ back))
     × AllMatch text p front × AllMatch text more back
@@ -312,12 +322,14 @@ some_left : (p more : List Script) → p ++ (Colon ∷ more) ≡ [] → ⊥
 some_left [] more e = cc
 some_left (l ∷ p) more e = cc
 
+-- and a remark is the last lexeme of a part
 last_parts : (p more : List Script) → RemarkIsLast (p ++ (Colon ∷ more)) → RemarkIsLast p × RemarkIsLast more
 last_parts [] more e = (tt, e.1)
 last_parts (l ∷ p) more e =
     let r = last_parts p more e.1 in
     (((λ same. absurd (some_left p more (e.0 same))), r.0), r.1)
 
+-- the first part of a line is empty, or spells its first statement
 part_spelled : (text : List ℕ) (p : List Script) (ps : List (List Script)) (ss : List Output) (xs : List Lexeme)
     → AreParts (p ∷ ps) ss → RemarkIsLast p → AllMatch text p xs
     → (x : LinePart) × (more : List Output) × IsSpelled text x × (xs ≡ part_lexemes x) × AreParts ps more
@@ -333,6 +345,7 @@ abbrev pub SpellParts : List ℕ → List Lexeme → List Output → Type 0
 SpellParts text xs ss = (x : LinePart × ℕ) × (more : List (LinePart × ℕ)) × AreSpelled text (x ∷ more)
     × (xs ≡ parts_lexemes (x ∷ more)) × (parts_said (x ∷ more) ≡ filter is_performed ss)
 
+-- the lexemes of a line spell its statements
 pub parts_spelled : (text : List ℕ) (ps : List (List Script)) (ls : List Script) (ss : List Output) (xs : List Lexeme)
     → parts ls ≡ ps → AreParts ps ss → RemarkIsLast ls → AllMatch text ls xs → SpellParts text xs ss
 parts_spelled text [] ls ss xs e c last m =
@@ -364,6 +377,7 @@ parts_spelled text (p ∷ ps) ls ss xs e c last m =
 
 -- ---- lexemes of statements
 
+-- lexemes of items
 items_plain : (items : List Item) → AreItems items → ArePlain (grammar.items_lexemes items)
 items_plain [] good = tt
 items_plain (SemiItem ∷ is) good = (tt, items_plain is good.1)
@@ -373,6 +387,7 @@ items_plain (CodeItem ds ∷ is) good = (tt, (tt, ((good.0, tt), (tt, items_plai
 list_plain : (list : List Script) (line : Line) → IsList list line → ArePlain list
 list_plain list line c = subst ArePlain (sym c.spelled) (items_plain c.items c.good)
 
+-- a number of a statement is at most 255
 number_small : (low high n : ℕ) (ds : List ℕ) → IsNumber low high n ds → high ≤ 255 → number_of ds ≤ 255
 number_small low high n ds c h = let same = c.0 in let most = c.2 in omega arith
 
@@ -383,6 +398,7 @@ printing_plain k file line ls (f, n, inr c) =
     subst ArePlain (sym c.1)
     (tt, ((number_small 0 255 file f n (omega arith), tt), (tt, list_plain c.0 line c.3)))
 
+-- lexemes of a statement
 statement_plain : (s : Output) (ls : List Script) → IsStatement s ls → RemarkIsLast ls → ArePlain ls
 statement_plain (OpenFile file device None) ls c last =
     let f = number_small 0 255 file c.0 c.3 (omega arith) in
@@ -408,6 +424,7 @@ ends_more : (p more : List Script) → EndsNumber p → EndsNumber (p ++ (Colon 
 ends_more [] more e = tt
 ends_more (l ∷ p) more e = e
 
+-- a colon may follow each lexeme
 plain_more : (l : Script) (p more : List Script) → IsPlain l p → IsPlain l (p ++ (Colon ∷ more))
 plain_more (Digits ds) p more e = (e.0, ends_more p more e.1)
 plain_more Stray p more e = absurd e
@@ -429,6 +446,7 @@ part_plain : (p : List Script) (ps : List (List Script)) (ss : List Output) → 
 part_plain p ps ss (inl c) last = (subst ArePlain (sym c.0) tt, (ss, c.1))
 part_plain p ps ss (inr c) last = (statement_plain c.0 p c.2 last, (c.1, c.4))
 
+-- lexemes of a line
 pub parts_plain : (ps : List (List Script)) (ls : List Script) (ss : List Output) → parts ls ≡ ps → AreParts ps ss
     → RemarkIsLast ls → ArePlain ls
 parts_plain [] ls ss e c last = subst ArePlain (sym (no_parts ls e)) tt
@@ -443,6 +461,7 @@ parts_plain (p ∷ ps) ls ss e c last =
         let first = part_plain p ps ss c ends.0 in
         subst ArePlain (sym k.1) (plain_joined p k.0 first.0 (others k.0 first.1.0 k.2 first.1.1 ends.1))
 
+-- none of them is a stray byte
 pub plain_known : (ls : List Script) → ArePlain ls → AreKnown ls
 plain_known [] e = tt
 plain_known (l ∷ ls) e =
@@ -450,10 +469,12 @@ plain_known (l ∷ ls) e =
 
 -- ---- remarks
 
+-- no bytes have no lexemes
 no_bytes : LexemesAreFound → (ls : List Script) → AreLexemes [] ls → ls ≡ []
 unfolding lexemes_after
 no_bytes found ls e = sym (found [] ls e)
 
+-- a remark takes the rest of its line
 pub remark_last : LexemesAreFound → (ls : List Script) (line : List ℕ) → AreLexemes line ls → RemarkIsLast ls
 remark_last found [] line e = tt
 remark_last found (l ∷ ls) line e =

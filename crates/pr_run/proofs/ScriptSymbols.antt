@@ -1,24 +1,18 @@
-use Rattle.std.proofs.Common.{◌≡◌, ◌⊎◌, ℕ, zero, suc, ◌+◌, ◌-◌, ◌<◌, ◌≤◌, ◌==◌, ◌&&◌, ◌||◌, Bool, true, false, not, List}
-use Rattle.std.proofs.Common.{[], ◌∷◌, ◌++◌, length, map, take, drop, Some, None, inl, inr, refl, ap, sym, ◌∙◌, arith}
-use Rattle.std.proofs.Common.{append_assoc, append-nil, length-append, subst}
+use Rattle.std.proofs.Common.{◌≡◌, ℕ, zero, suc, ◌+◌, ◌-◌, ◌<◌, ◌≤◌, ◌==◌, ◌&&◌, Bool, true, false, List}
+use Rattle.std.proofs.Common.{[], ◌∷◌, ◌++◌, length, map, take, Some, None, inl, inr, refl, ap, sym, ◌∙◌, arith}
+use Rattle.std.proofs.Common.{append_assoc, append-nil, length-append}
 use Rattle.std.specs.Prelude.{codes, nat_le, nat_lt, slice_range, Option}
 use Rattle.std.specs.Char.{to_ascii_lowercase, to_ascii_uppercase}
 use Rattle.std.specs.List.{list_all, position_or_len}
-use Rattle.std.proofs.lemmas.Bool.{and_parts, eqb-false, eqb-true, false≢true, le-ltb, leb-true, lt-ltb, ltb-false, ltb-true}
-use Rattle.std.proofs.lemmas.Bool.{ne_eqb, or_cases}
+use Rattle.std.proofs.lemmas.Bool.{and_parts, eqb-false, eqb-true, false≢true, le-ltb, leb-true, lt-ltb, ltb-false}
+use Rattle.std.proofs.lemmas.Bool.{ltb-true, ne_eqb}
 use Rattle.std.proofs.lemmas.List.{drop_at, take_at}
-use Rattle.std.proofs.lemmas.List.Folds.{list_all-append}
-use Rattle.pr_base.specs.Digits.{is_digit, number_of}
+use Rattle.pr_base.specs.Digits.{is_digit}
 use Rattle.pr_listing.specs.Keywords.{keyword_of}
-use Rattle.pr_basic.specs.LexemeLaws.{LexemesAreFound}
-use Rattle.pr_basic.specs.Lexemes.{AreLexemes, CloseParen, Colon, Comma, Digits, IsLexeme, IsWord, Lexeme, NoHash}
-use Rattle.pr_basic.specs.Lexemes.{OpenParen, Quoted, Remark, Semicolon, Spells, Stray, Word, is_no_quote, is_space}
-use Rattle.pr_basic.specs.Lexemes.{letters_of}
-use Rattle.pr_basic.specs.Lexing.{lexemes_after, lexemes_of}
+use Rattle.pr_basic.specs.Lexemes.{CloseParen, Colon, Comma, Digits, IsLexeme, IsWord, Lexeme, NoHash}
+use Rattle.pr_basic.specs.Lexemes.{OpenParen, Quoted, Remark, Semicolon, Spells, Stray, Word, is_no_quote}
 use Rattle.pr_basic.specs.declared.lexemes.Keyword.{Keyword}
 use Rattle.pr_basic.specs.declared.lexemes.Keyword.TheVariants.{Chr, Close, Cmd, Open, Print, PrintTo}
-use Rattle.pr_interpreter.specs.declared.symbols.Front.{Front}
-use Rattle.pr_interpreter.specs.declared.symbols.Keyword.{Keyword as Found}
 use Rattle.pr_interpreter.specs.declared.symbols.Stored.{Stored}
 use Rattle.pr_interpreter.specs.declared.symbols.Stored.TheVariants.{Code, Remark as RemarkOf, Text}
 use Rattle.pr_interpreter.specs.declared.symbols.Symbol.{Symbol}
@@ -27,11 +21,13 @@ use Rattle.pr_interpreter.specs.Symbols.{begins, first_token, front, is_quote, k
 use Rattle.pr_interpreter.specs.Symbols.{string_front, symbols, typed_token}
 use Rattle.pr_run.specs.ScriptTexts.{AreSpaced, is_blank}
 
+-- a symbol at a place
 abbrev pub kept : ℕ → Stored → Symbol
 kept place s = record { stored = s; place = place }
 
 -- ---- bytes that are no symbols, and bytes that are left
 
+-- bytes are blanks
 abbrev pub AreBlank : List ℕ → Type 0
 AreBlank [] = Unit {0}
 AreBlank (b ∷ bs) = (b ≡ 32) × AreBlank bs
@@ -39,6 +35,7 @@ AreBlank (b ∷ bs) = (b ≡ 32) × AreBlank bs
 same_place : (m n skip : ℕ) (bs : List ℕ) → m ≡ n → symbols Typed m skip bs ≡ symbols Typed n skip bs
 same_place m n skip bs e = ap (λ (p : ℕ). symbols Typed p skip bs) e
 
+-- blanks have no symbols
 pub symbols_blank : (place : ℕ) (bs rest : List ℕ) → AreBlank bs
     → symbols Typed place 0 (bs ++ rest) ≡ symbols Typed (place + length bs) 0 rest
 unfolding symbols front
@@ -52,6 +49,7 @@ pub no_symbols : (place skip : ℕ) → symbols Typed place skip [] ≡ []
 unfolding symbols
 no_symbols place skip = refl
 
+-- the bytes of a symbol are passed
 symbols_skip : (bs : List ℕ) (place : ℕ) (rest : List ℕ)
     → symbols Typed place (length bs) (bs ++ rest) ≡ symbols Typed (place + length bs) 0 rest
 unfolding symbols
@@ -71,6 +69,7 @@ symbol_front place b bs rest s n e h =
 
 -- ---- capitals and small letters
 
+-- the capital of a small letter is that of the letter
 upper_lower : (b : ℕ) → to_ascii_uppercase (to_ascii_lowercase b) ≡ to_ascii_uppercase b
 upper_lower b = cases (nat_lt b 65) (nat_lt b 91) refl refl
   where
@@ -117,6 +116,7 @@ same_begins [] bs rest = refl
 same_begins (w ∷ ws) [] rest = refl
 same_begins (w ∷ ws) (b ∷ bs) rest = rw (upper_lower b, same_begins ws bs rest) refl
 
+-- so each keyword is found in either case
 same_token : (token more : ℕ) (bs rest : List ℕ)
     → first_token token more (bs ++ rest) ≡ first_token token more (map to_ascii_lowercase bs ++ rest)
 same_token token zero bs rest = refl
@@ -127,6 +127,7 @@ token_cased : (bs rest : List ℕ) → typed_token (bs ++ rest) ≡ typed_token 
 unfolding typed_token
 token_cased bs rest = same_token 128 76 bs rest
 
+-- the token of a keyword of scripts
 abbrev pub token_of : Keyword → ℕ
 token_of Open = 159
 token_of Close = 160
@@ -138,6 +139,7 @@ token_of Chr = 199
 abbrev found : ℕ → Option ℕ
 found token = Some token
 
+-- each keyword of scripts is found by its token, whatever follows; `#` makes PRINT another
 open_token : (rest : List ℕ) → typed_token (codes "open" ++ rest) ≡ found 159
 unfolding typed_token keyword_of
 open_token rest = refl
@@ -156,10 +158,10 @@ print_to_token rest = refl
 
 print_token : (rest : List ℕ) → NoHash rest → typed_token (codes "print" ++ rest) ≡ found 153
 unfolding typed_token keyword_of
-print_token [] free = refl
+print_token [] free = refl {a = found 153}
 print_token (b ∷ bs) free =
     let other : (to_ascii_uppercase b == 35) ≡ false = ne_eqb (to_ascii_uppercase b) 35 (λ e. free (upper_hash b e)) in
-    rw other refl
+    rw other (refl {a = found 153})
 
 chr_token : (rest : List ℕ) → typed_token (codes "chr$" ++ rest) ≡ found 199
 unfolding typed_token keyword_of
@@ -175,6 +177,7 @@ pub record IsLetters (letters bytes : List ℕ) (b : ℕ) (bs : List ℕ) : Type
   pub low : 65 ≤ b
   pub size : length bs + 1 ≡ length letters
 
+-- a word has a first byte, which is a letter
 pub letters_cut : (c : ℕ) (cs bytes : List ℕ) → 97 ≤ c → IsWord (c ∷ cs) bytes
     → (b : ℕ) × (bs : List ℕ) × IsLetters (c ∷ cs) bytes b bs
 letters_cut c cs [] h e = absurd (let never : [] ≡ c ∷ cs = e in cc)
@@ -209,6 +212,7 @@ pub record IsSpelledAs (token : ℕ) (letters rest : List ℕ) : Type 0 where
   pub no_remark : (token == 143) ≡ false
   pub no_data : (token == 131) ≡ false
 
+-- a keyword of scripts is one symbol
 word_symbol : (place token c : ℕ) (cs bytes rest : List ℕ) → 97 ≤ c → IsWord (c ∷ cs) bytes
     → IsSpelledAs token (c ∷ cs) rest
     → symbols Typed place 0 (bytes ++ rest) ≡ kept place (Code token) ∷ symbols Typed (place + length bytes) 0 rest
@@ -277,6 +281,7 @@ remark_symbol place word rest e =
 
 -- ---- signs
 
+-- each sign is a symbol of its own
 comma_symbol : (place : ℕ) (rest : List ℕ)
     → symbols Typed place 0 (44 ∷ rest) ≡ kept place (Code 44) ∷ symbols Typed (place + 1) 0 rest
 unfolding symbols front keyword_at typed_token keyword_of
@@ -304,6 +309,7 @@ close_paren_symbol place rest = refl
 
 -- ---- digits
 
+-- digits have a symbol each
 abbrev pub digit_symbols : ℕ → List ℕ → List Symbol
 digit_symbols place [] = []
 digit_symbols place (d ∷ ds) = kept place (Code d) ∷ digit_symbols (place + 1) ds
@@ -322,6 +328,7 @@ begin_none : ℕ → List ℕ → Bool
 begin_none zero rest = true
 begin_none (suc n) rest = is_none (typed_token ((48 + n) ∷ rest)) && begin_none n rest
 
+-- no keyword begins with a digit
 digits_begin_none : (rest : List ℕ) → begin_none 10 rest ≡ true
 unfolding begin_none is_none typed_token keyword_of
 digits_begin_none rest = refl
@@ -355,6 +362,7 @@ digit_none d rest e =
     let same : 48 + (d - 48) ≡ d = omega arith in
     ap (λ (b : ℕ). typed_token (b ∷ rest)) (sym same) ∙ none_at 10 (d - 48) rest (digits_begin_none rest) less
 
+-- so a digit is kept as it is
 digit_symbol : (place d : ℕ) (rest : List ℕ) → is_digit d ≡ true
     → symbols Typed place 0 (d ∷ rest) ≡ kept place (Code d) ∷ symbols Typed (place + 1) 0 rest
 unfolding symbols front keyword_at
@@ -382,21 +390,25 @@ digits_found place (d ∷ ds) rest e =
 
 -- ---- strings
 
+-- a string goes as far as its quote
 quote_ends : (s rest : List ℕ) → list_all is_no_quote s ≡ true → position_or_len is_quote (s ++ 34 ∷ rest) ≡ length s
 quote_ends [] rest e = refl
 quote_ends (b ∷ bs) rest e =
     let parts = and_parts (is_no_quote b) (list_all is_no_quote bs) e in
     rw (parts.0, quote_ends bs rest parts.1) (omega arith)
 
+-- or as far as the line
 line_ends : (s : List ℕ) → list_all is_no_quote s ≡ true → position_or_len is_quote s ≡ length s
 line_ends [] e = refl
 line_ends (b ∷ bs) e =
     let parts = and_parts (is_no_quote b) (list_all is_no_quote bs) e in
     rw (parts.0, line_ends bs parts.1) (omega arith)
 
+-- a string whose first quote is at a place
 abbrev string_at : ℕ → List ℕ → Stored
 string_at place s = Text (place + 1) (place + 1 + length s)
 
+-- a string with both quotes is one symbol
 closed_symbol : (place : ℕ) (s rest : List ℕ) → list_all is_no_quote s ≡ true
     → symbols Typed place 0 (34 ∷ ((s ++ 34 ∷ []) ++ rest))
     ≡ kept place (string_at place s) ∷ symbols Typed (place + length (34 ∷ (s ++ 34 ∷ []))) 0 rest
@@ -412,6 +424,7 @@ closed_symbol place s rest e =
     let size : n + 2 - 1 ≡ length (s ++ 34 ∷ []) = omega (arith, length-append s (34 ∷ [])) in
     symbol_front place 34 (s ++ 34 ∷ []) rest (string_at place s) (n + 2) is size
 
+-- so is one that ends with the line
 open_symbol : (place : ℕ) (s rest : List ℕ) → list_all is_no_quote s ≡ true → rest ≡ []
     → symbols Typed place 0 (34 ∷ (s ++ rest))
     ≡ kept place (string_at place s) ∷ symbols Typed (place + length (34 ∷ s)) 0 rest
@@ -441,6 +454,7 @@ string_part before s back place e =
     let same : length s ≡ place + 1 + length s - (place + 1) = omega arith in
     rw (← joined) (part_at (before ++ 34 ∷ []) s back (place + 1) (place + 1 + length s) size same)
 
+-- and in the text
 string_within : (before s back : List ℕ) (place : ℕ) → place ≡ length before
     → place + 1 + length s ≤ length (before ++ (34 ∷ (s ++ back)))
 string_within before s back place e =
@@ -474,6 +488,7 @@ word_piece : (place token c : ℕ) (cs bytes after : List ℕ) → 97 ≤ c → 
 word_piece place token c cs bytes after h e k =
     (kept place (Code token) ∷ [], (place, refl), word_symbol place token c cs bytes after h e k)
 
+-- each lexeme that bytes spell has its symbols
 piece_found : (text before back : List ℕ) (place : ℕ) (l : Lexeme) (bytes after : List ℕ) → place ≡ length before
     → text ≡ before ++ (bytes ++ (after ++ back)) → Spells l bytes after → Pieces text place l bytes after
 piece_found text before back place (Word Open) bytes after at is e =
@@ -557,15 +572,18 @@ AreSymbols text [] ss = ss ≡ []
 AreSymbols text (l ∷ ls) ss = (xs : List Symbol) × (rest : List Symbol) × (ss ≡ xs ++ rest) × IsPiece text l xs
     × AreSymbols text ls rest
 
+-- a lexeme that is no stray byte is spelled
 pub spelled_of : (l : Lexeme) (bytes after : List ℕ) → IsKnown l → IsLexeme l bytes after → Spells l bytes after
 spelled_of l bytes after known (inl e) = e
 spelled_of l bytes after known (inr e) = absurd (known e.0)
 
+-- the test for blanks says so
 pub all_blank : (bs : List ℕ) → list_all is_blank bs ≡ true → AreBlank bs
 all_blank [] e = tt
 all_blank (b ∷ bs) e =
     let p = and_parts (is_blank b) (list_all is_blank bs) e in (eqb-true b 32 p.0, all_blank bs p.1)
 
+-- the symbols of bytes are those of their lexemes
 pub symbols_found : (text : List ℕ) (ls : List Lexeme) (line before back : List ℕ) (place : ℕ) → place ≡ length before
     → text ≡ before ++ (line ++ back) → AreKnown ls → AreSpaced line ls
     → AreSymbols text ls (symbols Typed place 0 line)

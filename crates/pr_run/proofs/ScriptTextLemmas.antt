@@ -1,5 +1,5 @@
-use Rattle.std.proofs.Common.{◌≡◌, ◌⊎◌, ℕ, ◌+◌, ◌-◌, ◌<◌, ◌≤◌, ◌==◌, Bool, true, false, not, cond, List, [], ◌∷◌, ◌++◌}
-use Rattle.std.proofs.Common.{length, map, drop, inl, inr, Ok, Option, Result, refl, ap, sym, ◌∙◌, arith, subst}
+use Rattle.std.proofs.Common.{◌≡◌, ◌⊎◌, ℕ, ◌+◌, ◌-◌, ◌<◌, ◌≤◌, ◌==◌, Bool, true, false, cond, List, [], ◌∷◌, ◌++◌}
+use Rattle.std.proofs.Common.{length, map, inl, inr, Ok, Option, Result, refl, ap, sym, ◌∙◌, arith, subst}
 use Rattle.std.proofs.Common.{append_assoc, append-nil, length-append}
 use Rattle.std.specs.Prelude.{nat_lt, slice_range, Some, None}
 use Rattle.std.specs.List.{filter, insert, list_all}
@@ -13,9 +13,9 @@ use Rattle.pr_interpreter.specs.declared.fault.ProgramFault.{ProgramFault}
 use Rattle.pr_interpreter.specs.declared.lines.Line.{Line}
 use Rattle.pr_interpreter.specs.declared.program.ProgramLine.{ProgramLine}
 use Rattle.pr_interpreter.specs.declared.statements.PlacedStatement.{PlacedStatement}
-use Rattle.pr_interpreter.specs.Lines.{Row, after_rest, after_row, after_rows, ends_row, enter, entered, go_on, is_empty}
-use Rattle.pr_interpreter.specs.Lines.{line_in, others, place_for, program_lines, rows_from}
-use Rattle.pr_interpreter.specs.Programs.{each_line, or_stop, program, program_line}
+use Rattle.pr_interpreter.specs.Lines.{Row, after_rest, after_row, after_rows, ends_row, enter, entered, go_on}
+use Rattle.pr_interpreter.specs.Lines.{is_empty, line_in, others, place_for, program_lines, rows_from}
+use Rattle.pr_interpreter.specs.Programs.{each_line, or_stop, program}
 use Rattle.pr_run.specs.Plain.{LineSays, LinesSay, in_line}
 use Rattle.pr_run.specs.declared.performed.Performed.{Performed}
 use Rattle.pr_run.specs.ScriptTexts.{AreNumbered, IsNumberedLine, ScriptsRun, TextsSayTheSame, is_blank}
@@ -29,6 +29,7 @@ use Rattle.pr_run.proofs.ScriptSymbols.{part_at}
 
 -- ---- lines that are entered in order
 
+-- each line has a smaller number
 abbrev AllBelow : ℕ → List Line → Type 0
 AllBelow n [] = Unit {0}
 AllBelow n (x ∷ xs) = (x.number < n) × AllBelow n xs
@@ -41,6 +42,7 @@ below_push : (n : ℕ) (xs : List Line) (l : Line) → AllBelow n xs → l.numbe
 below_push n [] l e h = (h, tt)
 below_push n (x ∷ xs) l e h = (e.0, below_push n xs l e.1 h)
 
+-- none of them is replaced
 others_same : (n : ℕ) (xs : List Line) → AllBelow n xs → others n xs ≡ xs
 others_same n [] e = refl
 others_same n (x ∷ xs) e =
@@ -48,6 +50,7 @@ others_same n (x ∷ xs) e =
     let differs : (x.number == n) ≡ false = ne_eqb x.number n (λ same. omega arith) in
     rw (differs, others_same n xs e.1) refl
 
+-- a line goes after them
 place_last : (n : ℕ) (xs : List Line) → AllBelow n xs → place_for n xs ≡ length xs
 place_last n [] e = refl
 place_last n (x ∷ xs) e =
@@ -55,13 +58,16 @@ place_last n (x ∷ xs) e =
     let before : nat_lt n x.number ≡ false = le-ltb n x.number (omega arith) in
     rw (before, place_last n xs e.1) (omega arith)
 
+-- so it is the last
 insert_last : (xs : List Line) (l : Line) → insert xs (length xs) l ≡ xs ++ l ∷ []
 insert_last xs l = rw (take_all (length xs) xs (omega arith), drop_all (length xs) xs (omega arith)) refl
 
+-- a line that has nothing but its number changes nothing
 enter_empty : (l : Line) (lines : List Line) → AllBelow l.number lines → is_empty l ≡ true → enter l lines ≡ lines
 unfolding enter
 enter_empty l lines e h = rw h (others_same l.number lines e)
 
+-- any other is the last
 enter_last : (l : Line) (lines : List Line) → AllBelow l.number lines → is_empty l ≡ false
     → enter l lines ≡ lines ++ l ∷ []
 unfolding enter
@@ -70,6 +76,7 @@ enter_last l lines e h =
 
 -- ---- the lines of a script
 
+-- bytes without a line feed
 abbrev NoFeed : List ℕ → Type 0
 NoFeed [] = Unit {0}
 NoFeed (b ∷ bs) = ((b == 10) ≡ false) × NoFeed bs
@@ -83,9 +90,11 @@ abbrev IsTail : List ℕ → List (List ℕ) → Type 0
 IsTail tail ls = ((tail ≡ []) × (ls ≡ []))
     ⊎ ((rest : List ℕ) × (tail ≡ 10 ∷ rest) × (lines_of rest ≡ ls))
 
+-- a text begins with a line
 abbrev LineCut : List ℕ → List ℕ → List (List ℕ) → Type 0
 LineCut bs l ls = NoFeed l × ((tail : List ℕ) × (bs ≡ l ++ tail) × IsTail tail ls)
 
+-- a byte ends a line, or belongs to it
 abbrev Stepped : ℕ → List ℕ → Type 0
 Stepped b bs = (((b == 10) ≡ true) × (lines_of (b ∷ bs) ≡ [] ∷ lines_of bs))
     ⊎ (((b == 10) ≡ false) × (lines_of (b ∷ bs) ≡ onto_first b (lines_of bs)))
@@ -102,6 +111,7 @@ onto_some : (b : ℕ) (ls : List (List ℕ)) → onto_first b ls ≡ [] → ⊥
 onto_some b [] e = cc
 onto_some b (l ∷ ls) e = cc
 
+-- without lines there are no bytes
 no_lines : (bs : List ℕ) → lines_of bs ≡ [] → bs ≡ []
 no_lines [] e = refl
 no_lines (b ∷ bs) e = absurd (none (lines_step b bs))
@@ -114,6 +124,7 @@ no_first : (l : List ℕ) (ls : List (List ℕ)) → lines_of [] ≡ l ∷ ls �
 unfolding lines_of
 no_first l ls e = cc
 
+-- the first line and what follows it
 line_cut : (bs l : List ℕ) (ls : List (List ℕ)) → lines_of bs ≡ l ∷ ls → LineCut bs l ls
 line_cut [] l ls e = absurd (no_first l ls e)
 line_cut (b ∷ bs) l ls e = by (λ q qs some. line_cut bs q qs some) (lines_step b bs)
@@ -132,11 +143,11 @@ line_cut (b ∷ bs) l ls e = by (λ q qs some. line_cut bs q qs some) (lines_ste
         let back : qs ≡ ls = cc in
         let c = more q qs some in
         let cut : b ∷ bs ≡ l ++ c.1.0 =
-        ap (λ (t : List ℕ). b ∷ t) c.1.1 ∙ ap (λ (t : List ℕ). t ++ c.1.0) front in
-        (
+        ap (λ (t : List ℕ). b ∷ t) c.1.1 ∙ ap (λ (t : List ℕ). t ++ c.1.0) front in (
           subst NoFeed front (other, c.0),
           (c.1.0, cut, subst (λ (t : List (List ℕ)). IsTail c.1.0 t) back c.1.2),
         )
+
     by : ((q : List ℕ) (qs : List (List ℕ)) → lines_of bs ≡ q ∷ qs → LineCut bs q qs) → Stepped b bs
         → LineCut (b ∷ bs) l ls
     by more (inl c) =
@@ -170,10 +181,12 @@ return_cut (b ∷ c ∷ bs) = by (return_cut (c ∷ bs))
 abbrev row : ℕ → ℕ → Row
 row start end = record { start = start; end = end }
 
+-- no byte ends a row
 abbrev InRow : List ℕ → Type 0
 InRow [] = Unit {0}
 InRow (b ∷ bs) = (ends_row b ≡ false) × InRow bs
 
+-- so it is without line feeds and carriage returns
 in_row : (bs : List ℕ) → NoFeed bs → list_all is_no_return bs ≡ true → InRow bs
 in_row [] e f = tt
 in_row (b ∷ bs) e f =
@@ -192,6 +205,7 @@ one_row : (least : ℕ) (l : List ℕ) (ls : List (List ℕ)) → AreNumbered le
 one_row least l ls (inl k) = blanks_one_row (without_return l) k.0
 one_row least l ls (inr k) = k.1.one_row
 
+-- such bytes are in one row
 rows_in : (start place : ℕ) (bs rest : List ℕ) → InRow bs
     → rows_from start place (bs ++ rest) ≡ rows_from start (place + length bs) rest
 rows_in start place [] rest e = ap (λ (p : ℕ). rows_from start p rest) (omega arith)
@@ -204,6 +218,7 @@ abbrev later : ℕ → List ℕ → List Row
 later place [] = []
 later place (b ∷ rest) = rows_from (place + 1) (place + 1) rest
 
+-- a row ends with its line
 row_ends : (start place : ℕ) (tail : List ℕ) (ls : List (List ℕ)) → IsTail tail ls
     → rows_from start place tail ≡ row start place ∷ later place tail
 row_ends start place tail ls (inl c) = rw c.0 refl
@@ -212,10 +227,12 @@ row_ends start place tail ls (inr c) = rw c.1 refl
 abbrev pub lines_are : List Line → Result (List Line) ProgramFault
 lines_are lines = Ok lines
 
+-- a row of no bytes changes nothing
 empty_row : (text : List ℕ) (place : ℕ) (lines : List Line) → after_row text place place lines ≡ lines_are lines
 unfolding after_row line_in
 empty_row text place lines = let none : place - place ≡ 0 = omega arith in rw none refl
 
+-- a row is entered, and then the rows after it
 row_passed : (text : List ℕ) (start end : ℕ) (rows : List Row) (lines more : List Line)
     → after_row text start end lines ≡ lines_are more
     → after_rows text (row start end ∷ rows) lines ≡ after_rows text rows more
@@ -224,6 +241,7 @@ row_passed text start end rows lines more e =
 
 -- ---- what new lines say
 
+-- what statements perform, one after another
 performed_joined : (xs ys : List Output)
     → filter is_performed (xs ++ ys) ≡ filter is_performed xs ++ filter is_performed ys
 performed_joined [] ys = refl
@@ -251,6 +269,7 @@ abbrev AddLines : List ℕ → List Row → List Line → List Line → List Out
 AddLines text rows old lines ss = (new : List Line) × (after_rows text rows old ≡ lines_are (lines ++ new))
     × AreSaid text new ss
 
+-- no lines say nothing
 none_said : (text : List ℕ) → AreSaid text [] []
 none_said text = record {
   lines = [];
@@ -271,7 +290,8 @@ said_after_none text new first more none c = record {
   said = c.said;
   read = c.read;
   says = c.says;
-  same = c.same ∙ (ap (λ (t : List Output). t ++ filter is_performed more) (sym none) ∙ sym (performed_joined first more));
+  same = c.same
+      ∙ (ap (λ (t : List Output). t ++ filter is_performed more) (sym none) ∙ sym (performed_joined first more));
 }
 
 statements_in : (n : ℕ) (os : List Output) → map statement_of (in_line n os) ≡ os
@@ -281,6 +301,7 @@ statements_in n (o ∷ os) = ap (λ (t : List Output). o ∷ t) (statements_in n
 abbrev program_line_of : ℕ → List PlacedStatement → ProgramLine
 program_line_of n said = record { number = n; statements = said }
 
+-- a line says its statements before those of the others
 said_after : (text : List ℕ) (place : ℕ) (bytes : List ℕ) (n : ℕ) (first more : List Output) (new : List Line)
     (l : IsLineSaid text place bytes n first) → AreSaid text new more → AreSaid text (l.line ∷ new) (first ++ more)
 said_after text place bytes n first more new l c =
@@ -289,8 +310,9 @@ said_after text place bytes n first more new l c =
     record {
       lines = p ∷ c.lines;
       said = in_line n os ++ c.said;
-      read = λ found. ap (λ (r : Result ProgramLine ProgramFault). or_stop r (λ q. each_line text (found ++ q ∷ []) new))
-          l.read ∙ (c.read (found ++ p ∷ []) ∙ ap read_lines (append_assoc found (p ∷ []) c.lines));
+      read = λ found. ap
+          (λ (r : Result ProgramLine ProgramFault). or_stop r (λ q. each_line text (found ++ q ∷ []) new)) l.read
+          ∙ (c.read (found ++ p ∷ []) ∙ ap read_lines (append_assoc found (p ∷ []) c.lines));
       says = (os, c.said, l.says, c.says, refl);
       same = map-append statement_of (in_line n os) c.said
           ∙ (ap (λ (t : List Output). t ++ map statement_of c.said) (statements_in n os)
@@ -310,6 +332,7 @@ record IsStep (text : List ℕ) (place size least : ℕ) (lines : List Line) (fi
   pub goes : (rows : List Row) (more : List Output) → AddLines text rows typed typed more
       → AddLines text rows typed lines (first ++ more)
 
+-- a row is its bytes of the text
 row_is : (text bytes before back : List ℕ) (place : ℕ) → place ≡ length before → text ≡ before ++ (bytes ++ back)
     → slice_range text place (place + length bytes) ≡ bytes
 row_is text bytes before back place at is =
@@ -319,6 +342,7 @@ row_is text bytes before back place at is =
 abbrev line_is : Option Line → Result (Option Line) ProgramFault
 line_is l = Ok l
 
+-- what a row is decides what is entered
 row_entered : (text bytes before back : List ℕ) (place : ℕ) (lines : List Line) (l : Option Line)
     → place ≡ length before → text ≡ before ++ (bytes ++ back) → line_in place bytes ≡ line_is l
     → after_row text place (place + length bytes) lines ≡ entered (line_is l) lines
@@ -327,6 +351,7 @@ row_entered text bytes before back place lines l at is e =
     ap (λ (t : List ℕ). entered (line_in place t) lines) (row_is text bytes before back place at is)
     ∙ ap (λ (t : Result (Option Line) ProgramFault). entered t lines) e
 
+-- each line of a script enters its line, if it says something
 line_step : LexemesAreFound → (text l before back : List ℕ) (ls : List (List ℕ)) (place least : ℕ) (lines : List Line)
     (first : List Output) → place ≡ length before → text ≡ before ++ (without_return l ++ back)
     → IsLine (without_return l) first → AreNumbered least (l ∷ ls) → AllBelow least lines
@@ -335,6 +360,7 @@ line_step found text l before back ls place least lines first at is c n below = 
   where
     bytes : List ℕ
     bytes = without_return l
+
     numbered : (m : ℕ) (s : IsLineSaid text place bytes m first) → least ≤ m → AreNumbered (m + 1) ls
         → AllBelow s.line.number lines → ((is_empty s.line ≡ true) ⊎ (is_empty s.line ≡ false))
         → IsStep text place (length bytes) least lines first ls
@@ -366,6 +392,7 @@ line_step found text l before back ls place least lines first at is c n below = 
             said_after text place bytes m first os a.0 s a.2,
           );
         }
+
     by : ((list_all is_blank bytes ≡ true) × AreNumbered least ls)
         ⊎ ((m : ℕ) × IsNumberedLine bytes m × (least ≤ m) × AreNumbered (m + 1) ls)
         → IsStep text place (length bytes) least lines first ls
@@ -395,6 +422,7 @@ Goal text ls = (before rest : List ℕ) (place least : ℕ) (lines : List Line) 
     → place ≡ length before → text ≡ before ++ rest → lines_of rest ≡ ls → AreLines ls ss → AreNumbered least ls
     → AllBelow least lines → AddLines text (rows_from place place rest) lines lines ss
 
+-- no lines add nothing
 rest_none : (text : List ℕ) → Goal text []
 rest_none text before rest place least lines ss at is e c n below =
     let all : AddLines text (row place place ∷ []) lines lines [] = (
@@ -405,6 +433,7 @@ rest_none text before rest place least lines ss at is e c n below =
     subst (λ (t : List ℕ). AddLines text (rows_from place place t) lines lines ss) (sym (no_lines rest e))
     (subst (λ (os : List Output). AddLines text (row place place ∷ []) lines lines os) (sym c) all)
 
+-- what follows a line adds its lines
 tail_adds : (text tail before : List ℕ) (ls : List (List ℕ)) (place least : ℕ) (lines : List Line) (ss : List Output)
     → Goal text ls → IsTail tail ls → place ≡ length before → text ≡ before ++ tail → AreLines ls ss
     → AreNumbered least ls → AllBelow least lines → AddLines text (later place tail) lines lines ss
@@ -419,6 +448,7 @@ tail_adds text tail before ls place least lines ss goal (inr k) at is c n below 
     subst (λ (t : List ℕ). AddLines text (later place t) lines lines ss) (sym k.1)
     (goal (before ++ 10 ∷ []) k.0 (place + 1) least lines ss next whole k.2 c n below)
 
+-- a line and what follows add their lines
 line_adds : (text rest : List ℕ) (place size least : ℕ) (lines : List Line) (first more ss : List Output)
     (ls : List (List ℕ)) (rows : List Row) (s : IsStep text place size least lines first ls)
     → rows_from place place rest ≡ row place (place + size) ∷ rows → ss ≡ first ++ more
@@ -427,16 +457,18 @@ line_adds text rest place size least lines first more ss ls rows s e said a =
     let g = s.goes rows more a in (
       g.0,
       ap (λ (t : List Row). after_rows text t lines) e
-      ∙ (row_passed text place (place + size) rows lines s.typed s.after ∙ g.1),
+          ∙ (row_passed text place (place + size) rows lines s.typed s.after ∙ g.1),
       subst (λ (os : List Output). AreSaid text g.0 os) (sym said) g.2,
     )
 
+-- one line more
 rest_more : LexemesAreFound → (text l : List ℕ) (ls : List (List ℕ)) → Goal text ls → Goal text (l ∷ ls)
 rest_more found text l ls goal before rest place least lines ss at is e c n below =
     by (line_cut rest l ls e) (return_cut l)
   where
     bytes : List ℕ
     bytes = without_return l
+
     by : LineCut rest l ls → ((l ≡ bytes ++ 13 ∷ []) ⊎ (l ≡ bytes))
         → AddLines text (rows_from place place rest) lines lines ss
     by cut (inr same) =
@@ -480,6 +512,7 @@ rest_more found text l ls goal before rest place least lines ss at is e c n belo
         ) in
         line_adds text rest place (length bytes) least lines c.0 c.1 ss ls (row q q ∷ later q tail) s rows c.3 u
 
+-- so all lines are added
 rest_added : LexemesAreFound → (text : List ℕ) (ls : List (List ℕ)) → Goal text ls
 rest_added found text [] = rest_none text
 rest_added found text (l ∷ ls) = rest_more found text l ls (rest_added found text ls)
@@ -491,6 +524,7 @@ pub record IsProgram (text : List ℕ) (ss : List Output) : Type 0 where
   pub said : AreSaid text rows ss
   pub read : program text ≡ read_lines said.lines
 
+-- a script whose lines are numbered in order is a program
 pub script_program : LexemesAreFound → (text : List ℕ) (ss : List Output) → IsScript text ss
     → AreNumbered 0 (lines_of text) → IsProgram text ss
 unfolding program program_lines after_rest
@@ -500,6 +534,7 @@ script_program found text ss script numbered =
     ap (λ (r : Result (List Line) ProgramFault). or_stop r (λ lines. each_line text [] lines)) a.1 ∙ a.2.read [] in
     record { rows = a.0; typed = a.1; said = a.2; read = read }
 
+-- that says the same
 pub texts_say : LexemesAreFound → TextsSayTheSame
 texts_say found text ss script numbered =
     let p = script_program found text ss script numbered in
@@ -508,6 +543,7 @@ texts_say found text ss script numbered =
 abbrev program_is : Program → Result Program ProgramFault
 program_is p = Ok p
 
+-- and performs it
 pub scripts_run : LexemesAreFound → ScriptsRun
 unfolding program_of
 scripts_run found text ss script numbered =
@@ -518,8 +554,7 @@ scripts_run found text ss script numbered =
     ap (λ (r : Result (List ProgramLine) ProgramFault). or_stop r (λ lines. or_stop (program_lines text)
     (λ rows. program_is (record { text = text; lines = lines; items = data_of text rows })))) p.read
     ∙ ap (λ (r : Result (List Line) ProgramFault). or_stop r
-    (λ rows. program_is (record { text = text; lines = lines; items = data_of text rows }))) p.typed in
-    (
+    (λ rows. program_is (record { text = text; lines = lines; items = data_of text rows }))) p.typed in (
       whole,
       p.said.said,
       made,
