@@ -11,6 +11,7 @@ use Rattle.pr_basic.specs.LexemeLaws.{LexemesAreFound}
 use Rattle.pr_basic.specs.Lexemes.{AreLexemes, CloseParen, Colon, Comma, Digits, IsWord, Lexeme as Script}
 use Rattle.pr_basic.specs.Lexemes.{OpenParen, Quoted, Remark as Remarked, Semicolon, Spells, Stray, Word as Keywords}
 use Rattle.pr_basic.specs.Lexemes.{is_space}
+use Rattle.pr_basic.specs.LineAt.{HasBasicNumber}
 use Rattle.pr_basic.specs.Text.{Text as Written}
 use Rattle.pr_basic.specs.declared.lexemes.Keyword.{Keyword}
 use Rattle.pr_basic.specs.declared.lexemes.Keyword.TheVariants.{Chr, Close, Cmd, Open, Print as PrintWord}
@@ -469,6 +470,20 @@ numbered_parts found row n ss h c = by c.3
         let number : number_of some.0 ≡ n = ap number_of digits ∙ h.number in
         let small = some.2 in
         (omega arith, subst (λ (ls : List Script). AreParts (parts ls) ss) rest c.4)
+
+-- the line has its number in scripts
+pub numbered_as : LexemesAreFound → (row : List ℕ) (n : ℕ) (ss : List Output) → IsNumberedLine row n → IsLine row ss
+    → HasBasicNumber row n
+numbered_as found row n ss h c =
+    let lexemes = Digits h.digits ∷ h.rest in (
+      lexemes,
+      spaced_lexemes lexemes row h.spelled,
+      h.digits,
+      h.rest,
+      refl,
+      h.number,
+      (numbered_parts found row n ss h c).0,
+    )
 
 -- a line of a script that has a number says its statements in a program
 pub numbered_row : LexemesAreFound → (text row before back : List ℕ) (place n : ℕ) (ss : List Output)

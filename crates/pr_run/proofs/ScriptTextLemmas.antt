@@ -8,6 +8,7 @@ use Rattle.std.proofs.lemmas.List.{drop_all, map-append, take_all}
 use Rattle.pr_base.specs.Lines.{lines_of, onto_first}
 use Rattle.pr_basic.specs.Grammar.{AreLines, IsLine, IsScript, without_return}
 use Rattle.pr_basic.specs.LexemeLaws.{LexemesAreFound}
+use Rattle.pr_basic.specs.LineAt.{HasBasicNumber}
 use Rattle.pr_basic.specs.declared.statement.Statement.{Statement as Output}
 use Rattle.pr_interpreter.specs.declared.fault.ProgramFault.{ProgramFault}
 use Rattle.pr_interpreter.specs.declared.lines.Line.{Line}
@@ -18,13 +19,13 @@ use Rattle.pr_interpreter.specs.Lines.{is_empty, line_in, others, place_for, pro
 use Rattle.pr_interpreter.specs.Programs.{each_line, or_stop, program}
 use Rattle.pr_run.specs.Plain.{LineSays, LinesSay, in_line}
 use Rattle.pr_run.specs.declared.performed.Performed.{Performed}
-use Rattle.pr_run.specs.ScriptTexts.{AreNumbered, IsNumberedLine, ScriptsRun, TextsSayTheSame, is_blank}
+use Rattle.pr_run.specs.ScriptTexts.{AreFrom, AreNumbered, IsNumberedLine, ScriptsRun, TextsSayTheSame, is_blank}
 use Rattle.pr_run.specs.ScriptTexts.{is_no_return, is_performed, statement_of}
 use Rattle.pr_run.specs.declared.programs.Program.{Program}
 use Rattle.pr_run.specs.Data.{data_of}
 use Rattle.pr_run.specs.Runs.{program_of}
 use Rattle.pr_run.proofs.PlainLemmas.{plain_runs}
-use Rattle.pr_run.proofs.ScriptLines.{IsLineSaid, blank_line, blank_said, numbered_row}
+use Rattle.pr_run.proofs.ScriptLines.{IsLineSaid, blank_line, blank_said, numbered_as, numbered_row}
 use Rattle.pr_run.proofs.ScriptSymbols.{part_at}
 
 -- ---- lines that are entered in order
@@ -257,39 +258,45 @@ abbrev pub read_lines : List ProgramLine → Result (List ProgramLine) ProgramFa
 read_lines ps = Ok ps
 
 -- lines are read as those of a program that says what statements perform
-pub record AreSaid (text : List ℕ) (new : List Line) (ss : List Output) : Type 0 where
+pub record AreSaid (text : List ℕ) (new : List Line) (ls : List (List ℕ)) (ss : List Output) : Type 0 where
   pub lines : List ProgramLine
   pub said : List Performed
   pub read : (found : List ProgramLine) → each_line text found new ≡ read_lines (found ++ lines)
   pub says : LinesSay text lines said
+  pub from : AreFrom ls said
   pub same : map statement_of said ≡ filter is_performed ss
 
 -- rows add such lines to those that were entered
-abbrev AddLines : List ℕ → List Row → List Line → List Line → List Output → Type 0
-AddLines text rows old lines ss = (new : List Line) × (after_rows text rows old ≡ lines_are (lines ++ new))
-    × AreSaid text new ss
+abbrev AddLines : List ℕ → List Row → List Line → List Line → List (List ℕ) → List Output → Type 0
+AddLines text rows old lines ls ss = (new : List Line) × (after_rows text rows old ≡ lines_are (lines ++ new))
+    × AreSaid text new ls ss
 
 -- no lines say nothing
-none_said : (text : List ℕ) → AreSaid text [] []
+none_said : (text : List ℕ) → AreSaid text [] [] []
 none_said text = record {
   lines = [];
   said = [];
   read = λ found. rw (append-nil found) refl;
   says = refl;
+  from = refl;
   same = refl;
 }
 
-none_added : (text : List ℕ) (lines : List Line) → AddLines text [] lines lines []
+none_added : (text : List ℕ) (lines : List Line) → AddLines text [] lines lines [] []
 none_added text lines = ([], rw (append-nil lines) refl, none_said text)
 
 -- a line that says nothing changes nothing
-said_after_none : (text : List ℕ) (new : List Line) (first more : List Output) → filter is_performed first ≡ []
-    → AreSaid text new more → AreSaid text new (first ++ more)
-said_after_none text new first more none c = record {
+said_after_none : (text : List ℕ) (new : List Line) (n : ℕ) (l : List ℕ) (ls : List (List ℕ))
+    (first more : List Output) → IsLine (without_return l) first
+    → (HasBasicNumber (without_return l) n ⊎ (first ≡ [])) → filter is_performed first ≡ []
+    → AreSaid text new ls more → AreSaid text new (l ∷ ls) (first ++ more)
+said_after_none text new n l ls first more line named none c = record {
   lines = c.lines;
   said = c.said;
   read = c.read;
   says = c.says;
+  from =
+      (n, first, c.said, line, named, ap (λ (os : List Output). in_line n os ++ c.said) (sym none), c.from);
   same = c.same
       ∙ (ap (λ (t : List Output). t ++ filter is_performed more) (sym none) ∙ sym (performed_joined first more));
 }
@@ -302,18 +309,21 @@ abbrev program_line_of : ℕ → List PlacedStatement → ProgramLine
 program_line_of n said = record { number = n; statements = said }
 
 -- a line says its statements before those of the others
-said_after : (text : List ℕ) (place : ℕ) (bytes : List ℕ) (n : ℕ) (first more : List Output) (new : List Line)
-    (l : IsLineSaid text place bytes n first) → AreSaid text new more → AreSaid text (l.line ∷ new) (first ++ more)
-said_after text place bytes n first more new l c =
-    let p = program_line_of n l.said in
+said_after : (text : List ℕ) (place n : ℕ) (l : List ℕ) (ls : List (List ℕ)) (first more : List Output)
+    (new : List Line) → IsLine (without_return l) first → HasBasicNumber (without_return l) n
+    → (s : IsLineSaid text place (without_return l) n first) → AreSaid text new ls more
+    → AreSaid text (s.line ∷ new) (l ∷ ls) (first ++ more)
+said_after text place n l ls first more new line named s c =
+    let p = program_line_of n s.said in
     let os = filter is_performed first in
     record {
       lines = p ∷ c.lines;
       said = in_line n os ++ c.said;
       read = λ found. ap
-          (λ (r : Result ProgramLine ProgramFault). or_stop r (λ q. each_line text (found ++ q ∷ []) new)) l.read
+          (λ (r : Result ProgramLine ProgramFault). or_stop r (λ q. each_line text (found ++ q ∷ []) new)) s.read
           ∙ (c.read (found ++ p ∷ []) ∙ ap read_lines (append_assoc found (p ∷ []) c.lines));
-      says = (os, c.said, l.says, c.says, refl);
+      says = (os, c.said, s.says, c.says, refl);
+      from = (n, first, c.said, line, inl named, refl, c.from);
       same = map-append statement_of (in_line n os) c.said
           ∙ (ap (λ (t : List Output). t ++ map statement_of c.said) (statements_in n os)
           ∙ (ap (λ (t : List Output). os ++ t) c.same ∙ sym (performed_joined first more)));
@@ -322,15 +332,15 @@ said_after text place bytes n first more new l c =
 -- ---- one line of a script
 
 -- the lines that are entered after a row of a line that says statements
-record IsStep (text : List ℕ) (place size least : ℕ) (lines : List Line) (first : List Output) (ls : List (List ℕ))
-    : Type 0 where
+record IsStep (text : List ℕ) (place size : ℕ) (lines : List Line) (first : List Output) (l : List ℕ)
+    (ls : List (List ℕ)) : Type 0 where
   pub typed : List Line
   pub next : ℕ
   pub after : after_row text place (place + size) lines ≡ lines_are typed
   pub numbered : AreNumbered next ls
   pub below : AllBelow next typed
-  pub goes : (rows : List Row) (more : List Output) → AddLines text rows typed typed more
-      → AddLines text rows typed lines (first ++ more)
+  pub goes : (rows : List Row) (more : List Output) → AddLines text rows typed typed ls more
+      → AddLines text rows typed lines (l ∷ ls) (first ++ more)
 
 -- a row is its bytes of the text
 row_is : (text bytes before back : List ℕ) (place : ℕ) → place ≡ length before → text ≡ before ++ (bytes ++ back)
@@ -355,16 +365,17 @@ row_entered text bytes before back place lines l at is e =
 line_step : LexemesAreFound → (text l before back : List ℕ) (ls : List (List ℕ)) (place least : ℕ) (lines : List Line)
     (first : List Output) → place ≡ length before → text ≡ before ++ (without_return l ++ back)
     → IsLine (without_return l) first → AreNumbered least (l ∷ ls) → AllBelow least lines
-    → IsStep text place (length (without_return l)) least lines first ls
+    → IsStep text place (length (without_return l)) lines first l ls
 line_step found text l before back ls place least lines first at is c n below = by n
   where
     bytes : List ℕ
     bytes = without_return l
 
-    numbered : (m : ℕ) (s : IsLineSaid text place bytes m first) → least ≤ m → AreNumbered (m + 1) ls
+    numbered : (m : ℕ) (s : IsLineSaid text place bytes m first) → HasBasicNumber bytes m → least ≤ m
+        → AreNumbered (m + 1) ls
         → AllBelow s.line.number lines → ((is_empty s.line ≡ true) ⊎ (is_empty s.line ≡ false))
-        → IsStep text place (length bytes) least lines first ls
-    numbered m s least_m more lower (inl e) =
+        → IsStep text place (length bytes) lines first l ls
+    numbered m s named least_m more lower (inl e) =
         let none : filter is_performed first ≡ [] =
         subst (λ (t : List PlacedStatement). LineSays text t (filter is_performed first)) (s.empty e) s.says in
         record {
@@ -374,9 +385,9 @@ line_step found text l before back ls place least lines first at is c n below = 
               ∙ ap lines_are (enter_empty s.line lines lower e);
           numbered = more;
           below = below_more least (m + 1) lines (omega arith) below;
-          goes = λ rows os a. (a.0, a.1, said_after_none text a.0 first os none a.2);
+          goes = λ rows os a. (a.0, a.1, said_after_none text a.0 m l ls first os c (inl named) none a.2);
         }
-    numbered m s least_m more lower (inr e) =
+    numbered m s named least_m more lower (inr e) =
         let number = s.numbered in
         let less : s.line.number < m + 1 = omega arith in
         record {
@@ -389,30 +400,31 @@ line_step found text l before back ls place least lines first at is c n below = 
           goes = λ rows os a. (
             s.line ∷ a.0,
             a.1 ∙ ap lines_are (append_assoc lines (s.line ∷ []) a.0),
-            said_after text place bytes m first os a.0 s a.2,
+            said_after text place m l ls first os a.0 c named s a.2,
           );
         }
 
     by : ((list_all is_blank bytes ≡ true) × AreNumbered least ls)
         ⊎ ((m : ℕ) × IsNumberedLine bytes m × (least ≤ m) × AreNumbered (m + 1) ls)
-        → IsStep text place (length bytes) least lines first ls
+        → IsStep text place (length bytes) lines first l ls
     by (inl k) =
-        let none : filter is_performed first ≡ [] =
-        ap (λ (t : List Output). filter is_performed t) (blank_said found bytes first k.0 c) in
+        let nothing = blank_said found bytes first k.0 c in
+        let none : filter is_performed first ≡ [] = ap (λ (t : List Output). filter is_performed t) nothing in
         record {
           typed = lines;
           next = least;
           after = row_entered text bytes before back place lines None at is (blank_line place bytes k.0);
           numbered = k.1;
           below = below;
-          goes = λ rows os a. (a.0, a.1, said_after_none text a.0 first os none a.2);
+          goes = λ rows os a. (a.0, a.1, said_after_none text a.0 0 l ls first os c (inr nothing) none a.2);
         }
     by (inr k) =
         let s = numbered_row found text bytes before back place k.0 first at is k.1 c in
         let number = s.numbered in
         let least_k = k.2 in
         let low : least ≤ s.line.number = omega arith in
-        numbered k.0 s k.2 k.3 (below_more least s.line.number lines low below) (cases_Bool (is_empty s.line))
+        let named = numbered_as found bytes k.0 first k.1 c in
+        numbered k.0 s named k.2 k.3 (below_more least s.line.number lines low below) (cases_Bool (is_empty s.line))
 
 -- ---- all lines of a script
 
@@ -420,45 +432,46 @@ line_step found text l before back ls place least lines first at is c n below = 
 abbrev Goal : List ℕ → List (List ℕ) → Type 0
 Goal text ls = (before rest : List ℕ) (place least : ℕ) (lines : List Line) (ss : List Output)
     → place ≡ length before → text ≡ before ++ rest → lines_of rest ≡ ls → AreLines ls ss → AreNumbered least ls
-    → AllBelow least lines → AddLines text (rows_from place place rest) lines lines ss
+    → AllBelow least lines → AddLines text (rows_from place place rest) lines lines ls ss
 
 -- no lines add nothing
 rest_none : (text : List ℕ) → Goal text []
 rest_none text before rest place least lines ss at is e c n below =
-    let all : AddLines text (row place place ∷ []) lines lines [] = (
+    let all : AddLines text (row place place ∷ []) lines lines [] [] = (
       [],
       row_passed text place place [] lines lines (empty_row text place lines) ∙ ap lines_are (sym (append-nil lines)),
       none_said text,
     ) in
-    subst (λ (t : List ℕ). AddLines text (rows_from place place t) lines lines ss) (sym (no_lines rest e))
-    (subst (λ (os : List Output). AddLines text (row place place ∷ []) lines lines os) (sym c) all)
+    subst (λ (t : List ℕ). AddLines text (rows_from place place t) lines lines [] ss) (sym (no_lines rest e))
+    (subst (λ (os : List Output). AddLines text (row place place ∷ []) lines lines [] os) (sym c) all)
 
 -- what follows a line adds its lines
 tail_adds : (text tail before : List ℕ) (ls : List (List ℕ)) (place least : ℕ) (lines : List Line) (ss : List Output)
     → Goal text ls → IsTail tail ls → place ≡ length before → text ≡ before ++ tail → AreLines ls ss
-    → AreNumbered least ls → AllBelow least lines → AddLines text (later place tail) lines lines ss
+    → AreNumbered least ls → AllBelow least lines → AddLines text (later place tail) lines lines ls ss
 tail_adds text tail before ls place least lines ss goal (inl k) at is c n below =
     let none : ss ≡ [] = subst (λ (t : List (List ℕ)). AreLines t ss) k.1 c in
-    subst (λ (t : List ℕ). AddLines text (later place t) lines lines ss) (sym k.0)
-    (subst (λ (os : List Output). AddLines text [] lines lines os) (sym none) (none_added text lines))
+    subst (λ (t : List ℕ). AddLines text (later place t) lines lines ls ss) (sym k.0)
+    (subst (λ (t : List (List ℕ)). AddLines text [] lines lines t ss) (sym k.1)
+    (subst (λ (os : List Output). AddLines text [] lines lines [] os) (sym none) (none_added text lines)))
 tail_adds text tail before ls place least lines ss goal (inr k) at is c n below =
     let whole : text ≡ (before ++ 10 ∷ []) ++ k.0 =
     is ∙ (ap (λ (t : List ℕ). before ++ t) k.1 ∙ sym (append_assoc before (10 ∷ []) k.0)) in
     let next : place + 1 ≡ length (before ++ 10 ∷ []) = omega (arith, length-append before (10 ∷ [])) in
-    subst (λ (t : List ℕ). AddLines text (later place t) lines lines ss) (sym k.1)
+    subst (λ (t : List ℕ). AddLines text (later place t) lines lines ls ss) (sym k.1)
     (goal (before ++ 10 ∷ []) k.0 (place + 1) least lines ss next whole k.2 c n below)
 
 -- a line and what follows add their lines
-line_adds : (text rest : List ℕ) (place size least : ℕ) (lines : List Line) (first more ss : List Output)
-    (ls : List (List ℕ)) (rows : List Row) (s : IsStep text place size least lines first ls)
+line_adds : (text rest : List ℕ) (place size : ℕ) (lines : List Line) (first more ss : List Output) (l : List ℕ)
+    (ls : List (List ℕ)) (rows : List Row) (s : IsStep text place size lines first l ls)
     → rows_from place place rest ≡ row place (place + size) ∷ rows → ss ≡ first ++ more
-    → AddLines text rows s.typed s.typed more → AddLines text (rows_from place place rest) lines lines ss
-line_adds text rest place size least lines first more ss ls rows s e said a =
+    → AddLines text rows s.typed s.typed ls more → AddLines text (rows_from place place rest) lines lines (l ∷ ls) ss
+line_adds text rest place size lines first more ss l ls rows s e said a =
     let g = s.goes rows more a in (
       g.0,
       ap (λ (t : List Row). after_rows text t lines) e
           ∙ (row_passed text place (place + size) rows lines s.typed s.after ∙ g.1),
-      subst (λ (os : List Output). AreSaid text g.0 os) (sym said) g.2,
+      subst (λ (os : List Output). AreSaid text g.0 (l ∷ ls) os) (sym said) g.2,
     )
 
 -- one line more
@@ -470,7 +483,7 @@ rest_more found text l ls goal before rest place least lines ss at is e c n belo
     bytes = without_return l
 
     by : LineCut rest l ls → ((l ≡ bytes ++ 13 ∷ []) ⊎ (l ≡ bytes))
-        → AddLines text (rows_from place place rest) lines lines ss
+        → AddLines text (rows_from place place rest) lines lines (l ∷ ls) ss
     by cut (inr same) =
         let tail = cut.1.0 in
         let q = place + length bytes in
@@ -485,7 +498,7 @@ rest_more found text l ls goal before rest place least lines ss at is e c n belo
         let left : text ≡ (before ++ bytes) ++ tail = whole ∙ sym (append_assoc before bytes tail) in
         let t = tail_adds text tail (before ++ bytes) ls q s.next s.typed c.1 goal cut.1.2 after left c.4 s.numbered
         s.below in
-        line_adds text rest place (length bytes) least lines c.0 c.1 ss ls (later q tail) s rows c.3 t
+        line_adds text rest place (length bytes) lines c.0 c.1 ss l ls (later q tail) s rows c.3 t
     by cut (inl same) =
         let tail = cut.1.0 in
         let q = place + length bytes + 1 in
@@ -505,12 +518,12 @@ rest_more found text l ls goal before rest place least lines ss at is e c n belo
         ∙ sym (append_assoc before (bytes ++ 13 ∷ []) tail)) in
         let t = tail_adds text tail (before ++ (bytes ++ 13 ∷ [])) ls q s.next s.typed c.1 goal cut.1.2 after left c.4
         s.numbered s.below in
-        let u : AddLines text (row q q ∷ later q tail) s.typed s.typed c.1 = (
+        let u : AddLines text (row q q ∷ later q tail) s.typed s.typed ls c.1 = (
           t.0,
           row_passed text q q (later q tail) s.typed s.typed (empty_row text q s.typed) ∙ t.1,
           t.2,
         ) in
-        line_adds text rest place (length bytes) least lines c.0 c.1 ss ls (row q q ∷ later q tail) s rows c.3 u
+        line_adds text rest place (length bytes) lines c.0 c.1 ss l ls (row q q ∷ later q tail) s rows c.3 u
 
 -- so all lines are added
 rest_added : LexemesAreFound → (text : List ℕ) (ls : List (List ℕ)) → Goal text ls
@@ -521,7 +534,7 @@ rest_added found text (l ∷ ls) = rest_more found text l ls (rest_added found t
 pub record IsProgram (text : List ℕ) (ss : List Output) : Type 0 where
   pub rows : List Line
   pub typed : program_lines text ≡ lines_are rows
-  pub said : AreSaid text rows ss
+  pub said : AreSaid text rows (lines_of text) ss
   pub read : program text ≡ read_lines said.lines
 
 -- a script whose lines are numbered in order is a program
@@ -538,7 +551,7 @@ script_program found text ss script numbered =
 pub texts_say : LexemesAreFound → TextsSayTheSame
 texts_say found text ss script numbered =
     let p = script_program found text ss script numbered in
-    (p.said.lines, p.said.said, p.read, p.said.says, p.said.same)
+    (p.said.lines, p.said.said, p.read, p.said.says, p.said.from, p.said.same)
 
 abbrev program_is : Program → Result Program ProgramFault
 program_is p = Ok p
@@ -558,6 +571,7 @@ scripts_run found text ss script numbered =
       whole,
       p.said.said,
       made,
+      p.said.from,
       p.said.same,
       (λ limit memory steps. plain_runs whole p.said.said limit memory p.said.says steps),
     )

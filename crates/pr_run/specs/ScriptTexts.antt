@@ -4,9 +4,10 @@ use Rattle.std.specs.Prelude.{◌++◌, length, map, Ok}
 use Rattle.std.specs.List.{filter, list_all}
 use Rattle.pr_base.specs.Digits.{number_of}
 use Rattle.pr_base.specs.Lines.{lines_of}
-use Rattle.pr_basic.specs.Grammar.{IsScript, without_return}
+use Rattle.pr_basic.specs.Grammar.{IsLine, IsScript, without_return}
 use Rattle.pr_basic.specs.Lexemes.{CloseParen, Colon, Comma, Digits, IsLexeme, Lexeme, OpenParen, Quoted}
 use Rattle.pr_basic.specs.Lexemes.{Remark, Semicolon, Stray, Word}
+use Rattle.pr_basic.specs.LineAt.{HasBasicNumber}
 use Rattle.pr_basic.specs.declared.statement.Statement.{Statement as Output}
 use Rattle.pr_basic.specs.declared.statement.Statement.TheVariants.{CloseFile, Cmd, OpenFile, Print, PrintTo, Rem}
 use Rattle.pr_interpreter.specs.declared.program.ProgramLine.{ProgramLine}
@@ -14,7 +15,7 @@ use Rattle.pr_interpreter.specs.Programs.{program}
 use Rattle.pr_run.specs.declared.performed.Performed.{Performed}
 use Rattle.pr_run.specs.declared.programs.Program.{Program}
 use Rattle.pr_run.specs.Memory.{memory_limit, program_bytes}
-use Rattle.pr_run.specs.Plain.{LinesSay, in_order, step_count}
+use Rattle.pr_run.specs.Plain.{LinesSay, in_line, in_order, step_count}
 use Rattle.pr_run.specs.Runs.{program_of, run}
 
 -- ---- texts that are both
@@ -81,17 +82,24 @@ is_performed (CloseFile file) = true
 abbrev pub statement_of : Performed → Output
 statement_of d = d.statement
 
+-- output statements come from lines of a script, one line after another, each with the number of its line
+abbrev pub AreFrom : List (List ℕ) → List Performed → Type 0
+AreFrom [] said = said ≡ []
+AreFrom (l ∷ ls) said = (n : ℕ) × (ss : List Output) × (more : List Performed)
+    × IsLine (without_return l) ss × (HasBasicNumber (without_return l) n ⊎ (ss ≡ []))
+    × (said ≡ in_line n (filter is_performed ss) ++ more) × AreFrom ls more
+
 -- a text that is a script of some statements, and whose lines are numbered in order, is a program that says the same
 -- statements but for remarks
 abbrev pub TextsSayTheSame : Type 0
 TextsSayTheSame = (text : List ℕ) (ss : List Output) → IsScript text ss → AreNumbered 0 (lines_of text)
     → (lines : List ProgramLine) × (said : List Performed) × (program text ≡ Ok lines) × LinesSay text lines said
-    × (map statement_of said ≡ filter is_performed ss)
+    × AreFrom (lines_of text) said × (map statement_of said ≡ filter is_performed ss)
 
 -- and for which the machine surely has the memory, performs these statements in order, up to the first that has an
 -- error
 abbrev pub ScriptsRun : Type 0
 ScriptsRun = (text : List ℕ) (ss : List Output) → IsScript text ss → AreNumbered 0 (lines_of text)
     → (p : Program) × (said : List Performed) × (program_of text ≡ Ok p)
-    × (map statement_of said ≡ filter is_performed ss)
+    × AreFrom (lines_of text) said × (map statement_of said ≡ filter is_performed ss)
     × ((limit : ℕ) → program_bytes p ≤ memory_limit → step_count p.lines ≤ limit → run limit p ≡ in_order [] said)
