@@ -13,6 +13,11 @@ pub mod PlaceLemmas
 pub mod PlainLemmas
 pub mod ReplacedLemmas
 pub mod RunLawLemmas
+pub mod ScriptLexemes
+pub mod ScriptLines
+pub mod ScriptParts
+pub mod ScriptSymbols
+pub mod ScriptTextLemmas
 pub mod SpelledLemmas
 pub mod StepLemmas
 pub mod UseLemmas

@@ -1,8 +1,15 @@
 //! Laws of the definitions, with nothing to run.
 
 ghost use Rattle.pr_run.specs.Plain.{CharactersAreConstant, DigitsAreNumbers, PlainRuns, StringsAreConstant};
+<<<<<<< HEAD
 ghost use Rattle.pr_run.specs.RunLaws.{AllComeFrom, LimitsAgree, LimitsGoOn, StringsAreCounted};
+=======
+ghost use Rattle.pr_run.specs.RunLaws.{AllComeFrom, LimitsAgree, LimitsGoOn};
+ghost use Rattle.pr_run.specs.ScriptTexts.{ScriptsRun, TextsSayTheSame};
+>>>>>>> faac0c9d389fb4e1c8c9f505f2cd46b36f465bab
 ghost use Rattle.pr_run.specs.Spelled.{LinesAreRead};
+
+use pr_basic::laws::lexemes_are_found;
 
 /// A law: a greater limit of steps changes no run that does not use up a smaller one, and what is performed within a
 /// smaller one is performed first within a greater one.
@@ -40,3 +47,11 @@ pub fn plain_programs_run_in_order()
 pub fn script_lines_are_read()
     ensures { LinesAreRead }
 {}
+
+/// A law: a script whose lines are numbered in ascending order is a program that says the same statements.
+pub fn numbered_scripts_are_programs()
+    ensures same { TextsSayTheSame }
+    ensures runs { ScriptsRun }
+{
+    lexemes_are_found();
+}
