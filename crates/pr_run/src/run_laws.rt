@@ -1,12 +1,8 @@
 //! Laws of the definitions, with nothing to run.
 
 ghost use Rattle.pr_run.specs.Plain.{CharactersAreConstant, DigitsAreNumbers, PlainRuns, StringsAreConstant};
-<<<<<<< HEAD
 ghost use Rattle.pr_run.specs.RunLaws.{AllComeFrom, LimitsAgree, LimitsGoOn, StringsAreCounted};
-=======
-ghost use Rattle.pr_run.specs.RunLaws.{AllComeFrom, LimitsAgree, LimitsGoOn};
 ghost use Rattle.pr_run.specs.ScriptTexts.{ScriptsRun, TextsSayTheSame};
->>>>>>> faac0c9d389fb4e1c8c9f505f2cd46b36f465bab
 ghost use Rattle.pr_run.specs.Spelled.{LinesAreRead};
 
 use pr_basic::laws::lexemes_are_found;
