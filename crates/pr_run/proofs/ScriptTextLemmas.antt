@@ -372,10 +372,10 @@ line_step found text l before back ls place least lines first at is c n below = 
     bytes = without_return l
 
     numbered : (m : ℕ) (s : IsLineSaid text place bytes m first) → HasBasicNumber bytes m → least ≤ m
-        → AreNumbered (m + 1) ls
-        → AllBelow s.line.number lines → ((is_empty s.line ≡ true) ⊎ (is_empty s.line ≡ false))
+        → AreNumbered (m + 1) ls → AllBelow s.line.number lines
+        → ((is_empty s.line ≡ true) ⊎ (is_empty s.line ≡ false))
         → IsStep text place (length bytes) lines first l ls
-    numbered m s named least_m more lower (inl e) =
+    numbered m s named order more lower (inl e) =
         let none : filter is_performed first ≡ [] =
         subst (λ (t : List PlacedStatement). LineSays text t (filter is_performed first)) (s.empty e) s.says in
         record {
@@ -387,7 +387,7 @@ line_step found text l before back ls place least lines first at is c n below = 
           below = below_more least (m + 1) lines (omega arith) below;
           goes = λ rows os a. (a.0, a.1, said_after_none text a.0 m l ls first os c (inl named) none a.2);
         }
-    numbered m s named least_m more lower (inr e) =
+    numbered m s named order more lower (inr e) =
         let number = s.numbered in
         let less : s.line.number < m + 1 = omega arith in
         record {
@@ -421,7 +421,7 @@ line_step found text l before back ls place least lines first at is c n below = 
     by (inr k) =
         let s = numbered_row found text bytes before back place k.0 first at is k.1 c in
         let number = s.numbered in
-        let least_k = k.2 in
+        let order = k.2 in
         let low : least ≤ s.line.number = omega arith in
         let named = numbered_as found bytes k.0 first k.1 c in
         numbered k.0 s named k.2 k.3 (below_more least s.line.number lines low below) (cases_Bool (is_empty s.line))

@@ -44,7 +44,9 @@ pub fn script_lines_are_read()
     ensures { LinesAreRead }
 {}
 
-/// A law: a script whose lines are numbered in ascending order is a program that says the same statements.
+/// A law: a script whose lines are numbered in ascending order is a program of the same statements, and performs them
+/// in order, up to the first that has an error. A line may not have a tab between its lexemes, a carriage return before
+/// its end or a number of more than 255 digits.
 pub fn numbered_scripts_are_programs()
     ensures same { TextsSayTheSame }
     ensures runs { ScriptsRun }
