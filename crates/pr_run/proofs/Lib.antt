@@ -1,7 +1,11 @@
 pub mod ArrayLemmas
 pub mod CountLemmas
+pub mod CountedLemmas
 pub mod DataLemmas
 pub mod ElementLemmas
+pub mod GrownLemmas
+pub mod HeldLemmas
+pub mod KeptLemmas
 pub mod LiteralLemmas
 pub mod OpenedLemmas
 pub mod OriginLemmas
@@ -9,6 +13,11 @@ pub mod PlaceLemmas
 pub mod PlainLemmas
 pub mod ReplacedLemmas
 pub mod RunLawLemmas
+pub mod ScriptLexemes
+pub mod ScriptLines
+pub mod ScriptParts
+pub mod ScriptSymbols
+pub mod ScriptTextLemmas
 pub mod SpelledLemmas
 pub mod StepLemmas
 pub mod UseLemmas

@@ -11,6 +11,7 @@ pub mod Places
 pub mod Plain
 pub mod RunLaws
 pub mod Runs
+pub mod ScriptTexts
 pub mod Seen
 pub mod Spelled
 pub mod States

@@ -1,5 +1,6 @@
--- What is certain of runs: greater limits of steps change nothing, and what is performed comes from the program.
-use Rattle.std.specs.Prelude.{ℕ, ◌≡◌, ◌+◌, ◌++◌, Bool, true, false, IsTrue, List}
+-- What is certain of runs: greater limits of steps change nothing, what is performed comes from the program, and the
+-- bytes of strings are counted right.
+use Rattle.std.specs.Prelude.{ℕ, zero, suc, ◌≡◌, ◌+◌, ◌++◌, Bool, true, false, IsTrue, List, sum_by}
 use Rattle.std.specs.List.{All}
 use Rattle.pr_basic.specs.declared.statement.Statement.{Statement as Output}
 use Rattle.pr_basic.specs.declared.statement.Statement.TheVariants.{CloseFile, Cmd, OpenFile, Print as Printed, PrintTo}
@@ -11,8 +12,11 @@ use Rattle.pr_run.specs.declared.ending.Ending.TheVariants.{TooManySteps}
 use Rattle.pr_run.specs.declared.performed.Performed.{Performed}
 use Rattle.pr_run.specs.declared.place.Place.{Place}
 use Rattle.pr_run.specs.declared.programs.Program.{Program}
+use Rattle.pr_run.specs.Memory.{string_bytes}
 use Rattle.pr_run.specs.Places.{Doing, found_at, number_at}
 use Rattle.pr_run.specs.Runs.{run}
+use Rattle.pr_run.specs.States.{State, first_state}
+use Rattle.pr_run.specs.Steps.{Goes, step}
 
 -- ---- limits of steps
 
@@ -55,3 +59,21 @@ ComesFrom p d = (place : Place) × (s : Statement)
 -- so does each output statement that a run performs
 abbrev pub AllComeFrom : Type 0
 AllComeFrom = (p : Program) (limit : ℕ) → All (ComesFrom p) (run limit p).performed
+
+-- ---- strings
+
+-- a run of a program comes to a state after so many steps
+abbrev pub IsAfter : Program → ℕ → State → Type 0
+IsAfter p zero s = s ≡ first_state
+IsAfter p (suc n) s = (before : State) × (performed : List Performed)
+    × IsAfter p n before × (step p before ≡ Goes s performed)
+
+-- how many bytes the strings have that variables and elements of arrays hold: elements after the last one are still
+-- 0 or empty
+abbrev pub held_bytes : State → ℕ
+held_bytes s = sum_by (λ v. string_bytes v.value) s.variables
+    + sum_by (λ a. sum_by string_bytes a.elements) s.arrays.list
+
+-- in each state that a run comes to, exactly these are counted: a run ends before there are too many to count
+abbrev pub StringsAreCounted : Type 0
+StringsAreCounted = (p : Program) (n : ℕ) (s : State) → IsAfter p n s → s.strings ≡ held_bytes s
