@@ -2,7 +2,7 @@
 
 import { isTape, petcatOf, refusalOf } from './listing.js';
 import { $, button, encode, fromBase64, toBase64 } from './basics.js';
-import { ask, capital, clearPaper, editor, FILE_LIMIT, hasWebAssembly, LONG_FILE, notice, print, showPicture, state, tellFailed, tellOnce, wave } from './page.js';
+import { ask, Cancelled, capital, clearPaper, editor, FILE_LIMIT, hasWebAssembly, LONG_FILE, notice, print, showPicture, state, tellFailed, tellOnce, wave } from './page.js';
 import { cover, showWire, verdictWords } from './telling.js';
 import { file, keepEarlier, listingChanged, nameTab } from './kept.js';
 import { takeCharacters } from './characters.js';
@@ -12,9 +12,12 @@ import { ready, showChoices, showTab } from './controls.js';
 
 const KINDS = { script: 'a listing', petcat: 'petcat\'s text', prg: 'a saved program', text: 'a trace', vcd: 'a Value Change Dump', csv: 'a table of samples', raw: 'a printer\'s bytes' };
 
-/** What a file seems to be: the module says it. A name that ends in .bas is a listing's, saved or as text. */
+/** What a file seems to be: the module says it, the next one where the worker is ended meanwhile. A name that ends in .bas is a listing's, saved or as text. */
 async function kindOf(bytes, name) {
-  const kind = hasWebAssembly() ? await ask('kind', { bytes, name }) : 'script';
+  let kind = hasWebAssembly() ? '' : 'script';
+  while (!kind) {
+    try { kind = await ask('kind', { bytes, name }); } catch (error) { if (!(error instanceof Cancelled)) throw error; }
+  }
   return kind !== 'prg' && /\.bas$/i.test(name) ? 'script' : kind;
 }
 
@@ -45,16 +48,17 @@ function takeOrAsk(bytes, name, kind) {
 /** Shows a file as what it seems to be. */
 export async function takeFile(file) {
   const turn = ++taken, { source } = state, before = editor.text;
+  // No later file was dropped, nothing was typed, and the file on show was not put away.
+  const isWanted = () => turn === taken && source === state.source && before === editor.text;
   notice('others', '');
   taking++;
   try {
     const bytes = new Uint8Array(await file.arrayBuffer()), why = refusalOf(bytes, file.name), kind = why ? '' : await kindOf(bytes, file.name);
-    // By now a later file was dropped, something was typed, or the file on show was put away.
-    if (turn !== taken || source !== state.source || before !== editor.text) return;
+    if (!isWanted()) return;
     tellOnce('file', why);
     if (!why) await takeOrAsk(bytes, file.name, kind);
   } catch (error) {
-    tellOnce('file', `${file.name} cannot be read: ${error.message}`);
+    if (turn === taken) tellOnce('file', `${file.name} cannot be read: ${error.message}`);
   } finally {
     taking--;
   }

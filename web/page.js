@@ -30,7 +30,7 @@ export const state = { form: 'text', printers: 3, status: 0, delays: 'typical', 
 // the worker
 
 /** What a job's answer is where the worker was ended before it came. */
-class Cancelled extends Error {}
+export class Cancelled extends Error {}
 
 const answers = new Map();
 let jobs = 0, worker = startWorker(), module = null;      // `module`: the bytes of the WebAssembly module, for the next worker

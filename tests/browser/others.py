@@ -172,7 +172,10 @@ class FirefoxPage(Themed):
         self.send("browsingContext.navigate", url=address, wait="complete")
 
     def reload(self):
+        self.run("window.isOld = true")
         self.send("browsingContext.reload", wait="complete")
+        # (On a busy machine it may say so while it still has the old page.)
+        self.until("!window.isOld && document.readyState === 'complete'")
 
     def run(self, script, sees=True):
         answer = self.browser.send("script.evaluate", expression=inside(script) if sees else script, target={"context": self.context}, awaitPromise=True, serializationOptions={"maxObjectDepth": 9})
