@@ -16,21 +16,23 @@ _print1525() {
         before=${COMP_WORDS[COMP_CWORD - 2]}
     fi
     case $command/$before in
-        pages/--from) words='auto text prg petcat magazine' ;;
+        pages/--from) words='auto text prg petcat magazine basic bas' ;;
+        pages/--steps) return ;;
         pages/--present) words='none 4 5 both' ;;
         pages/--delays) return ;;
         pages/--status) words='each kept' ;;
-        pages/--as) words='list text svg png pdf bytes' ;;
+        pages/--as) words='list text svg png pdf bytes script' ;;
         pages/--device) words='4 5' ;;
         pages/--sheet) return ;;
         pages/--scale) return ;;
         pages/--top) return ;;
         pages/--paper) words='continuous a4 letter' ;;
-        bus/--from) words='auto text prg petcat magazine' ;;
+        bus/--from) words='auto text prg petcat magazine basic bas' ;;
+        bus/--steps) return ;;
         bus/--present) words='none 4 5 both' ;;
         bus/--delays) return ;;
         bus/--status) words='each kept' ;;
-        bus/--as) words='text vcd' ;;
+        bus/--as) words='text vcd script' ;;
         check/--from) words='auto text vcd csv' ;;
         check/--names) return ;;
         check/--from-time) return ;;
@@ -64,8 +66,8 @@ _print1525() {
         *)
             if [[ $word == -* ]]; then
                 case $command in
-                pages) words='-o --output --from --present --delays --status --as --explain -q --quiet --device --sheet --scale --top --paper --holes --characters -h --help' ;;
-                bus) words='-o --output --from --present --delays --status --as --explain -q --quiet -h --help' ;;
+                pages) words='-o --output --from --steps --present --delays --status --as --explain -q --quiet --device --sheet --scale --top --paper --holes --characters -h --help' ;;
+                bus) words='-o --output --from --steps --present --delays --status --as --explain -q --quiet -h --help' ;;
                 check) words='-o --output --from --names --invert --from-time --glitch --rate --threshold --as --explain -q --quiet -h --help' ;;
                 decode) words='-o --output --from --names --invert --from-time --glitch --rate --threshold --as --explain -q --quiet --device --sheet --scale --top --paper --holes --characters --intervals --bounds --listening --set --strict -h --help' ;;
                 raw) words='-o --output --set --as --explain -q --quiet --device --sheet --scale --top --paper --holes --characters -h --help' ;;

@@ -196,7 +196,42 @@ enum print1525_fault {
     PRINT1525_STOP_FILE_OPEN = 102,
     PRINT1525_STOP_FILE_NOT_OPEN = 103,
     PRINT1525_STOP_DEVICE_NOT_PRESENT = 105,
-    PRINT1525_STOP_NOT_INPUT_FILE = 106
+    PRINT1525_STOP_NOT_INPUT_FILE = 106,
+    /* stopped: an error of BASIC in a program that is run, 100 and its number; `place` is the number of the program's
+     * line */
+    PRINT1525_STOP_NEXT_WITHOUT_FOR = 110,
+    PRINT1525_STOP_SYNTAX = 111,
+    PRINT1525_STOP_RETURN_WITHOUT_GOSUB = 112,
+    PRINT1525_STOP_OUT_OF_DATA = 113,
+    PRINT1525_STOP_ILLEGAL_QUANTITY = 114,
+    PRINT1525_STOP_OVERFLOW = 115,
+    PRINT1525_STOP_UNDEFINED_STATEMENT = 117,
+    PRINT1525_STOP_BAD_SUBSCRIPT = 118,
+    PRINT1525_STOP_REDIMENSIONED_ARRAY = 119,
+    PRINT1525_STOP_DIVISION_BY_ZERO = 120,
+    PRINT1525_STOP_TYPE_MISMATCH = 122,
+    PRINT1525_STOP_STRING_TOO_LONG = 123,
+    PRINT1525_STOP_FORMULA_TOO_COMPLEX = 125,
+    PRINT1525_STOP_UNDEFINED_FUNCTION = 127,
+    /* refused: of a program that is run, at a place of its text; `place` is the line of the text and `column` the
+     * column, from 1 */
+    PRINT1525_FAULT_NO_LINE_NUMBER = 131,
+    PRINT1525_FAULT_LARGE_LINE_NUMBER = 132,
+    PRINT1525_FAULT_SYNTAX = 133,
+    PRINT1525_FAULT_UNKNOWN_KEY = 134,
+    PRINT1525_FAULT_BAD_STRING_BYTE = 135,
+    PRINT1525_FAULT_NOT_SUPPORTED = 136,
+    PRINT1525_FAULT_NOT_CERTAIN = 137,
+    PRINT1525_FAULT_POKE_NOT_SUPPORTED = 138,
+    PRINT1525_FAULT_BAD_PROGRAM_DEVICE = 139,
+    PRINT1525_FAULT_BAD_PROGRAM_SECOND = 140,
+    PRINT1525_FAULT_FILE_NAME = 141,
+    PRINT1525_FAULT_LONG_LIST = 142,
+    PRINT1525_FAULT_OPEN_FILES = 143,
+    PRINT1525_FAULT_FULL_STACK = 144,
+    PRINT1525_FAULT_FULL_MEMORY = 145,
+    /* refused: the run of a program does not end within its steps; `place` is the number of the program's line */
+    PRINT1525_FAULT_TOO_MANY_STEPS = 146
 };
 
 /* What a fault says, in the program's words (of a BASIC error its name); "no fault" of any other number. The text stays
@@ -204,9 +239,9 @@ enum print1525_fault {
 const char *print1525_strerror(int fault);
 
 /* Writes what the program writes of these details, as `line 3: unknown word`, `edge 5: too early`, `out of memory` or
- * `?FILE NOT OPEN  ERROR (statement 3)`; of a bad setting `setting top: bad setting`. At most capacity - 1 bytes of it,
- * and a zero byte if there is room for one. Returns the length of all of it, as snprintf does. Of NULL and of status 0
- * this is 0. */
+ * `?FILE NOT OPEN  ERROR (statement 3)`, of a program `?SYNTAX  ERROR IN 20`; of a bad setting
+ * `setting top: bad setting`. At most capacity - 1 bytes of it, and a zero byte if there is room for one. Returns the
+ * length of all of it, as snprintf does. Of NULL and of status 0 this is 0. */
 size_t print1525_message(const print1525_details *details, char *text, size_t capacity);
 
 /* PRINT1525_VERSION of the library that is linked. */
@@ -590,7 +625,8 @@ enum print1525_as {
     PRINT1525_AS_SVG = 7,     /* pages, decode, raw, print, printer_picture: a picture, */
     PRINT1525_AS_PNG = 8,     /* the paper of one printer as a PNG file, */
     PRINT1525_AS_PDF = 9,     /* or a PDF document of all sheets */
-    PRINT1525_AS_BYTES = 10   /* pages, decode: the bytes that a printer hears, for print1525_raw */
+    PRINT1525_AS_BYTES = 10,  /* pages, decode: the bytes that a printer hears, for print1525_raw */
+    PRINT1525_AS_SCRIPT = 11  /* pages, bus: the script that is run */
 };
 /* `from`: what the input is, the program's option --from. AUTO is what its first bytes show. */
 enum print1525_from {
@@ -601,7 +637,9 @@ enum print1525_from {
     PRINT1525_FROM_PETCAT = 4,  /* petcat's text of one, */
     PRINT1525_FROM_MAGAZINE = 5, /* or a listing as magazines print it */
     PRINT1525_FROM_VCD = 6,     /* check, decode, edges: a Value Change Dump, */
-    PRINT1525_FROM_CSV = 7      /* or a table of comma separated values */
+    PRINT1525_FROM_CSV = 7,     /* or a table of comma separated values */
+    PRINT1525_FROM_BASIC = 8,   /* pages, bus: a program in BASIC, which is run, */
+    PRINT1525_FROM_BAS = 9      /* or a script, and such a program where it is none */
 };
 /* `present`: the printers on the bus. */
 enum print1525_present {
@@ -660,7 +698,8 @@ typedef struct {
     const void *characters; /* [22] --characters: the bytes of such a file; an empty one: this project's own (SVG, PNG,
                              * PDF) */
     size_t characters_length;
-    uint64_t reserved[4]; /* [23] 0 */
+    uint64_t steps;     /* [24] --steps: the steps that a program has at most; 0: 10,000,000 (BASIC, BAS) */
+    uint64_t reserved[3]; /* [23] 0 */
 } print1525_settings;
 
 /* All of them 0. `{0}` is the same in C; this is for C++ too. */
@@ -694,7 +733,8 @@ enum print1525_setting {
     PRINT1525_SETTING_DELAYS = 20,
     PRINT1525_SETTING_NAMES = 21,
     PRINT1525_SETTING_CHARACTERS = 22,
-    PRINT1525_SETTING_RESERVED = 23
+    PRINT1525_SETTING_RESERVED = 23,
+    PRINT1525_SETTING_STEPS = 24
 };
 
 /* ------------------------------------------------------------------------------------------- calls for texts -- */
@@ -713,12 +753,13 @@ int print1525_answer(const char *const *words, const void *input, size_t input_l
 
 /* Runs a script and gives its pages.
  *
- * Reads: a script of at most 16,777,216 bytes, or a listing that has the text of one.
+ * Reads: a script of at most 16,777,216 bytes, a listing that has the text of one, or a program that prints one.
  * Gives: what `print1525 pages` writes. Status 1 comes with the BASIC error that stopped the run; what was printed
  * until then is in the text.
  * Refuses: settings (82); a text above the limit (9), before it is read; characters, by their first bad line (52); a
- * listing by its first fault (61 to 65), and a script (1 to 7); after the run a sheet that does not exist (50), with
- * how many there are, and a document that is too large or a PNG file of more than 1,000,000 lines of pixels (51). */
+ * listing by its first fault (61 to 65), a program by what is refused (131 to 146), and a script (1 to 7); after the
+ * run a sheet that does not exist (50), with how many there are, and a document that is too large or a PNG file of more
+ * than 1,000,000 lines of pixels (51). */
 int print1525_pages(const void *script, size_t script_length, const print1525_settings *settings, void *text,
                     size_t capacity, size_t *length, print1525_details *details);
 

@@ -15,6 +15,7 @@ enum call { PAGES = 1, BUS = 2, CHECK = 4, DECODE = 8, RAW = 16, PRINT = 32, LIS
 #define AS(format) (1u << PRINT1525_AS_##format)
 #define PICTURES (AS(SVG) | AS(PNG) | AS(PDF))
 #define FROM(form) (1u << PRINT1525_FROM_##form)
+#define PROGRAMS (FROM(BASIC) | FROM(BAS))
 
 /* What a call is passed. */
 typedef struct {
@@ -31,8 +32,8 @@ typedef struct {
 /* The formats and the forms of input that a call has; those that 0 means. */
 static inline unsigned formats_of(unsigned call) {
     switch (call) {
-    case PAGES: return AS(LIST) | AS(TEXT) | PICTURES | AS(BYTES);
-    case BUS: return AS(TEXT) | AS(VCD);
+    case PAGES: return AS(LIST) | AS(TEXT) | PICTURES | AS(BYTES) | AS(SCRIPT);
+    case BUS: return AS(TEXT) | AS(VCD) | AS(SCRIPT);
     case CHECK: return AS(FRAMES) | AS(STORY) | AS(JSON);
     case DECODE: return AS(LIST) | AS(JSON) | AS(TEXT) | PICTURES | AS(BYTES);
     case RAW:
@@ -43,7 +44,9 @@ static inline unsigned formats_of(unsigned call) {
 }
 
 static inline unsigned forms_of(unsigned call) {
-    if (call & (RUNS | LISTING)) return FROM(AUTO) | FROM(TEXT) | FROM(PRG) | FROM(PETCAT) | FROM(MAGAZINE);
+    const unsigned listings = FROM(AUTO) | FROM(TEXT) | FROM(PRG) | FROM(PETCAT) | FROM(MAGAZINE);
+    if (call & RUNS) return listings | PROGRAMS;
+    if (call & LISTING) return listings;
     if (call & RECORDINGS) return FROM(AUTO) | FROM(TEXT) | FROM(VCD) | FROM(CSV);
     return 0;
 }
@@ -66,10 +69,10 @@ typedef struct {
 } rule;
 
 static inline rule rule_of(size_t setting) {
-    static const rule rules[PRINT1525_SETTING_RESERVED + 1] = {
+    static const rule rules[PRINT1525_SETTING_STEPS + 1] = {
         {0, 0, 0, 0},
-        {RUNS | CHECK | PAPERS, 0, 0, PRINT1525_AS_BYTES},
-        {RUNS | RECORDINGS | LISTING, 0, 0, PRINT1525_FROM_CSV},
+        {RUNS | CHECK | PAPERS, 0, 0, PRINT1525_AS_SCRIPT},
+        {RUNS | RECORDINGS | LISTING, 0, 0, PRINT1525_FROM_BAS},
         {RUNS, 0, 0, PRINT1525_PRESENT_NONE},
         {RUNS, 0, 0, PRINT1525_MODE_KEPT},
         {RAW | DECODE, AS(LIST) | AS(TEXT) | PICTURES | AS(BYTES), 0, PRINT1525_SET_LOWER},
@@ -91,6 +94,7 @@ static inline rule rule_of(size_t setting) {
         {RECORDINGS, 0, FROM(AUTO) | FROM(VCD) | FROM(CSV), 1},
         {PAPERS, PICTURES, 0, 1},
         {0, 0, 0, 0},
+        {RUNS, 0, PROGRAMS, UINT64_MAX},
     };
     return rules[setting];
 }
@@ -102,12 +106,12 @@ static inline size_t bad_setting(task *t, unsigned call) {
         0, s->as, s->from, s->present, s->status, s->set, s->device, s->paper, s->holes, s->top, s->scale, s->bounds,
         s->intervals, s->invert, s->listening, s->strict, s->explain, s->sheet, s->from_time, s->rate,
         s->delays != NULL, s->names != NULL, s->characters_length > 0,
-        s->reserved[0] | s->reserved[1] | s->reserved[2] | s->reserved[3],
+        s->reserved[0] | s->reserved[1] | s->reserved[2], s->steps,
     };
     size_t setting;
     t->as = usual_format(call);
     t->from = usual_form(call);
-    for (setting = 1; setting <= PRINT1525_SETTING_RESERVED; setting++) {
+    for (setting = 1; setting <= PRINT1525_SETTING_STEPS; setting++) {
         const rule its = rule_of(setting);
         if (values[setting] == 0) continue;
         if (!(its.calls & call) || values[setting] > its.most) return setting;

@@ -38,8 +38,9 @@ static const char *command_of(unsigned call) {
 /* Adds the words of a command line that say the settings of a call. */
 static void words_of(growing *to, unsigned call, const print1525_settings *s) {
     static const char formats[][7] = {"",    "list", "text", "frames", "story", "json",
-                                      "vcd", "svg",  "png",  "pdf",    "bytes"};
-    static const char forms[][9] = {"", "auto", "text", "prg", "petcat", "magazine", "vcd", "csv"};
+                                      "vcd", "svg",  "png",  "pdf",    "bytes", "script"};
+    static const char forms[][9] = {"",         "auto", "text", "prg",   "petcat",
+                                    "magazine", "vcd",  "csv",  "basic", "bas"};
     static const char printers[][5] = {"", "4", "5", "none"}, papers[][7] = {"", "a4", "letter"};
     static const char listening[][4] = {"", "4", "5", "4,5"};
     word(to, "print1525");
@@ -63,6 +64,7 @@ static void words_of(growing *to, unsigned call, const print1525_settings *s) {
     if (s->sheet) option_number(to, "--sheet", s->sheet);
     if (s->from_time) option_number(to, "--from-time", s->from_time);
     if (s->rate) option_number(to, "--rate", s->rate);
+    if (s->steps) option_number(to, "--steps", s->steps);
     if (s->delays) option_text(to, "--delays=", s->delays);
     if (s->names) option_text(to, "--names=", s->names);
     if (s->characters_length > 0) option(to, "--characters", "given");

@@ -69,6 +69,36 @@ const char *print1525_strerror(int fault) {
     case PRINT1525_STOP_FILE_NOT_OPEN: return "FILE NOT OPEN";
     case PRINT1525_STOP_DEVICE_NOT_PRESENT: return "DEVICE NOT PRESENT";
     case PRINT1525_STOP_NOT_INPUT_FILE: return "NOT INPUT FILE";
+    case PRINT1525_STOP_NEXT_WITHOUT_FOR: return "NEXT WITHOUT FOR";
+    case PRINT1525_STOP_SYNTAX: return "SYNTAX";
+    case PRINT1525_STOP_RETURN_WITHOUT_GOSUB: return "RETURN WITHOUT GOSUB";
+    case PRINT1525_STOP_OUT_OF_DATA: return "OUT OF DATA";
+    case PRINT1525_STOP_ILLEGAL_QUANTITY: return "ILLEGAL QUANTITY";
+    case PRINT1525_STOP_OVERFLOW: return "OVERFLOW";
+    case PRINT1525_STOP_UNDEFINED_STATEMENT: return "UNDEF'D STATEMENT";
+    case PRINT1525_STOP_BAD_SUBSCRIPT: return "BAD SUBSCRIPT";
+    case PRINT1525_STOP_REDIMENSIONED_ARRAY: return "REDIM'D ARRAY";
+    case PRINT1525_STOP_DIVISION_BY_ZERO: return "DIVISION BY ZERO";
+    case PRINT1525_STOP_TYPE_MISMATCH: return "TYPE MISMATCH";
+    case PRINT1525_STOP_STRING_TOO_LONG: return "STRING TOO LONG";
+    case PRINT1525_STOP_FORMULA_TOO_COMPLEX: return "FORMULA TOO COMPLEX";
+    case PRINT1525_STOP_UNDEFINED_FUNCTION: return "UNDEF'D FUNCTION";
+    case PRINT1525_FAULT_NO_LINE_NUMBER: return "no line number";
+    case PRINT1525_FAULT_LARGE_LINE_NUMBER: return "line number above 63999";
+    case PRINT1525_FAULT_SYNTAX: return "syntax error";
+    case PRINT1525_FAULT_UNKNOWN_KEY: return "unknown name";
+    case PRINT1525_FAULT_BAD_STRING_BYTE: return "bad byte";
+    case PRINT1525_FAULT_NOT_SUPPORTED: return "not supported";
+    case PRINT1525_FAULT_NOT_CERTAIN: return "not certain";
+    case PRINT1525_FAULT_POKE_NOT_SUPPORTED: return "POKE not supported";
+    case PRINT1525_FAULT_BAD_PROGRAM_DEVICE: return "bad device";
+    case PRINT1525_FAULT_BAD_PROGRAM_SECOND: return "bad secondary address";
+    case PRINT1525_FAULT_FILE_NAME: return "file name not supported";
+    case PRINT1525_FAULT_LONG_LIST: return "too long";
+    case PRINT1525_FAULT_OPEN_FILES: return "CLR with an open file";
+    case PRINT1525_FAULT_FULL_STACK: return "stack may be full";
+    case PRINT1525_FAULT_FULL_MEMORY: return "memory may be full";
+    case PRINT1525_FAULT_TOO_MANY_STEPS: return "too many steps";
     default: return "no fault";
     }
 }
@@ -86,6 +116,8 @@ static const char *counted(int fault) {
     if (fault >= PRINT1525_FAULT_BAD_TIMESCALE && fault <= PRINT1525_FAULT_NO_TIME) return "line ";
     if (fault >= PRINT1525_FAULT_ANOTHER_ATN && fault <= PRINT1525_FAULT_ANOTHER_DATA) return "line ";
     if (fault == PRINT1525_FAULT_BAD_SETTING) return "setting ";
+    if (fault >= PRINT1525_FAULT_NO_LINE_NUMBER && fault <= PRINT1525_FAULT_FULL_MEMORY) return "line ";
+    if (fault == PRINT1525_FAULT_TOO_MANY_STEPS) return "line ";
     return NULL;
 }
 
@@ -95,6 +127,7 @@ static const char *setting_name(size_t number) {
         "",      "as",        "from",   "present",   "status", "set",     "device", "paper",
         "holes", "top",       "scale",  "bounds",    "intervals", "invert", "listening", "strict",
         "explain", "sheet",   "from_time", "rate",   "delays", "names",   "characters", "reserved",
+        "steps",
     };
     return number < sizeof names / sizeof *names ? names[number] : "";
 }
@@ -109,9 +142,9 @@ size_t print1525_message(const print1525_details *details, char *text, size_t ca
     if (status == PRINT1525_STOPPED && fault != PRINT1525_FAULT_NONE) {
         add(&to, "?");
         add(&to, print1525_strerror(fault));
-        add(&to, "  ERROR (statement ");
+        add(&to, fault < PRINT1525_STOP_NEXT_WITHOUT_FOR ? "  ERROR (statement " : "  ERROR IN ");
         add_number(&to, place);
-        add(&to, ")");
+        if (fault < PRINT1525_STOP_NEXT_WITHOUT_FOR) add(&to, ")");
     } else if (status != PRINT1525_DONE && fault != PRINT1525_FAULT_NONE) {
         const char *const what = counted(fault);
         if (what != NULL) {

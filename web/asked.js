@@ -12,6 +12,9 @@ export const formNumber = form => FORMS.indexOf(form);
 /** A run's settings: which printers are present (4 by 1, 5 by 2, both by 3), and whether the status is kept. */
 const runWords = ({ printers = 3, status = 0 }) => ['--present', PRESENT[printers], '--status', STATUS[status]];
 
+/** The words for the script that comes of a listing which may be a program. */
+export const scriptWords = ['pages', '--from', 'bas', '--as', 'script'];
+
 /** The words for the pages of a run, of a listing in some form. */
 export const pagesWords = (run, as, form = 'text') => ['pages', '--from', form, ...runWords(run), '--as', as];
 

@@ -83,14 +83,14 @@ async function showLineOf(index, turn) {
   if (!knowsLines()) return;
   const answer = await found('lineOf', { frame: index }, turn);
   if (!answer) return;
-  const before = lineOfEnd(answer, index);
+  const before = answer.isMade ? -1 : lineOfEnd(answer, index);
   if (before >= 0) {
     editor.choose(before);
     $('chosen').append(` The line end of ${/cmd/i.test(editor.line(before)) ? 'CMD in ' : ''}line ${before + 1}, which the next one sends.`);
     return;
   }
   editor.choose(answer.line);
-  editor.showPlace(answer.line, placesIn(answer.line, answer.from, answer.to).get(index));
+  if (!answer.isMade) editor.showPlace(answer.line, placesIn(answer.line, answer.from, answer.to).get(index));
 }
 
 /** A frame is chosen: its marks are shown on the sheets, and its line. */
@@ -161,9 +161,9 @@ function pointSoon(name, look) {
 
 /** A frame with its line and the character that it comes from. */
 async function lineAround(frame, marks) {
-  const found = knowsLines() ? await ask('lineOf', { frame }) : null, before = found ? lineOfEnd(found, frame) : -1, line = before >= 0 ? before : found ? found.line : -1;
+  const found = knowsLines() ? await ask('lineOf', { frame }) : null, before = found && !found.isMade ? lineOfEnd(found, frame) : -1, line = before >= 0 ? before : found ? found.line : -1;
   if (before >= 0) return { marks, frames: [frame, frame + 1], line, place: null };
-  return { marks, frames: [frame, frame + 1], line, place: found ? placesIn(line, found.from, found.to).get(frame) ?? null : null };
+  return { marks, frames: [frame, frame + 1], line, place: found && !found.isMade ? placesIn(line, found.from, found.to).get(frame) ?? null : null };
 }
 
 /** The marks of a frame. */
@@ -193,7 +193,7 @@ export function linePointed(line, column) {
     const answer = await ask('line', { line });
     if (!answer) return null;
     const { from, to, marks } = answer;
-    if (column < 0) return { marks, frames: [from, to], line, place: null };
+    if (column < 0 || answer.isMade) return { marks, frames: [from, to], line, place: null };
     const [frame, place] = [...placesIn(line, from, to)].find(([, place]) => place && place.from <= column && column < place.to) ?? [];
     return frame === undefined ? null : { marks: await marksOfFrame(frame), frames: [frame, frame + 1], line, place };
   });

@@ -422,7 +422,7 @@ function tellStatuses(answer, words) {
     const [first, , ...hints] = told;
     words('first', first);
     hints.forEach(hint => tellHint(hint, words));
-    if (isKnown) {
+    if (isKnown && statement) {
       const line = lines[statement - 1], text = editor.line(line);
       sign(line, 'stopped', `statement ${statement}: ${name}`);
       lines.slice(statement).forEach((line, index) => sign(line, 'unreached', `statement ${statement + 1 + index}: not reached`));

@@ -59,6 +59,8 @@ const WORDS = [
   [/raw --set lower prints them/, 'choose that character set'],
   [/with --set lower in that of the first byte/, 'with the lower/upper case set in that of the first byte'],
   [/write the table with -O csv:label=channel/, 'choose the signals by the names of its channels, or write the table again with -O csv:label=channel'],
+  [/, as with --from basic; --as script writes what it prints/, ''],
+  [/; --steps NUMBER gives it more steps/, ''],
   [/.*--from (prg|petcat|text).*/, ''],
 ];
 

@@ -2,13 +2,13 @@
 // asked; the answer goes back under the job's number. What was printed last is kept for the texts and the clicks.
 
 import { loadPrint1525 } from './module.mjs';
-import { busWords, delaysOf, FORMS, formNumber, hasNames, pagesWords, rawWords, recordingNumbers, recordingWords, SOURCES } from './asked.js';
+import { busWords, delaysOf, FORMS, formNumber, hasNames, pagesWords, rawWords, recordingNumbers, recordingWords, scriptWords, SOURCES } from './asked.js';
 import { marksMore, marksOf } from './sheets.js';
 import { edgeAt, figuresOf, figuresOfText, frameLines, Frames, lineStarts, textOfEdges, turnsOf, useBounds } from './wire.js';
 
 let print1525 = null;
-const shown = { run: 0, kind: '', words: null, input: null, settings: null, list: null };     // what is on paper; `run` is the number of its print
-const wire = { run: 0, ask: null, asked: null, moments: new Map(), bytes: null, input: 'text', starts: null, edges: null, frames: new Frames(), readings: null };
+const shown = { run: 0, kind: '', words: null, input: null, settings: null, list: null, rows: null };     // what is on paper; `run` is the number of its print
+const wire = { run: 0, ask: null, rows: null, asked: null, moments: new Map(), bytes: null, input: 'text', starts: null, edges: null, frames: new Frames(), readings: null };
 let running = 0, number = 0;                                           // the run of the job under way, and its number
 
 const text = bytes => new TextDecoder().decode(bytes);
@@ -38,12 +38,28 @@ function answerOf({ status, place, column, messages }) {
   return { code: status, line: place, column, words, name, more };
 }
 
-/** The script that a listing says: itself, or what the module makes of it in another form; or the answer that refuses it. */
+/** The row of the listing, from 0, for each line of the script that it prints as a program. */
+function rowsOf(script, listing) {
+  const rows = new Map(), numberOf = row => Number((/^ *(\d[\d ]*)/.exec(row)?.[1] ?? '-1').replace(/ /g, ''));
+  latin(listing).split(/\r\n|\r|\n/).forEach((row, at) => rows.set(numberOf(row), at));
+  return latin(script).split('\n').slice(0, -1).map(line => rows.get(numberOf(line)) ?? -1);
+}
+
+/**
+ * The script that a listing says: itself, or what it prints as a program where it is no script, with the listing's rows; or what the
+ * module makes of it in another form; or the answer that refuses it.
+ */
 function scriptOf({ script, form = 'text' }) {
-  if (form === 'text') return { script };
+  if (form === 'text') {
+    const made = placeOf(script) ? answer(scriptWords, script) : null;
+    return made && made.output.length ? { script: made.output, rows: rowsOf(made.output, script) } : { script };
+  }
   const made = print1525.listing({ bytes: script, form: formNumber(form) });
   return made.code ? { refused: answerOf(answer(pagesWords({}, 'list', form), script, true)) } : { script: made.text };
 }
+
+// The numbers of faults from here on are those of programs that are run.
+const PROGRAM_ERRORS = 110;
 
 // What may be the beginning of a name, at the end of a line that is cut.
 const CUT_NAME = { petcat: /\{[^}]*$/, magazine: /(\{[^}]*|\[(<((?!>\])[^])*)?)$/ };
@@ -59,7 +75,7 @@ function placeInNamed({ line, column }, listing, form) {
 
 /** The sheets of a listing's run: with the notes on the listing itself where it runs, and by its script where that is refused. */
 function pagesOf({ script: listing, form = 'text' }, run, script) {
-  const pages = answer(pagesWords(run, 'svg', form), listing, true);
+  const pages = answer(pagesWords(run, 'svg', form === 'text' ? 'bas' : form), listing, true);
   return form === 'text' || pages.status <= 1 ? pages : answer(pagesWords(run, 'svg'), script, true);
 }
 
@@ -251,6 +267,15 @@ function momentAfter(lines) {
   return wire.moments.get(lines);
 }
 
+/** The first line of the script that comes of a row of the listing, and the one after the last that comes with it; of a program that goes there again only the first time. */
+function linesOfRow(row) {
+  if (!wire.rows) return [row, row + 1];
+  const first = wire.rows.indexOf(row);
+  let next = Math.max(first, 0);
+  while (first >= 0 && wire.rows[next] === row) next++;
+  return [Math.max(first, 0), next];
+}
+
 const jobs = {
   /** Makes the module ready, and gives the bounds of the delays. */
   async open({ bytes, characters: own }) {
@@ -294,16 +319,22 @@ const jobs = {
 
   /** The sheets of a script's run as a picture, or why there are none. */
   print(ask) {
-    const began = performance.now(), { script, refused } = scriptOf(ask);
+    const began = performance.now(), { script, rows, refused } = scriptOf(ask);
     if (refused) return { ...refused, milliseconds: performance.now() - began };
     const run = { script, printers: ask.printers, status: ask.status }, words = format => pagesWords(run, format);
     const pages = pagesOf(ask, run, script);
     /** @type {any} */
     const told = answerOf(pages);
     if (pages.status <= 1) Object.assign(told, { svg: picture('script', words, script, pages, run), notes: linesOf(pages).notes });
+    shown.rows = rows;
     told.milliseconds = performance.now() - began;
-    if (pages.status === 1) Object.assign(told, { statement: pages.place, told: [told.words, ...told.more] });
-    if (pages.status === 2) {
+    // (an error of BASIC ends a program after its last statement: its place is a line's number)
+    if (pages.status === 1) Object.assign(told, { statement: pages.fault >= PROGRAM_ERRORS ? NaN : pages.place, told: [told.words, ...told.more] });
+    if (pages.status === 2 && pages.fault >= PROGRAM_ERRORS) {
+      // (the listing's line and the caret below it are in the editor)
+      told.more = told.more.slice(pages.column ? 2 : 1);
+      if (!pages.column) told.line = rowsOf(new TextEncoder().encode(`${pages.place}\n`), ask.script)[0] + 1;
+    } else if (pages.status === 2) {
       told.place = placeOf(script);
       if (told.place) told.explanation = explanationOf(told.more, told.place);
       if (hasNames(ask.form) && told.place) told.inNamed = placeInNamed(told.place, ask.script, ask.form);
@@ -323,12 +354,13 @@ const jobs = {
   /** What comes after the sheets of the script that is shown: each statement's line and status, and the screen's bytes. */
   end() {
     shown.list = madeAgain('list');
-    return { ...endOf(shown.list), lines: print1525.statementLines({ script: shown.input }).numbers };
+    const lines = print1525.statementLines({ script: shown.input }).numbers;
+    return { ...endOf(shown.list), lines: shown.rows ? lines.map(line => shown.rows[line - 1] + 1) : lines };
   },
 
   /** The trace of a script's run at some delays, and what it says. */
   trace({ printers, status, delays, script: listing, form }) {
-    const { script, refused } = scriptOf({ script: listing, form });
+    const { script, rows, refused } = scriptOf({ script: listing, form });
     if (refused) return refused;
     tellProgress(0, 'running the listing');
     const run = { script, printers, status, delays }, bus = answer(busWords(run, 'text'), script);
@@ -337,23 +369,22 @@ const jobs = {
     const ask = { bytes: bus.output, input: 'text' }, said = answer(recordingWords('decode', ask, 'list'), ask.bytes);
     // (that the trace of a run is lawful is proved)
     const kept = keepWire(ask, said, LAWFUL);
-    wire.ask = run;
+    Object.assign(wire, { ask: run, rows });
     return { ...answerOf(bus), ...kept, delays };
   },
 
   /** What a line of the listing sends and prints: the first of its frames and the one after the last, and its marks. */
   line({ line }) {
-    const [before, after] = [momentAfter(line), momentAfter(line + 1)];
-    const [from, to] = [before, after].map(moment => wire.frames.endingAfter(moment));
+    const [first, next] = linesOfRow(line), [from, to] = [first, next].map(count => wire.frames.endingAfter(momentAfter(count)));
     const pages = lines => text(answer(pagesWords(wire.ask, 'svg'), firstLines(lines)).output);
-    return { from, to, marks: marksMore(pages(line), pages(line + 1)) };
+    return { from, to, marks: marksMore(pages(first), pages(next)), isMade: Boolean(wire.rows) };
   },
 
   /** The line of the listing that sends a frame: the first with which the trace goes as far; and the first of its frames and the one after the last. */
   lineOf({ frame }) {
     const end = wire.frames.end(frame), lines = firstLines(Infinity, true);
     const line = least(lines, number => momentAfter(number) >= end) - 1, [from, to] = [line, line + 1].map(number => wire.frames.endingAfter(momentAfter(number)));
-    return { line, from, to };
+    return { line: wire.rows ? wire.rows[line] : line, from, to, isMade: Boolean(wire.rows) };
   },
 
   /**

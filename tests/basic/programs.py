@@ -1,9 +1,10 @@
 #!/usr/bin/env python3
 """tests/basic/programs.py PROGRAM: runs the programs of this folder and compares with what they have to print.
 
-Each NAME.bas is run by tests/lib/basic.py. The statements that it performs are NAME.script, how it ends is NAME.end, and
-the lines that PROGRAM makes of the script are NAME.page; a program that is refused has no page. Each list of lists.txt
-and each program of runs.txt prints what it says there. Random programs follow, whose scripts PROGRAM has to accept.
+Each NAME.bas is run by tests/lib/basic.py, and by PROGRAM (--from basic), which has to perform the same. The statements
+that it performs are NAME.script, how it ends is NAME.end, and the lines that PROGRAM makes of the script are NAME.page;
+a program that is refused has no page. Each list of lists.txt and each program of runs.txt prints what it says there.
+Random programs follow, whose scripts PROGRAM has to accept.
 
     tests/basic/programs.py --make N FIRST FOLDER
 
@@ -30,12 +31,22 @@ def script_text(outcome: Outcome) -> bytes:
     return "".join(f"{line}\n" for line in outcome.script).encode()
 
 
+def check_run(checks: Checks, program: str, name: str, text: bytes, outcome: Outcome) -> None:
+    """PROGRAM runs a program itself, and performs the same statements."""
+    ran = run(program, "pages", "--from", "basic", "--as", "script", data=text)
+    is_refused = outcome.end.startswith("refused")
+    checks.expect(ran.output == (b"" if is_refused else script_text(outcome)), f"{name}: --from basic performs others: {ran.error}")
+    status = 2 if is_refused else int(outcome.end.startswith("?"))
+    checks.expect(ran.status == status, f"{name}: --from basic ends with {ran.status}, not {status}: {ran.error}")
+
+
 def check_program(checks: Checks, program: str, name: str) -> None:
     """A program of this folder performs, ends and prints as it should."""
     outcome = run_program(bytes_of(f"{HERE}/{name}.bas"))
     script = script_text(outcome)
     checks.expect(script == bytes_of(f"{HERE}/{name}.script"), f"{name}: other statements than {name}.script has")
     checks.expect(f"{outcome.end}\n".encode() == bytes_of(f"{HERE}/{name}.end"), f"{name}: '{outcome.end}'")
+    check_run(checks, program, name, bytes_of(f"{HERE}/{name}.bas"), outcome)
     page = f"{HERE}/{name}.page"
     if outcome.end.startswith("refused"):
         checks.expect(not os.path.exists(page), f"{name}: it is refused, and has a page")
@@ -91,7 +102,8 @@ def made(seed: int) -> tuple[bytes, Outcome]:
 
 def check_made(checks: Checks, program: str, seed: int) -> None:
     """The script of a random program is one; it stops only where the run said so."""
-    _, outcome = made(seed)
+    text, outcome = made(seed)
+    check_run(checks, program, f"made program {seed}", text, outcome)
     ran = run(program, "pages", "--as", "text", data=script_text(outcome))
     stops = outcome.end.startswith(("?FILE", "?TOO MANY FILES", "?NOT INPUT FILE"))
     checks.expect(ran.status == int(stops), f"made program {seed}: status {ran.status}: {ran.error}")

@@ -385,7 +385,8 @@ static void put_setting(print1525_settings *s, size_t setting, uint64_t number) 
     case PRINT1525_SETTING_DELAYS: s->delays = number ? text : NULL; break;
     case PRINT1525_SETTING_NAMES: s->names = number ? text : NULL; break;
     case PRINT1525_SETTING_CHARACTERS: s->characters = text, s->characters_length = number ? 1 : 0; break;
-    default: s->reserved[number % 4] = number; break;
+    case PRINT1525_SETTING_STEPS: s->steps = number; break;
+    default: s->reserved[number % 3] = number; break;
     }
 }
 

@@ -163,7 +163,7 @@ static print1525_settings made_settings(size_t call, uint8_t *memories[4]) {
         if (below(3) == 0) made.names = below(2) ? "ATN,CLK,DATA" : made_text(memories[1], "ABC,,");
     }
     if (call != 0 && call != 3 && call != 7 && below(8) == 0) made.explain = 1;
-    if (bad == 1) made.reserved[below(4)] = drawn();
+    if (bad == 1) made.reserved[below(3)] = drawn();
     return made;
 }
 
@@ -539,7 +539,7 @@ static void try_picture(const print1525_mark *marks, size_t length, print1525_de
     if (made.as != PRINT1525_AS_PNG && length && marks[length - 1].y > 100000 && made.sheet == 0) made.sheet = 1;
     if (made.as == PRINT1525_AS_PNG) made.scale = (uint8_t)below(5), made.holes = (uint8_t)below(2);
     if (made.as == PRINT1525_AS_PNG && made.sheet == 0) made.scale = 1;
-    if (below(9) == 0) made.reserved[below(4)] = drawn();
+    if (below(9) == 0) made.reserved[below(3)] = drawn();
     one.wanted = other.wanted = below(2) ? 0 : 1 + below(3);
     other = one;
     refused_one = 0;

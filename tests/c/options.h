@@ -13,8 +13,8 @@ static uint8_t numbered(const char *const *names, const char *word) {
 
 /* Sets what an option says, all but --characters. Gives how many words it has, 0 where there is no such option. */
 static int set_option(print1525_settings *s, const char *name, const char *value) {
-    static const char *const as[] = {"", "list", "text", "frames", "story", "json", "vcd", "svg", "png", "pdf", "bytes", NULL};
-    static const char *const from[] = {"", "auto", "text", "prg", "petcat", "magazine", "vcd", "csv", NULL};
+    static const char *const as[] = {"", "list", "text", "frames", "story", "json", "vcd", "svg", "png", "pdf", "bytes", "script", NULL};
+    static const char *const from[] = {"", "auto", "text", "prg", "petcat", "magazine", "vcd", "csv", "basic", "bas", NULL};
     static const char *const present[] = {"both", "4", "5", "none", NULL}, *const status[] = {"each", "kept", NULL};
     static const char *const sets[] = {"upper", "lower", NULL}, *const paper[] = {"continuous", "a4", "letter", NULL};
     static const char *const bounds[] = {"profile", "guide", NULL}, *const listening[] = {"", "4", "5", "4,5", NULL};
@@ -39,6 +39,7 @@ static int set_option(print1525_settings *s, const char *name, const char *value
         else if (strcmp(name, "--sheet") == 0) s->sheet = strtoul(value, NULL, 10);
         else if (strcmp(name, "--from-time") == 0) s->from_time = strtoul(value, NULL, 10);
         else if (strcmp(name, "--rate") == 0) s->rate = strtoul(value, NULL, 10);
+        else if (strcmp(name, "--steps") == 0) s->steps = strtoul(value, NULL, 10);
         else if (strcmp(name, "--delays") == 0) s->delays = value;
         else if (strcmp(name, "--names") == 0) s->names = value;
         else return 0;

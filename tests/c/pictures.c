@@ -97,7 +97,7 @@ static int refusals(void) {
         s.rate = no_settings[n] == 19;
         s.delays = no_settings[n] == 20 ? "" : NULL;
         s.names = no_settings[n] == 21 ? "A,B,C" : NULL;
-        s.reserved[3] = no_settings[n] == 23;
+        s.reserved[2] = no_settings[n] == 23;
         REFUSES(make(marks, 4, &s, &to, again, 0, &details), BAD_SETTING, no_settings[n]);
     }
     memset(&s, 0, sizeof s);

@@ -54,7 +54,8 @@ LETTERS = "abcdefghijklmnopqrstuvwxyz"
 # Where hints are that the page says in words of its own.
 HINTS = [f"crates/pr_explain/src/{it}.rt" for it in ("faults", "scripts", "trace_text", "tables", "names", "preambles", "stops")]
 HINTS += ["crates/pr_cli/src/told.rt", "crates/pr_cli/src/notes.rt", "crates/pr_cli/src/strings.rt", "crates/pr_cli/src/order.rt",
-          "crates/pr_cli/src/still.rt", "crates/pr_report/src/oddities.rt", "crates/pr_options/src/command_line.rt"]
+          "crates/pr_cli/src/still.rt", "crates/pr_cli/src/programs.rt", "crates/pr_report/src/oddities.rt",
+          "crates/pr_options/src/command_line.rt"]
 # Options of other programs: of those in examples/, and of web/pack.mjs.
 OTHERS = {"--bytes", "--decode", "--receive", "--window", "--clean"}
 
@@ -167,7 +168,9 @@ def numbers(numbered):
     reads, counts = (text_of(f"crates/{it}.rt") for it in ("pr_options/src/option_values", "pr_exports/src/settings"))
     wrong = []
     for name, (reader, setting, values_in_order) in NUMBERED.items():
-        by_value = dict(re.findall(r'"(\w+)" => Some\((.*)\),', function(reads, reader)))
+        # (a listing is one of the things that a script is made of)
+        meanings = re.findall(r'"(\w+)" => Some\((.*)\),', function(reads, reader))
+        by_value = {value: re.sub(r"^Form::Listing\((.*)\)$", r"\1", meant) for value, meant in meanings}
         by_number = re.findall(r"(\d+) => Some\(([A-Z].*)\),", function(counts, name))
         given = [(int(number), meant) for number, meant in by_number]
         wanted = [(number, by_value.get(value)) for number, value in enumerate(values_in_order)]

@@ -3,109 +3,47 @@
 An address of the module is a pointer of the host, kept as a number of 64 bits: the module's memory is the program's. So nothing is
 copied, and a load or store of the module is one of the host. The parts of the result:
 
-- Each function of the module that an export reaches is a static function fN, with the module's locals a, b, .. and its blocks as labels.
+- Each function of the module that an export reaches is a static function, with the module's locals as variables and its blocks as labels.
   A value that the module leaves on its stack is an expression, written out where it is used: an assignment to what it reads, or a store
-  if it reads memory, first puts it into a variable tN.
+  if it reads memory, first puts it into a variable.
 - In the place of the module's stack each function has an array of its own, as large as the part of the stack that it takes: S is the address
   of its end, where the module's stack pointer is when the function begins. How far it is below that is known at each place of the code.
-- The module's data is a constant structure: bytes, and between them the addresses that the module's start function would write."""
+- The module's data is a constant structure: bytes, and between them the addresses that the module's start function would write.
 
-import math
+While it is made, a function is fN, a local vN, another variable tN and a label bN. At the end short.py puts statements together and gives
+short names. expressions.py says how values are written."""
+
 import re
-import struct
 from collections import Counter
-from dataclasses import dataclass, field
+from dataclasses import dataclass, field, replace
 
-C_TYPES = {"i32": "I", "i64": "L", "f64": "F"}
-SIGNED = {"i32": "int32_t", "i64": "int64_t"}
-# Names that no local may have: the keywords of C that begin with a letter.
-KEYWORDS = set("asm auto bool break case char const do double else enum extern far float for goto if int long main near new not or xor and".split())
-KEYWORDS |= set("register restrict return short signed sizeof static struct switch this try typedef union unix unsigned void volatile while".split())
+import short
+from expressions import BITS, C_TYPES, CHAINED, RANKS, SIGNED, Value, bound_of, constant, fraction, joined, met
+
 PLAIN = {"add": "+", "sub": "-", "mul": "*", "and": "&", "or": "|", "xor": "^", "div_u": "/", "rem_u": "%", "div": "/"}
 COMPARED = {"eq": "==", "ne": "!=", "lt": "<", "gt": ">", "le": "<=", "ge": ">="}
 SHIFTED = {"shl": "<<", "shr_u": ">>", "shr_s": ">>"}
-# What needs no parentheses: a sign and the one after it.
-CHAINED = {(it, it) for it in "&|^*"} | {(one, other) for one in "+-" for other in "+-"}
 UNARY = "eqz wrap_i64 extend_i32_u extend_i32_s clz ctz convert_i64_u reinterpret_i64 reinterpret_f64".split()
 CALLED = {"clz": "clz", "ctz": "ctz", "rotl": "rotl", "rotr": "rotr"}
-# The prelude's functions that read and write memory, by instruction.
-LOADS = {"i32.load": "l4", "i64.load": "l8", "i32.load8_u": "l1", "i64.load8_u": "l1", "i32.load16_u": "l2", "i64.load16_u": "l2"}
+# The prelude's functions that read and write memory, by instruction, and the greatest number that those of a few bytes read.
+LOADS = {"i32.load": "W", "i64.load": "Q", "i32.load8_u": "B", "i64.load8_u": "B", "i32.load16_u": "H", "i64.load16_u": "H"}
 LOADS |= {"f64.load": "lf"}
-LOADS |= {"i64.load32_u": "l4", "i32.load8_s": "l1s", "i64.load8_s": "l1s", "i32.load16_s": "l2s", "i64.load16_s": "l2s", "i64.load32_s": "l4s"}
-STORES = {"i32.store": "s4", "i64.store": "s8", "i32.store8": "s1", "i64.store8": "s1", "i32.store16": "s2", "i64.store16": "s2", "i64.store32": "s4"}
+LOADS |= {"i64.load32_u": "W", "i32.load8_s": "l1s", "i64.load8_s": "l1s", "i32.load16_s": "l2s", "i64.load16_s": "l2s", "i64.load32_s": "l4s"}
+LOADED = {"B": ("I", 255), "H": ("I", 65535), "W": ("I", None), "Q": ("L", None), "lf": ("F", None)}
+STORES = {"i32.store": "M", "i64.store": "N", "i32.store8": "A", "i64.store8": "A", "i32.store16": "E", "i64.store16": "E", "i64.store32": "M"}
 STORES |= {"f64.store": "sf"}
 MANY = {"memory.copy": "copy", "memory.fill": "fill"}
 # A function that takes as many bytes of the stack stays one of its own where the compiler can be told so.
 LARGE = 4096
 # The most columns of a line of the result, and the most bytes of a string, of which C99 promises 4,095.
-COLUMNS = 120
+COLUMNS = 1000
 LITERAL = 4000
+# How far apart addresses in the data may be that are in one part of it.
+NEAR = 32
 
 
 class Untranslated(Exception):
     """The module has something that this translation does not serve."""
-
-
-def name_of(number):
-    """The name of a local: a, b, .. z, aa, ab, .."""
-    text, number = "", number + 1
-    while number:
-        number, letter = divmod(number - 1, 26)
-        text = "abcdefghijklmnopqrstuvwxyz"[letter] + text
-    return f"{text}_" if text in KEYWORDS else text
-
-
-@dataclass(frozen=True)
-class Value:
-    """A value of the module as an expression of C.
-
-    `is_atom`: it needs no parentheses as an operand. `is_int`: C takes it as an int, of which it is a number or a truth value, and not
-    as an unsigned number of its type. `reads`: the variables that it reads, and "memory". `number`: a constant's. `below`: how far it is
-    below the stack pointer that its function was called with, where it is made of that. `sign`: the operator that is worked out last."""
-
-    text: str
-    type: str
-    is_atom: bool = True
-    is_int: bool = False
-    reads: frozenset = frozenset()
-    number: int = None
-    below: int = None
-    sign: str = ""
-
-    def operand(self):
-        return self.text if self.is_atom else f"({self.text})"
-
-    def condition(self):
-        """As a condition, of which only counts whether it is 0."""
-        return self.text[2:] if re.fullmatch(r"!!\w+(\([^()]*\))?", self.text) else self.text
-
-    def compared(self):
-        """As an operand of a comparison, beside which a sum needs no parentheses."""
-        return self.text if self.sign in ("+", "-", "*", "/", "%") else self.operand()
-
-    def before(self, sign):
-        """As the left operand of a sign that is worked out from left to right with its own."""
-        return self.text if (self.sign, sign) in CHAINED else self.operand()
-
-    def unsigned(self):
-        """As an unsigned number of its type."""
-        return f"({C_TYPES[self.type]}){self.operand()}" if self.is_int else self.operand()
-
-
-def constant(kind, number):
-    """A number: as C's int where that has it, which as an operand becomes the same number of 64 bits."""
-    bits = 32 if kind == "i32" else 64
-    number &= (1 << bits) - 1
-    signed = number - (1 << bits) if number >> (bits - 1) else number
-    if -(2**31) < signed < 2**31:
-        return Value(str(signed), kind, is_int=True, number=signed)
-    return Value(f"{number}u" if number < 2**32 else f"{number}ull", kind, number=number)
-
-
-def fraction(bits):
-    """A fraction of 64 bits: as C writes it, or by its bits where it is none or no finite number."""
-    number = struct.unpack("<d", bits.to_bytes(8, "little"))[0]
-    return Value(repr(number) if math.isfinite(number) else f"real({bits}ull)", "f64", number=number)
 
 
 class Again(Exception):
@@ -114,16 +52,16 @@ class Again(Exception):
 
 def assignment(variable, value):
     """The statement that gives a variable a value: shorter where that adds to it."""
-    front, sign, rest = value.text[: len(variable)], value.text[len(variable) : len(variable) + 1], value.text[len(variable) + 1 :]
-    if front == variable and sign in ("+", "-") and re.fullmatch(r"\w+", rest):
-        return f"{variable}{sign}{sign};" if rest == "1" else f"{variable}{sign}={rest};"
+    found = re.fullmatch(rf"{variable}([-+])(\w+)", value.text)
+    if found:
+        return f"{variable}{found[1]}{found[1]};" if found[2] == "1" else f"{variable}{found[1]}={found[2]};"
     return f"{variable}={value.text};"
 
 
 @dataclass
 class Block:
-    """A block that is being translated: where a branch to it goes, the variable of its result, the line of its label, and which
-    variables hold places in the stack where it begins and wherever its end is reached."""
+    """A block that is being translated: where a branch to it goes, the variable of its result, the line of its label, and what is known
+    where it begins and wherever its end is reached: which variables hold places in the stack, and which have a value."""
 
     kind: str
     label: str
@@ -131,7 +69,7 @@ class Block:
     type: str
     height: int
     line: int
-    places: dict
+    known: tuple
     ends: list = field(default_factory=list)
     is_branched_to: bool = False
 
@@ -162,6 +100,8 @@ class Translation:
         self.is_live, self.dead_depth = True, 0
         # The stack that the function takes, and how far below its beginning the stack pointer and the places are that variables hold.
         self.frame, self.places = 0, {"S": 0}
+        # The locals that have a value, and those that may be read before, when they are 0.
+        self.given, self.zeros = {f"v{at}" for at in range(self.count)}, set()
 
     # Variables, statements and the stack.
 
@@ -175,7 +115,8 @@ class Translation:
     def push(self, text, kind, *of, **how):
         """Pushes an expression that reads what these values read."""
         reads = frozenset().union(*(it.reads for it in of), how.pop("reads", ()))
-        self.stack.append(Value(text, kind, reads=reads, **how))
+        c = how.pop("c", C_TYPES[kind])
+        self.stack.append(Value(text, kind, c, reads=reads, **how))
 
     def pop(self):
         return self.stack.pop()
@@ -187,28 +128,31 @@ class Translation:
             if it.number is None and not is_own and (variable is None or variable in it.reads):
                 kept = self.temporary(it.type)
                 self.emit(f"{kept}={it.text};")
-                self.stack[at] = Value(kept, it.type)
+                self.stack[at] = Value(kept, it.type, C_TYPES[it.type])
 
     # Blocks and branches.
+
+    def known(self):
+        return dict(self.places), set(self.given)
 
     def begin_block(self, kind, result):
         condition = self.pop() if kind == "if" else None
         self.keep()
         self.labels += 1
         variable = self.temporary(result) if result else ""
-        label = f"{'M' if kind == 'loop' else 'B'}{self.labels}"
+        label = f"b{self.labels}"
         for it in self.unknown.get(label, ()):
             self.places.pop(it, None)
-        self.blocks.append(Block(kind, label, variable, result, len(self.stack), len(self.lines), dict(self.places)))
+        self.blocks.append(Block(kind, label, variable, result, len(self.stack), len(self.lines), self.known()))
         if kind == "loop":
-            self.emit(f"{label}:;")
+            self.emit(f"{label}:")
         elif condition:
             self.emit(f"if({condition.condition()}){{")
 
     def leave_block(self, block):
         """At the end of a block or of its first part: its value goes into the variable, where the end is reached."""
         if self.is_live:
-            block.ends.append(dict(self.places))
+            block.ends.append(self.known())
             if block.result:
                 self.emit(f"{block.result}={self.pop().text};")
         del self.stack[block.height :]
@@ -217,7 +161,8 @@ class Translation:
         block = self.blocks[-1]
         self.leave_block(block)
         self.emit("}else{")
-        block.kind, self.is_live, self.places = "else", True, dict(block.places)
+        block.kind, self.is_live = "else", True
+        self.places, self.given = dict(block.known[0]), set(block.known[1])
 
     def end_block(self):
         if not self.blocks:
@@ -227,14 +172,16 @@ class Translation:
         if block.kind in ("if", "else"):
             self.emit("}")
         if block.kind == "if":
-            block.ends.append(block.places)
+            block.ends.append(block.known)
         if block.is_branched_to and block.kind != "loop":
-            self.emit(f"{block.label}:;")
+            self.emit(f"{block.label}:")
         elif block.kind == "loop" and not block.is_branched_to:
             self.lines[block.line] = ""
         self.is_live, self.dead_depth = bool(block.ends), 0
         if self.is_live:
-            self.places = {it: place for it, place in block.ends[0].items() if all(end.get(it) == place for end in block.ends)}
+            places, given = block.ends[0]
+            self.places = {it: place for it, place in places.items() if all(end[0].get(it) == place for end in block.ends)}
+            self.given = given.intersection(*(it[1] for it in block.ends))
             if block.result:
                 self.push(block.result, block.type)
 
@@ -250,28 +197,30 @@ class Translation:
     def jump(self, depth):
         """The statement that leaves to a block, with its value, or returns."""
         if depth == len(self.blocks):
-            return f"return {self.stack[-1].text};" if self.results else "return;"
+            return f"R {self.stack[-1].text};" if self.results else "R;"
         block = self.blocks[-1 - depth]
         block.is_branched_to = True
         if block.kind == "loop":
             self.return_to(block)
         else:
-            block.ends.append(dict(self.places))
+            block.ends.append(self.known())
         has_value = block.result and block.kind != "loop"
-        return (f"{block.result}={self.stack[-1].text};" if has_value else "") + f"goto {block.label};"
+        return (f"{block.result}={self.stack[-1].text};" if has_value else "") + f"G {block.label};"
 
     def return_to(self, loop):
         """Notes which places are others at the head of a loop when it is entered again."""
-        others = {it for it, place in loop.places.items() if self.places.get(it) != place}
+        others = {it for it, place in loop.known[0].items() if self.places.get(it) != place}
         if others:
             self.unknown.setdefault(loop.label, set()).update(others)
             raise Again
 
     def branch_if(self, depth):
-        condition = self.pop()
+        condition = self.pop().condition()
         jump = self.jump(depth)
-        test = f"if({condition.condition()})"
-        self.emit(f"{test}{{{jump}}}" if jump.count(";") > 1 else test + jump)
+        if jump.startswith("G "):
+            self.emit(f"J({condition},{jump[2:-1]})")
+        else:
+            self.emit(f"if({condition}){{{jump}}}")
 
     def branch_table(self, depths):
         chosen = self.pop()
@@ -280,15 +229,11 @@ class Translation:
             by_jump.setdefault(self.jump(depth), []).append(at)
         default = self.jump(depths[-1])
         by_jump.pop(default, None)
-        cases = "".join("".join(f"case {it}:" for it in places) + jump for jump, places in by_jump.items())
-        self.emit(f"switch({chosen.text}){{{cases}default:{default}}}")
+        cases = "".join("".join(f"C {it}:" for it in places) + jump for jump, places in by_jump.items())
+        self.emit(f"switch({chosen.exact().text}){{{cases}Y:{default}}}")
 
     def stop_here(self):
         self.is_live, self.dead_depth = False, 0
-
-    def trap(self):
-        """What is never reached. (C99 has no word for a function that does not return.)"""
-        return "trap();return 0;" if self.results else "trap();return;"
 
     # Instructions.
 
@@ -315,7 +260,7 @@ class Translation:
             self.branch_table(*rest)
             self.stop_here()
         else:
-            self.emit(self.jump(len(self.blocks) if name == "return" else rest[0]) if name != "unreachable" else self.trap())
+            self.emit(self.jump(len(self.blocks) if name == "return" else rest[0]) if name != "unreachable" else "X;")
             self.stop_here()
 
     def translate_variable(self, name, number):
@@ -330,10 +275,12 @@ class Translation:
         elif name == "global.set":
             self.set_stack(self.pop())
         elif name == "local.get":
-            variable = name_of(number)
+            variable = f"v{number}"
+            if variable not in self.given:
+                self.zeros.add(variable)
             self.push(variable, self.kinds[number], reads=(variable,), below=self.places.get(variable))
         else:
-            self.set_local(name_of(number), self.pop())
+            self.set_local(f"v{number}", self.pop())
             if name == "local.tee":
                 self.translate_variable("local.get", number)
 
@@ -342,7 +289,7 @@ class Translation:
         below = self.places.get("S")
         if below is None:
             raise Untranslated(f"f{self.number} reads a stack pointer that is not known")
-        self.push(f"S-{below}" if below else "S", "i64", is_atom=not below, below=below)
+        self.push(f"S-{below}" if below else "S", "i64", sign="-" if below else "", below=below)
 
     def set_stack(self, value):
         """Lowers or raises the stack pointer. Only what is known of it changes."""
@@ -352,10 +299,12 @@ class Translation:
 
     def set_local(self, variable, value):
         self.places.pop(variable, None)
+        self.given.add(variable)
         if value.below is not None:
             self.places[variable] = value.below
-        is_last = self.lines and self.lines[-1].startswith(f"{value.text}=") and re.fullmatch(r"t\d+", value.text)
-        if is_last and not any(variable in it.reads for it in self.stack):
+        is_last = self.lines and re.fullmatch(r"t\d+", value.text) and self.lines[-1].startswith(f"{value.text}=")
+        is_like = is_last and self.temporaries[int(value.text[1:]) - 1] == self.kinds[int(variable[1:])]
+        if is_like and not any(variable in it.reads for it in self.stack):
             self.lines[-1] = variable + self.lines[-1][len(value.text) :]
             return
         self.keep(variable)
@@ -399,21 +348,28 @@ class Translation:
 
     def select(self):
         condition, right, left = self.pop(), self.pop(), self.pop()
-        test = condition.text if condition.sign in ("<", "!", "+", "-") else condition.operand()
-        self.push(f"{test}?{left.unsigned()}:{right.unsigned()}", left.type, condition, left, right, is_atom=False, sign="?")
+        test = condition.condition() if condition.is_truth() or condition.sign in ("cast", "") else f"({condition.condition()})"
+        left, right = met(left, right)
+        most = max(left.most, right.most) if None not in (left.most, right.most) else None
+        c = max(left.c, right.c, key=RANKS.index)
+        self.push(f"{test}?{left.text}:{right.text}", left.type, condition, left, right, sign="?", c=c, most=most)
 
     @staticmethod
     def address(value, offset):
         """The address of a load or a store. A sum needs no parentheses before another number is added."""
-        is_sum = re.fullmatch(r"\w+(\+\w+)*", value.text)
-        return value.text if not offset else f"{value.text if is_sum else value.operand()}+{offset}"
+        if not offset:
+            return value.text
+        value = value if value.c == "L" else value.as_c("L")
+        found = re.fullmatch(r"(\w+)([-+]\d+)", value.text)
+        if found:
+            offset += int(found[2])
+            return found[1] + (f"{offset:+}" if offset else "")
+        return f"{value.within('+')}+{offset}"
 
     def load(self, name, kind, offset):
-        place = self.pop()
-        text = f"{LOADS[name]}({self.address(place, offset)})"
-        if kind == "i64" and LOADS[name] != "l8":
-            text = f"(L)(int32_t){text}" if LOADS[name].endswith("s") else f"(L){text}"
-        self.push(text, kind, place, reads=("memory",))
+        place, called = self.pop(), LOADS[name]
+        c, most = LOADED.get(called, ("int", None))
+        self.push(f"{called}({self.address(place, offset)})", kind, place, reads=("memory",), c=c, most=most)
 
     def store(self, name, offset):
         value, place = self.pop(), self.pop()
@@ -422,19 +378,22 @@ class Translation:
 
     def unary(self, kind, what, value):
         if what == "eqz":
-            self.push(f"!{value.text if value.sign == '!' else value.operand()}", "i32", value, is_atom=False, is_int=True, sign="!")
+            value = value if value.c == "int" else value.exact()
+            self.push(f"!{value.within('cast')}", "i32", value, sign="!", c="int", most=1)
         elif what == "extend_i32_u":
-            self.push(f"(L){value.unsigned() if value.number is not None else value.operand()}", "i64", value)
+            self.stack.append(replace(value.exact(), type="i64", below=None))
         elif what == "extend_i32_s":
-            self.push(f"(L)(int32_t){value.operand()}", "i64", value)
+            self.stack.append(replace(value if value.c == "int" else value.signed("T"), type="i64"))
         elif what == "wrap_i64":
-            self.push(f"(I){value.operand()}", "i32", value)
+            # (An "int" of 32 bits is no more than its type has.)
+            value = value if value.c != "int" or value.is_small() else value.as_c("I")
+            self.stack.append(replace(value, type="i32", below=None, shifted=None))
         elif what == "convert_i64_u":
             self.push(f"whole({value.text})", kind, value)
         elif what.startswith("reinterpret"):
             self.push(f"{'bits' if kind == 'i64' else 'real'}({value.text})", kind, value)
         else:
-            self.push(f"{CALLED[what]}{4 if kind == 'i32' else 8}({value.text})", kind, value)
+            self.push(f"{CALLED[what]}{4 if kind == 'i32' else 8}({value.text})", kind, value, most=BITS[kind])
 
     def binary(self, kind, what, left, right):
         stem, _, sign = what.partition("_")
@@ -444,47 +403,93 @@ class Translation:
             self.shift(kind, what, left, right)
         elif what in CALLED:
             self.push(f"{CALLED[what]}{4 if kind == 'i32' else 8}({left.text},{right.text})", kind, left, right)
-        elif kind == "f64" and what == "mul":
-            self.push(f"mul({left.text},{right.text})", kind, left, right)
+        elif kind == "f64":
+            text = f"mul({left.text},{right.text})" if what == "mul" else f"{left.within(PLAIN[what])}{PLAIN[what]}{right.within(PLAIN[what])}"
+            self.push(text, kind, left, right, sign="" if what == "mul" else PLAIN[what])
+        elif what in ("div_u", "rem_u"):
+            self.divide(kind, PLAIN[what], left.exact(), right.exact())
         elif what in PLAIN:
             self.arithmetic(kind, what, left, right)
         else:
             raise Untranslated(f"the instruction {kind}.{what}")
 
     def compare(self, kind, sign, is_signed, left, right):
+        level = "==" if sign in ("==", "!=") else "<"
         if is_signed:
-            text = sign.join(it.text if it.number is not None and it.is_int else f"({SIGNED[kind]}){it.operand()}" for it in (left, right))
-        else:
-            text = f"{left.unsigned() if left.is_int and right.is_int else left.compared()}{sign}{right.compared()}"
-        self.push(text, "i32", left, right, is_atom=False, is_int=True, sign="<")
+            left, right = (it if it.c == "int" else it.signed(SIGNED[kind]) for it in (left, right))
+        elif kind != "f64" and not (level == "==" and left.c == right.c == "int"):
+            left, right = (it if it.c == "int" and other.c == C_TYPES[kind] else it.exact() for it, other in ((left, right), (right, left)))
+        self.push(f"{left.within(level)}{sign}{right.within(level)}", "i32", left, right, c="int", sign=level, most=1)
 
     def shift(self, kind, what, left, right):
-        most = 31 if kind == "i32" else 63
-        count = f"({right.operand()}&{most})" if right.number is None else str(right.number & most)
-        if what == "shr_s":
-            self.push(f"({C_TYPES[kind]})(({SIGNED[kind]}){left.operand()}>>{count})", kind, left, right)
+        last = BITS[kind] - 1
+        if right.number is not None:
+            count, furthest = str(right.number & last), right.number & last
         else:
-            self.push(f"{left.unsigned()}{SHIFTED[what]}{count}", kind, left, right, is_atom=False)
+            is_small = right.bound() is not None and right.bound() <= last
+            count, furthest = right.within("<<") if is_small else f"({right.within('&')}&{last})", last
+        if what == "shr_s":
+            self.shift_signed(kind, left, right, count)
+            return
+        value, most = left, None
+        if what == "shl":
+            most = left.bound() << furthest if left.is_exact() else None
+            # (What is above the lowest bits is of no account. An I may stay one where no bit of 64 is lost.)
+            is_wide = left.c == C_TYPES[kind] or (left.c == "L" and kind == "i32") or (left.c == "I" and most is not None and most < 2**32 and furthest < 32)
+        else:
+            left = left.exact()
+            most = left.bound() >> (furthest if right.number is not None else 0)
+            is_wide = left.c in ("I", "L") and furthest < BITS["i64" if left.c == "L" else "i32"]
+        left = left if is_wide else left.as_c(C_TYPES[kind])
+        most = most if most is not None and most < 2 ** (32 if left.c == "I" else 64) else None
+        shifted = (value, right.number) if what == "shl" and right.number is not None else None
+        sign = SHIFTED[what]
+        self.push(f"{left.within(sign)}{sign}{count}", kind, left, right, sign=sign, c=left.c, most=most, shifted=shifted)
+
+    def shift_signed(self, kind, left, right, count):
+        """Shifts a number with a sign to the right: or takes its lowest bits, where it was shifted to the left as far before."""
+        name = {8: "int8_t", 16: "int16_t", 32: "T"}.get(BITS[kind] - right.number) if left.shifted and left.shifted[1] == right.number else None
+        if name:
+            self.stack.append(left.shifted[0].signed(name))
+            return
+        # (What has a sign in C may have only 32 bits there.)
+        left = left if left.c == "int" and kind == "i32" else left.signed(SIGNED[kind])
+        self.push(f"{left.within('>>')}>>{count}", kind, left, right, sign=">>", c="int")
+
+    def divide(self, kind, sign, left, right):
+        if left.c != C_TYPES[kind] and right.c != C_TYPES[kind] and not (left.c == "I" and right.bound() < 2**31):
+            left = left.as_c(C_TYPES[kind])
+        c = max(left.c, right.c, key=RANKS.index)
+        most = left.bound() if sign == "/" else right.bound()
+        self.push(f"{left.within(sign)}{sign}{right.within(sign)}", kind, left, right, sign=sign, c=c, most=most)
 
     def arithmetic(self, kind, what, left, right):
-        if kind != "f64" and what in ("add", "sub") and right.number is not None and right.number < 0:
+        if what in ("add", "sub") and right.number is not None and right.number < 0:
             what, right = "sub" if what == "add" else "add", constant(kind, -right.number)
         below = None
         if left.below is not None and right.number is not None and what in ("add", "sub"):
             below = left.below + (right.number if what == "sub" else -right.number)
             # (A function that calls none may use 128 bytes below the stack pointer without lowering it.)
             self.frame = max(self.frame, below)
-        sign = PLAIN[what]
-        is_whole = left.is_int and (right.is_int or what in ("div_u", "rem_u"))
-        first = left.unsigned() if is_whole else left.before(sign)
-        second = right.unsigned() if right.is_int and what in ("div_u", "rem_u") else right.operand()
-        self.push(f"{first}{sign}{second}", kind, left, right, is_atom=False, below=below, sign=sign)
+        most = bound_of(what, left, right)
+        left, right, c = joined(kind, what, left, right, most)
+        how = {"c": c, "below": below, "most": most if most is not None and most < {"int": 2**31, "I": 2**32, "L": 2**64}[c] else None}
+        sign = PLAIN[what] * (2 if what in ("and", "or") and left.is_truth() and right.is_truth() else 1)
+        # (A number may be added to the one that the sum before it ends with.)
+        found = re.fullmatch(r"(.*[\w)])([-+]\d+)", left.text) if left.sign and left.sign in "+-" and sign in "+-" else None
+        if found and c == left.c == "L" and right.number is not None and right.text.isdigit():
+            number = int(found[2]) + (right.number if sign == "+" else -right.number)
+            self.push(found[1] + f"{number:+}" * bool(number), kind, left, right, sign=left.sign if number else "+", **how)
+            return
+        first = left.text if (left.sign, sign) in CHAINED else left.within(sign)
+        is_chained = (sign, right.sign) in CHAINED and sign != "-" and left.c == right.c == c and (c != "int" or right.is_truth())
+        self.push(f"{first}{sign}{right.text if is_chained else right.within(sign)}", kind, left, right, sign=sign, **how)
 
     # The function as a whole.
 
     def finish(self):
         if self.is_live and self.results and self.stack:
-            self.emit(f"return {self.stack[-1].text};")
+            self.emit(f"R {self.stack[-1].text};")
         while self.drop_unused():
             pass
 
@@ -502,29 +507,32 @@ class Translation:
         return False
 
     def head(self):
-        words = [f"{C_TYPES[kind]} {name_of(at)}" for at, kind in enumerate(self.kinds[: self.count])]
+        words = [f"{C_TYPES[kind]} v{at}" for at, kind in enumerate(self.kinds[: self.count])]
         apart = "APART " * (self.frame >= LARGE)
-        return f"{apart}static {C_TYPES[self.results[0]] if self.results else 'void'} f{self.number}({','.join(words) or 'void'})"
+        return f"{apart}{C_TYPES[self.results[0]] if self.results else 'V'}F f{self.number}({','.join(words) or 'void'})"
 
     def declared(self):
-        """The locals that are used, which begin at 0, and the variables that hold values."""
-        used = set(re.findall(r"[A-Za-z_][a-z_0-9]*", "".join(self.lines)))
-        text = f"STACK({(self.frame + 7) // 8});" if "S" in used else ""
+        """The locals that are used, of which some begin at 0, and the variables that hold values."""
+        used = set(re.findall(r"[A-Za-z_][A-Za-z_0-9]*", "".join(self.lines)))
+        text = f"SK({(self.frame + 7) // 8})" if "S" in used else ""
         for kind in C_TYPES:
-            names = [f"{name_of(at)}=0" for at, it in enumerate(self.kinds) if at >= self.count and it == kind and name_of(at) in used]
+            names = [f"v{at}" for at, it in enumerate(self.kinds) if at >= self.count and it == kind and f"v{at}" in used]
+            names = [f"{it}=0" if it in self.zeros else it for it in names]
             names += [f"t{at}" for at, it in enumerate(self.temporaries, 1) if it == kind and f"t{at}" in used]
             text += f"{C_TYPES[kind]} {','.join(names)};" if names else ""
         return text
 
-    def text(self):
-        return f"{self.head()}{{\n" + "\n".join(folded([self.declared(), *self.lines])) + "}"
+    def text(self, literals):
+        """The function's lines."""
+        self.lines = short.shorter([it for it in self.lines if it], literals)
+        return [self.head() + "{", self.declared(), *self.lines, "}"]
 
 
 def folded(parts):
-    """Parts of a text as lines. Compilers take a statement in the same line for one that an `if` at the line's front should guard."""
+    """Parts of a text as lines."""
     line = ""
     for it in parts:
-        if line and (len(line) + len(it) > COLUMNS or (line.startswith("if(") and not line.endswith("{"))):
+        if line and len(line) + len(it) > COLUMNS:
             yield line
             line = ""
         line += it
@@ -548,6 +556,27 @@ def reached(module):
     return found
 
 
+def called_first(module):
+    """The functions that exports reach, each after those that it calls where that can be, and those that are called before they come."""
+    order, early, entered = [], set(), set()
+
+    def enter(number):
+        entered.add(number)
+        for it in sorted(calls_of(module.functions[number])):
+            if module.functions[it].imported:
+                continue
+            if it not in entered:
+                enter(it)
+            elif it not in order:
+                early.add(it)
+        order.append(number)
+
+    for it in sorted(reached(module)):
+        if it not in entered:
+            enter(it)
+    return order, early
+
+
 class Data:
     """The module's data, with the addresses in it that its start function writes."""
 
@@ -557,6 +586,8 @@ class Data:
             self.run(module.start)
         if module.alignment > 8 or any(it % 8 for it in self.addresses):
             raise Untranslated(f"data that has to be aligned to {module.alignment} bytes")
+        # The data before its first address, and what the translation adds behind all.
+        self.front, self.more = module.data[: min(self.addresses, default=None)], b""
 
     def run(self, number):
         """Runs a function that only stores addresses of the data in the data: places as (whether one of the data, offset)."""
@@ -583,20 +614,50 @@ class Data:
             elif name != "end":
                 raise Untranslated(f"the start function has {name}")
 
+    def __contains__(self, data):
+        """Whether bytes are in the data already."""
+        return data in self.front or data in self.more
+
+    def place(self, data):
+        """Where bytes are in the data, to which they are added unless they are there."""
+        if data in self.front:
+            return self.front.index(data)
+        if data not in self.more:
+            self.more += data
+        return len(self.module.data) + self.more.index(data)
+
+    def groups(self):
+        """The parts of the data with addresses, where each begins and ends: of words of 8 bytes, most of them addresses."""
+        found = []
+        for place in sorted(self.addresses):
+            if found and place - found[-1][1] <= NEAR:
+                found[-1][1] = place + 8
+            else:
+                found.append([place, place + 8])
+        return found
+
+    def words(self, begin, end):
+        """The values of such a part: addresses and numbers."""
+        for at in range(begin, end, 8):
+            number = int.from_bytes(self.module.data[at : at + 8], "little")
+            yield f"P({self.addresses[at]})," if at in self.addresses else f"N({short.whole_number(number, 8)}),"
+
     def text(self):
         fields, values, at = [], [], 0
-        for place in [*sorted(self.addresses), len(self.module.data)]:
-            for begin in range(at, place, LITERAL):
-                end = min(begin + LITERAL, place)
-                fields.append(f"unsigned char d{begin}[{end - begin}];")
-                values += shorter_of(self.module.data[begin:end])
-            if place in self.addresses:
-                fields.append(f"const void *d{place};")
-                values.append(f"P({self.addresses[place]}),")
-            at = place + 8
+        whole = self.module.data + self.more
+        for begin, end in [*self.groups(), (len(whole),) * 2]:
+            for place in range(at, begin, LITERAL):
+                stop = min(place + LITERAL, begin)
+                fields.append(f"unsigned char d{place}[{stop - place}];")
+                values += shorter_of(whole[place:stop])
+            if begin < end:
+                fields.append(f"const void *d{begin}[{(end - begin) // 8}];")
+                values += ["{", *self.words(begin, end), "},"]
+            at = end
         lines = ["struct data {", *folded(["uint64_t aligned;", *fields]), "};", "static const struct data data;"]
-        lines += ["#define P(n) ((const char *)&data+8+n)", "static const struct data data={0,", *folded(values), "};"]
-        return "\n".join([*lines, "#define D ((L)(uintptr_t)&data+8)"])
+        lines += ["#define P(n) (const char *)&data+8+n", "#define N(n) (const char *)n"]
+        lines += ["static const struct data data={0,", *folded(values), "};"]
+        return "\n".join([*lines, "#undef N", "#define D ((L)(uintptr_t)&data+8)"])
 
 
 def shorter_of(data):
@@ -622,13 +683,17 @@ class Source:
 
     def __init__(self, module):
         self.module = module
-        numbers = reached(module)
-        self.functions = {it: Translation(module, it) for it in sorted(numbers)}
+        self.data = Data(module)
+        order, early = called_first(module)
+        functions = [Translation(module, it) for it in order]
+        # (Most functions come after those that they call. The others are declared.)
+        texts = [*([it.head() + ";"] for it in functions if it.number in early), *(it.text(self.data) for it in functions)]
+        self.names = short.names_of_functions(texts)
+        self.texts = [short.with_names("\n".join(folded(short.shortened(it))), self.names) for it in texts]
 
     def call(self, name, words):
         """The statement of an export."""
-        return f"f{self.module.exports[name]}({','.join(words)});"
+        return f"{self.names[self.module.exports[name]]}({','.join(words)});"
 
     def text(self):
-        functions = self.functions.values()
-        return "\n".join([Data(self.module).text(), *(f"{it.head()};" for it in functions), *(it.text() for it in functions)])
+        return "\n".join([self.data.text(), *self.texts])

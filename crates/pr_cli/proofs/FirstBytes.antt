@@ -1,10 +1,13 @@
 -- The first bytes of an input, and all of it.
-use Rattle.std.proofs.Common.{◌≡◌, ◌≤◌, ◌-◌, refl, ℕ, List, ◌++◌, length, take, ap, sym, ◌∙◌, arith, Option, Some, None, IfSome, append-nil}
+use Rattle.std.proofs.Common.{◌≡◌, ◌≤◌, ◌-◌, refl, ℕ, List, ◌++◌, length, take, ap, subst, sym, ◌∙◌, arith, Option, Some, None, IfSome, append-nil, inl}
+use Rattle.std.specs.Prelude.{Result, Ok, Vec}
+use Rattle.std.specs.Global.{Global}
 use Rattle.std.proofs.lemmas.List.{take_all, take-append-le}
 use Rattle.std.specs.Io.KnownBytes.{Consumes, IsAtEnd}
 use Rattle.std.specs.Fmt.{option_append}
 use Rattle.pr_options.specs.declared.command_line.Job.{Job}
-use Rattle.pr_cli.specs.Jobs.{first_bytes, found_job, restarted_job, started_job, zero_of_job}
+use Rattle.pr_cli.specs.Jobs.{EndsWhole, IsReadWhole, first_bytes, found_job, restarted_job, started_job, zero_of_job}
+use Rattle.pr_cli.specs.declared.statuses.End.{End}
 
 -- at the end of the input the bytes so far are its first bytes
 pub all_first : (limit : ℕ) (a b c : Option (List ℕ)) (first f : List ℕ) (n : ℕ) → n ≡ 0 → Consumes a b first → Consumes b c (take n f) → IsAtEnd c
@@ -52,3 +55,12 @@ work_found None b first before job found started taken front is starts = tt
 work_found (Some xs) None first before job found started taken front is starts = absurd taken
 work_found (Some xs) (Some ys) first before job found started taken front is starts =
     starts ∙ (ap (λ l. started_job before l found) (sym taken) ∙ ap (started_job before xs) (is ∙ ap (λ f. found_job f job) front))
+
+-- a job ends by all bytes that were read
+pub read_whole : (a : Option (List ℕ)) (r : Result (Vec ℕ Global) End) (read : Vec ℕ Global) (whole : List ℕ)
+    (Ends : List ℕ → Type 0) (old new : Option (List ℕ)) (end : End) → IfSome a (λ bytes. IsReadWhole bytes r)
+    → r ≡ Ok read → whole ≡ read.items → Ends whole → IfSome a (λ bytes. EndsWhole Ends bytes old new end)
+read_whole None r read whole Ends old new end h is same ends = tt
+read_whole (Some bytes) r read whole Ends old new end h is same ends =
+    let k : IsReadWhole bytes (Ok read) = subst (IsReadWhole bytes) is h in
+    inl (k.1, subst Ends (same ∙ k.0) ends)

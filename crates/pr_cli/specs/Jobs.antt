@@ -1,7 +1,8 @@
 -- Trusted: what the program answers for each job, what it leaves in the reader and in the writer,
 -- and how it ends. The answer uses the printers present, the delays, the mode, the input, the character set
 -- and the output of the job, and the shapes of characters that it is given.
-use Rattle.std.specs.Prelude.{◌≡◌, ◌⊎◌, ◌≤◌, ◌-◌, ℕ, Bool, true, false, List, length, Option, Some, None, take, Result, Ok, Err, if◌then◌else◌}
+use Rattle.std.specs.Prelude.{◌≡◌, ◌⊎◌, ◌<◌, ◌≤◌, ◌-◌, ℕ, Bool, true, false, List, length, Option, Some, None, take, Result, Ok, Err, Vec, if◌then◌else◌}
+use Rattle.std.specs.Global.{Global}
 use Rattle.pr_capture.specs.declared.format.InputFormat.{InputFormat}
 use Rattle.pr_capture.specs.declared.format.InputFormat.TheVariants as source
 use Rattle.pr_capture.specs.declared.format.OutputFormat.{OutputFormat}
@@ -18,9 +19,17 @@ use Rattle.pr_listing.specs.declared.form.ListingForm.TheVariants.{Text}
 use Rattle.pr_listing.specs.declared.input.TextFault.{TextFault}
 use Rattle.pr_listing.specs.Forms.{HasText}
 use Rattle.pr_listing.specs.Inputs.{IsTextFault}
+use Rattle.pr_programs.specs.declared.fault.BasicFault.{BasicFault}
+use Rattle.pr_programs.specs.declared.fault.BasicFault.TheVariants as basic
+use Rattle.pr_programs.specs.declared.form.Form.{Form}
+use Rattle.pr_programs.specs.declared.form.Form.TheVariants as form
+use Rattle.pr_programs.specs.declared.made.Made.{Made}
+use Rattle.pr_programs.specs.Forms.{IsRun}
+use Rattle.pr_programs.specs.Made.{made}
+use Rattle.pr_programs.specs.Saved.{IsTextOf, IsUnsaved}
 use Rattle.pr_serial.specs.declared.Present.{Present}
 use Rattle.pr_options.specs.declared.command_line.Job.{Job}
-use Rattle.pr_options.specs.declared.command_line.Job.TheVariants.{Pages, Bus, Check, Decode, Raw}
+use Rattle.pr_options.specs.declared.command_line.Job.TheVariants.{Pages, Bus, Script, Check, Decode, Raw}
 use Rattle.pr_options.specs.declared.outputs.CheckOutput.{CheckOutput}
 use Rattle.pr_options.specs.declared.outputs.CheckOutput.TheVariants as checked
 use Rattle.pr_options.specs.declared.outputs.DecodeOutput.{DecodeOutput}
@@ -30,6 +39,7 @@ use Rattle.pr_options.specs.declared.outputs.PagesOutput.{PagesOutput}
 use Rattle.pr_options.specs.declared.outputs.PagesOutput.TheVariants as output
 use Rattle.pr_capture.specs.Found.{found_format}
 use Rattle.pr_jobs.specs.declared.fault.CliFault.{CliFault}
+use Rattle.pr_jobs.specs.declared.fault.CliFault.TheVariants.{NoMemory, ReadFailed, TooLarge}
 use Rattle.pr_jobs.specs.declared.run.Ending.{Ending}
 use Rattle.pr_jobs.specs.declared.run.Ending.TheVariants.{Done}
 use Rattle.pr_jobs.specs.declared.run.PagesEnd.{PagesEnd}
@@ -43,6 +53,7 @@ use Rattle.pr_jobs.specs.Check.{AnswersCheck, trace_limit}
 use Rattle.pr_jobs.specs.Report.{AnswersReport, IsReportFault, WritesNoReport}
 use Rattle.pr_jobs.specs.Report as check
 use Rattle.pr_jobs.specs.Raw.{AnswersRaw, IsRawFault}
+use Rattle.pr_cli.specs.Script.{AnswersScript}
 use Rattle.pr_recording.specs.declared.byte_log.Heard.{Heard}
 use Rattle.pr_recording.specs.declared.bytes.Overheard.{Overheard}
 use Rattle.pr_recording.specs.declared.listening.Listening.{Listening}
@@ -57,9 +68,9 @@ use Rattle.pr_recording.specs.RunBytes.{AnswersRunBytes}
 use Rattle.pr_cli.specs.declared.jobs.JobEnd.{JobEnd}
 use Rattle.pr_cli.specs.declared.jobs.JobEnd.TheVariants as answer
 use Rattle.pr_cli.specs.Starts.{own_zero}
-use Rattle.pr_cli.specs.Statuses.{job_end, status_of}
+use Rattle.pr_cli.specs.Statuses.{ended_after, job_end, status_of}
 use Rattle.pr_cli.specs.declared.statuses.End.{End}
-use Rattle.pr_cli.specs.declared.statuses.End.TheVariants.{Listing}
+use Rattle.pr_cli.specs.declared.statuses.End.TheVariants.{Basic, Job as Failed, Listing}
 
 -- an input in the format that the first bytes show
 abbrev pub found_input : (first : List ℕ) → TraceInput → TraceInput
@@ -218,6 +229,7 @@ AnswersJob located shapes (Pages form present delays mode output) text old new r
     AnswersRun located shapes (start_of present delays mode) output text old new result
 AnswersJob located shapes (Bus form present delays mode f) text old new result =
     AnswersTraced located (start_of present delays mode) f text old new result
+AnswersJob located shapes (Script form) text old new result = IsDone (AnswersScript text old new) result
 AnswersJob located shapes (Check is_found input output) text old new result =
     IsDone (AnswersTrace input output text old new) result
 AnswersJob located shapes (Decode is_found input output) text old new result =
@@ -256,10 +268,11 @@ EndsJob located shapes job text old new end =
     (answer : Result JobEnd CliFault) × AnswersJob located shapes job text old new answer × (end ≡ job_end (strict_of job) answer)
 
 -- the form of the listing that a job reads; an input that is no listing is read as it is
-abbrev pub form_of : Job → ListingForm
+abbrev pub form_of : Job → Form
 form_of (Pages form present delays mode output) = form
 form_of (Bus form present delays mode f) = form
-form_of _ = Text
+form_of (Script form) = form
+form_of _ = form.Listing Text
 
 -- whether a job has to find the format of its recording
 abbrev pub finds_format : Job → Bool
@@ -273,10 +286,60 @@ EndsListing located shapes job form bytes old new end =
     ((text : List ℕ) × (length bytes ≤ script_limit) × HasText form bytes text × EndsJob located shapes job text old new end)
     ⊎ ((fault : TextFault) × IsTextFault form script_limit bytes fault × (new ≡ old) × (end ≡ Listing fault))
 
+-- how it ends a job that runs the program of a text for so many steps at most: by the script that comes of it and how
+-- the program's run ended; or no script comes of it, and nothing is written
+abbrev pub EndsRun : (located : Bool) → Shapes → Job → (steps : ℕ) → List ℕ → Option (List ℕ) → Option (List ℕ) → End
+    → Type 0
+EndsRun located shapes job steps text old new end =
+    ((found : Made) × (ended : End) × (made steps text ≡ Ok found)
+    × EndsJob located shapes job found.text old new ended × (end ≡ ended_after found.ran ended))
+    ⊎ ((fault : BasicFault) × ((fault ≡ basic.NoMemory) ⊎ (made steps text ≡ Err fault)) × (new ≡ old)
+    × (end ≡ Basic fault))
+
+-- the same of bytes that may be a saved program
+abbrev pub EndsProgram : (located : Bool) → Shapes → Job → (steps : ℕ) → List ℕ → Option (List ℕ) → Option (List ℕ)
+    → End → Type 0
+EndsProgram located shapes job steps bytes old new end =
+    ((text : List ℕ) × IsTextOf bytes text × EndsRun located shapes job steps text old new end)
+    ⊎ ((fault : BasicFault) × ((fault ≡ basic.NoMemory) ⊎ IsUnsaved bytes fault) × (new ≡ old) × (end ≡ Basic fault))
+
+-- how it ends a job on a text that is run as a program only if it is no script, and reads as one; or memory was refused
+abbrev pub EndsEither : (located : Bool) → Shapes → Job → (steps : ℕ) → List ℕ → Option (List ℕ) → Option (List ℕ) → End
+    → Type 0
+EndsEither located shapes job steps bytes old new end =
+    (IsRun bytes × EndsProgram located shapes job steps bytes old new end)
+    ⊎ ((IsRun bytes → ⊥) × EndsJob located shapes job bytes old new end)
+    ⊎ ((new ≡ old) × (end ≡ Failed NoMemory))
+
+-- the input is not read: it has too many bytes, a read failed, or memory was refused
+abbrev pub IsNotRead : List ℕ → CliFault → Type 0
+IsNotRead bytes TooLarge = script_limit < length bytes
+IsNotRead bytes NoMemory = Unit {0}
+IsNotRead bytes ReadFailed = Unit {0}
+IsNotRead bytes _ = ⊥
+
+-- an input is read whole, or how the program ends where it is not
+abbrev pub IsReadWhole : List ℕ → Result (Vec ℕ Global) End → Type 0
+IsReadWhole bytes (Ok read) = (read.items ≡ bytes) × (length bytes ≤ script_limit)
+IsReadWhole bytes (Err end) = (fault : CliFault) × IsNotRead bytes fault × (end ≡ Failed fault)
+
+-- how it ends a job on bytes that are read whole first, as this says
+abbrev pub EndsWhole : (List ℕ → Type 0) → List ℕ → Option (List ℕ) → Option (List ℕ) → End → Type 0
+EndsWhole Ends bytes old new end =
+    ((length bytes ≤ script_limit) × Ends bytes)
+    ⊎ ((fault : CliFault) × IsNotRead bytes fault × (new ≡ old) × (end ≡ Failed fault))
+
 -- how it ends a job on an input's bytes: by the bytes themselves where the form is a script's text, else as a listing
-abbrev pub EndsInput : (located : Bool) → Shapes → Job → ListingForm → List ℕ → Option (List ℕ) → Option (List ℕ) → End → Type 0
-EndsInput located shapes job Text bytes old new end = EndsJob located shapes job bytes old new end
-EndsInput located shapes job form bytes old new end = EndsListing located shapes job form bytes old new end
+-- or a program
+abbrev pub EndsInput : (located : Bool) → Shapes → Job → Form → List ℕ → Option (List ℕ) → Option (List ℕ) → End
+    → Type 0
+EndsInput located shapes job (form.Listing Text) bytes old new end = EndsJob located shapes job bytes old new end
+EndsInput located shapes job (form.Listing listing) bytes old new end =
+    EndsListing located shapes job listing bytes old new end
+EndsInput located shapes job (form.Program steps) bytes old new end =
+    EndsWhole (λ whole. EndsProgram located shapes job steps whole old new end) bytes old new end
+EndsInput located shapes job (form.Either steps) bytes old new end =
+    EndsWhole (λ whole. EndsEither located shapes job steps whole old new end) bytes old new end
 
 -- how many bytes of a recording show its format, at most
 abbrev pub first_bytes : ℕ
@@ -326,6 +389,7 @@ IsRecordingFault _ fault = IsDecodeFault fault
 abbrev pub IsJobFault : Job → CliFault → Type 0
 IsJobFault (Pages form present delays mode output) fault = IsPrintFault output fault
 IsJobFault (Bus form present delays mode f) fault = IsRunFault fault
+IsJobFault (Script form) fault = IsRunFault fault
 IsJobFault (Check is_found input output) fault = IsReportFault fault
 IsJobFault (Decode is_found input output) fault = IsRecordingFault output fault
 IsJobFault (Raw lower f) fault = IsRawFault fault
@@ -346,6 +410,7 @@ ReadsTrace checked.Json left result = check.ReadsAll report.Story left result
 abbrev pub ReadsInput : Job → Option (List ℕ) → Result JobEnd CliFault → Type 0
 ReadsInput (Pages form present delays mode output) left result = ReadsToEnd left result
 ReadsInput (Bus form present delays mode f) left result = ReadsToEnd left result
+ReadsInput (Script form) left result = ReadsToEnd left result
 ReadsInput (Check is_found input output) left result = IsDone (ReadsTrace output left) result
 ReadsInput (Decode is_found input output) left result = ReadsRecording output left result
 ReadsInput (Raw lower f) left result = ReadsToEnd left result
@@ -363,6 +428,7 @@ KeepsRun located old new result = IsRan located (WritesNoEdge old new) (WritesNo
 abbrev pub KeepsOutput : (located : Bool) → Job → Option (List ℕ) → Option (List ℕ) → Result JobEnd CliFault → Type 0
 KeepsOutput located (Pages form present delays mode output) old new result = WritesNothing old new result
 KeepsOutput located (Bus form present delays mode f) old new result = KeepsRun located old new result
+KeepsOutput located (Script form) old new result = WritesNothing old new result
 KeepsOutput located (Check is_found input output) old new result = IsDone (KeepsTrace output old new) result
 KeepsOutput located (Decode is_found input output) old new result = Unit {0}
 KeepsOutput located (Raw lower f) old new result = WritesNothing old new result

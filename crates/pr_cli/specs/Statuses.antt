@@ -7,6 +7,10 @@ use Rattle.pr_listing.specs.declared.input.TextFault.{TextFault}
 use Rattle.pr_listing.specs.declared.input.TextFault.TheVariants as listing
 use Rattle.pr_options.specs.declared.command_line.JobFault.{JobFault}
 use Rattle.pr_options.specs.declared.command_line.JobFault.TheVariants as job
+use Rattle.pr_programs.specs.declared.fault.BasicFault.{BasicFault}
+use Rattle.pr_programs.specs.declared.fault.BasicFault.TheVariants as basic
+use Rattle.pr_programs.specs.declared.made.Ran.{Ran as ProgramRun}
+use Rattle.pr_programs.specs.declared.made.Ran.TheVariants as program
 use Rattle.pr_jobs.specs.declared.fault.CliFault.{CliFault}
 use Rattle.pr_jobs.specs.declared.fault.CliFault.TheVariants.{Script, Trace, Wave, Capture, Picture, TooLarge, NoMemory, ReadFailed, WriteFailed}
 use Rattle.pr_jobs.specs.declared.characters.ShapesFault.{ShapesFault}
@@ -74,6 +78,11 @@ abbrev pub job_end : (strict : Option Present) → Result JobEnd CliFault → En
 job_end strict (Ok answer) = strict_end strict answer
 job_end strict (Err fault) = end.Job fault
 
+-- of a job whose script came of the run of a program: an error ended that run, if nothing stopped the job's run before
+abbrev pub ended_after : ProgramRun → End → End
+ended_after (program.Error error line) end.Done = end.Broken error line
+ended_after ran ended = ended
+
 -- help and the version are written; other words that clap refuses ask for nothing
 abbrev pub line_end : ErrorKind → End
 line_end DisplayHelp = end.Done
@@ -105,6 +114,13 @@ text_status listing.TooLarge = 2
 text_status listing.ReadFailed = 3
 text_status listing.NoMemory = 3
 
+-- 2 when a program is refused, 3 when memory was refused
+abbrev pub basic_status : BasicFault → ℕ
+basic_status (basic.Refused row column reason) = 2
+basic_status (basic.Listing why) = 2
+basic_status (basic.TooManySteps line) = 2
+basic_status basic.NoMemory = 3
+
 -- 2 when a file of characters is refused, 3 when memory was refused, or a read failed
 abbrev pub characters_status : ShapesFault → ℕ
 characters_status (shapes.Characters fault) = 2
@@ -118,8 +134,10 @@ abbrev pub status_of : End → ℕ
 status_of end.Done = 0
 status_of end.Stopped = 1
 status_of (end.StoppedAt statement stop) = 1
+status_of (end.Broken error line) = 1
 status_of end.Lacking = 1
 status_of (end.Job fault) = fault_status fault
 status_of (end.Listing fault) = text_status fault
+status_of (end.Basic fault) = basic_status fault
 status_of (end.Characters fault) = characters_status fault
 status_of end.Words = 2

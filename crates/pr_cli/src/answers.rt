@@ -4,7 +4,7 @@ ghost use Rattle.std.specs.Prelude.{◌≡◌, None, take, IfErr, IfOk, IfSome};
 ghost use Rattle.std.specs.Io.KnownBytes.{Consumes};
 ghost use Rattle.pr_input.specs.Watched.{wrapped};
 ghost use Rattle.pr_cli.specs.Answered.{EndsTask};
-ghost use Rattle.pr_cli.specs.Jobs.{EndsJob, EndsListing, EndsRecording, EndsWork, finds_format, first_bytes, form_of, found_job, started_job, strict_of};
+ghost use Rattle.pr_cli.specs.Jobs.{EndsEither, EndsInput, EndsJob, EndsListing, EndsProgram, EndsRecording, EndsRun, EndsWhole, EndsWork, IsReadWhole, finds_format, first_bytes, form_of, found_job, started_job, strict_of};
 ghost use Rattle.pr_cli.specs.Statuses.{answer_end, fault_status, job_end, status_of, strict_end};
 ghost use Rattle.pr_cli.specs.declared.statuses.End.TheVariants as end;
 
@@ -17,6 +17,7 @@ use crate::notes::{
     note_stop, petcat_note, program_note, text_note, view_of,
 };
 use crate::outside::Outside;
+use crate::programs::{is_explainable, tell_basic, tell_ran};
 use crate::progress::{Progress, clear};
 use crate::refusals::{refuse, refuse_same};
 use crate::shown::Shown;
@@ -28,9 +29,10 @@ use crate::told::{
 };
 use pr_dots::Shapes;
 use pr_files::{Noting, Unsaved, save};
-use pr_jobs::{CliFault, PictureFault, RunEnd, SCRIPT_LIMIT, TeeReader, Watched};
+use pr_jobs::{CliFault, PictureFault, RunEnd, SCRIPT_LIMIT, TeeReader, Watched, read_whole};
 use pr_listing::{ListingForm, TextFault, plain_form, read_text};
 use pr_options::{DecodeOutput, Job, PagesOutput, Task};
+use pr_programs::{Form, is_run, made_script, typed_program};
 use pr_render::Format;
 use pr_serial::Present;
 use std::alloc::Global;
@@ -105,6 +107,8 @@ struct Reporting<'a> {
     is_quiet: bool,
     /// What is to be noted of the listing of which a script was made.
     note: ListingNote,
+    /// The script came of a program, so its lines are not the user's.
+    is_made: bool,
     /// The input can be read a second time for that: it is a file by name, and no pipe or device. Any other is kept.
     is_file: bool,
     /// How many bytes have come of the input.
@@ -172,6 +176,7 @@ fn open_input(
         is_noted: !around.is_quiet && (around.is_explained || around.terminals.error),
         is_quiet: around.is_quiet,
         note: ListingNote::Nothing,
+        is_made: false,
         is_file: false,
         count: &count,
         is_shown: &is_shown,
@@ -241,6 +246,7 @@ pub fn answer_given(
         is_noted: telling.is_explained && !telling.is_quiet,
         is_quiet: telling.is_quiet,
         note: ListingNote::Nothing,
+        is_made: false,
         is_file: false,
         count: &count,
         is_shown: &is_shown,
@@ -295,7 +301,10 @@ fn is_standard_output(name: &str) -> bool {
 /// Says on standard error what a run waits for whose input comes from a terminal.
 pub fn tell_waiting(rt: &impl Eprint, job: &Job<'_>) {
     let input = match job {
-        Job::Pages(..) | Job::Bus(..) => "a script",
+        Job::Pages(Form::Program { .. }, _, _, _, _)
+        | Job::Bus(Form::Program { .. }, _, _, _, _)
+        | Job::Script(Form::Program { .. }) => "a program",
+        Job::Pages(..) | Job::Bus(..) | Job::Script(_) => "a script",
         Job::Check { .. } => "a trace",
         Job::Decode { .. } => "a recording",
         Job::Raw { .. } => "a printer's bytes",
@@ -371,6 +380,27 @@ fn choose_form<R: Read + Drop, W: Write + Drop>(
         return answer_recording(rt, reader, writer, names, work, aside);
     }
     match form_of(&work.job) {
+        Form::Listing(form) => answer_text(rt, reader, writer, names, form, work, aside),
+        Form::Program { steps } => answer_program(rt, reader, writer, names, steps, work, aside),
+        Form::Either { steps } => answer_either(rt, reader, writer, names, steps, work, aside),
+    }
+}
+
+/// Does a job over the text of a script, or of a listing in another form.
+fn answer_text<R: Read + Drop, W: Write + Drop>(
+    rt: &(impl Outside + Eprint + AllocGlobal),
+    reader: R,
+    writer: W,
+    names: Names<'_>,
+    form: ListingForm,
+    work: Work<'_>,
+    aside: Reporting<'_>,
+) -> (End, W)
+    ensures { IfSome (R.remaining reader) (λ bytes.
+        EndsInput work.entry.is_located work.entry.shapes.now work.entry.job (Form.Listing form) bytes
+        (W.contents writer) (W.contents result.1) result.0) }
+{
+    match form {
         ListingForm::Text => run_job(rt, reader, writer, names, None, work, aside),
         ListingForm::Program => {
             answer_listing(rt, reader, writer, names, ListingForm::Program, work, aside)
@@ -391,6 +421,164 @@ fn choose_form<R: Read + Drop, W: Write + Drop>(
         }
         ListingForm::Auto => {
             answer_listing(rt, reader, writer, names, ListingForm::Auto, work, aside)
+        }
+    }
+}
+
+/// Reads an input whole, or says why that is not done, and gives how the program ends.
+fn read_bytes<R: Read + Drop>(
+    rt: &(impl Outside + Eprint + AllocGlobal),
+    reader: R,
+    name: Option<&str>,
+    is_shown: &Cell<bool>,
+) -> Result<Vec<u8>, End>
+    ensures { IfSome (R.remaining reader) (λ bytes. IsReadWhole bytes result) }
+{
+    let mut input = Watched::new(Noting::new(reader));
+    match read_whole(rt.alloc(), &mut input, SCRIPT_LIMIT) {
+        Ok(bytes) => Ok(bytes),
+        Err(fault) => {
+            let error = input.into_inner().error();
+            clear(rt, is_shown);
+            Err(tell_failed(rt, CliFault::from(fault), name, error))
+        }
+    }
+}
+
+/// Does a job over what a program prints.
+fn answer_program<R: Read + Drop, W: Write + Drop>(
+    rt: &(impl Outside + Eprint + AllocGlobal),
+    reader: R,
+    writer: W,
+    names: Names<'_>,
+    steps: u64,
+    work: Work<'_>,
+    aside: Reporting<'_>,
+) -> (End, W)
+    ensures { IfSome (R.remaining reader) (λ bytes.
+        EndsWhole (λ whole. EndsProgram work.entry.is_located work.entry.shapes.now work.entry.job steps whole
+        (W.contents writer) (W.contents result.1) result.0)
+        bytes (W.contents writer) (W.contents result.1) result.0) }
+{
+    match read_bytes(rt, reader, names.input, aside.is_shown) {
+        Ok(bytes) => run_program(rt, bytes.as_slice(), writer, names, steps, work, aside),
+        Err(end) => (end, writer),
+    }
+}
+
+/// Does a job over a text that is a script, or else over what it prints as a program, if it is one.
+fn answer_either<R: Read + Drop, W: Write + Drop>(
+    rt: &(impl Outside + Eprint + AllocGlobal),
+    reader: R,
+    writer: W,
+    names: Names<'_>,
+    steps: u64,
+    work: Work<'_>,
+    aside: Reporting<'_>,
+) -> (End, W)
+    ensures { IfSome (R.remaining reader) (λ bytes.
+        EndsWhole (λ whole. EndsEither work.entry.is_located work.entry.shapes.now work.entry.job steps whole
+        (W.contents writer) (W.contents result.1) result.0)
+        bytes (W.contents writer) (W.contents result.1) result.0) }
+{
+    match read_bytes(rt, reader, names.input, aside.is_shown) {
+        Ok(bytes) => run_either(rt, bytes.as_slice(), writer, names, steps, work, aside),
+        Err(end) => (end, writer),
+    }
+}
+
+/// Does a job over a text that was read: a script, or else what it prints as a program, if it is one.
+fn run_either<W: Write + Drop>(
+    rt: &(impl Outside + Eprint + AllocGlobal),
+    bytes: &[u8],
+    writer: W,
+    names: Names<'_>,
+    steps: u64,
+    work: Work<'_>,
+    aside: Reporting<'_>,
+) -> (End, W)
+    ensures { EndsEither work.entry.is_located work.entry.shapes.now work.entry.job steps bytes.now
+        (W.contents writer) (W.contents result.1) result.0 }
+{
+    match is_run(rt.alloc(), bytes) {
+        Ok(false) => {
+            let aside = Reporting {
+                is_file: false,
+                ..aside
+            };
+            run_job(rt, bytes, writer, names, None, work, aside)
+        }
+        Ok(true) => {
+            let aside = Reporting {
+                note: ListingNote::Run,
+                ..aside
+            };
+            run_program(rt, bytes, writer, names, steps, work, aside)
+        }
+        Err(_) => {
+            clear(rt, aside.is_shown);
+            (tell(rt, CliFault::NoMemory), writer)
+        }
+    }
+}
+
+/// Runs a program, which may be a saved one, and does a job over the script that comes of it.
+fn run_program<W: Write + Drop>(
+    rt: &(impl Outside + Eprint + AllocGlobal),
+    bytes: &[u8],
+    writer: W,
+    names: Names<'_>,
+    steps: u64,
+    work: Work<'_>,
+    aside: Reporting<'_>,
+) -> (End, W)
+    ensures { EndsProgram work.entry.is_located work.entry.shapes.now work.entry.job steps bytes.now
+        (W.contents writer) (W.contents result.1) result.0 }
+{
+    match typed_program(rt.alloc(), bytes) {
+        Ok(Some(text)) => run_text(rt, text.as_slice(), writer, names, steps, work, aside),
+        Ok(None) => run_text(rt, bytes, writer, names, steps, work, aside),
+        Err(fault) => {
+            clear(rt, aside.is_shown);
+            tell_basic(rt, bytes, fault, aside.is_explained);
+            (End::Basic(fault), writer)
+        }
+    }
+}
+
+/// Runs a program that is typed, and does a job over the script that comes of it.
+fn run_text<W: Write + Drop>(
+    rt: &(impl Outside + Eprint + AllocGlobal),
+    bytes: &[u8],
+    writer: W,
+    names: Names<'_>,
+    steps: u64,
+    work: Work<'_>,
+    aside: Reporting<'_>,
+) -> (End, W)
+    ensures { EndsRun work.entry.is_located work.entry.shapes.now work.entry.job steps bytes.now
+        (W.contents writer) (W.contents result.1) result.0 }
+{
+    match made_script(rt.alloc(), bytes, steps) {
+        Ok(made) => {
+            let script = made.text.as_slice();
+            let aside = Reporting {
+                is_made: true,
+                is_file: false,
+                ..aside
+            };
+            let (end, writer) = run_job(rt, script, writer, names, None, work, aside);
+            let end = end.after(made.ran);
+            tell_ran(rt, bytes, &made, end, aside.is_explained, aside.is_noted);
+            (end, writer)
+        }
+        Err(fault) => {
+            clear(rt, aside.is_shown);
+            tell_basic(rt, bytes, fault, aside.is_explained);
+            if aside.is_advised && is_explainable(fault) {
+                advise(rt);
+            }
+            (End::Basic(fault), writer)
         }
     }
 }
@@ -565,12 +753,14 @@ fn advise(rt: &impl Eprint) {
 }
 
 /// The form of the listing that a job reads; an input that is no listing is read as it is.
-fn form_of(job: &Job<'_>) -> ListingForm
+fn form_of(job: &Job<'_>) -> Form
     ensures { result ≡ form_of job.now }
 {
     match job {
-        Job::Pages(form, _, _, _, _) | Job::Bus(form, _, _, _, _) => *form,
-        Job::Check { .. } | Job::Decode { .. } | Job::Raw { .. } => ListingForm::Text,
+        Job::Pages(form, _, _, _, _) | Job::Bus(form, _, _, _, _) | Job::Script(form) => *form,
+        Job::Check { .. } | Job::Decode { .. } | Job::Raw { .. } => {
+            Form::Listing(ListingForm::Text)
+        }
     }
 }
 
@@ -700,6 +890,9 @@ fn tell_bytes(
     }
     note_listing(rt, aside.note);
     let is_whole = aside.is_explained || aside.count.get() <= NOTED;
+    if aside.is_made {
+        return None;
+    }
     tell_notes(rt, bytes, is_whole, subject);
     blank_reason(bytes)
 }

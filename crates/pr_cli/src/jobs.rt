@@ -8,6 +8,7 @@ ghost use Rattle.pr_jobs.specs.Report.{IsReportFault};
 ghost use Rattle.pr_input.specs.Watched.{wrapped};
 ghost use Rattle.pr_cli.specs.Jobs.{AnswersJob, AnswersRecording, AnswersRun, AnswersTrace, AnswersTraced, IsJobFault, IsPrintFault, IsRecordingFault, KeepsOutput, KeepsRun, KeepsTrace, ReadsInput, ReadsRecording, ReadsTrace, found_input, found_job, listening_of, restarted_job, seen_format, seen_job, seen_output, seen_reading};
 
+use crate::script_text::script_over;
 use pr_capture::{InputFormat, OutputFormat, TraceInput, found_format};
 use pr_dots::Shapes;
 use pr_jobs::{
@@ -180,7 +181,8 @@ pub fn seen_job<'a>(job: Job<'a>) -> Job<'a>
 /// # Errors
 ///
 /// Those of the job's call: [`pr_jobs::write_pages`] for pages, or [`pr_jobs::pages_over`] for a list of marks where
-/// nobody asks for a stop's place, and [`pr_recording::run_bytes_over`] for bytes; [`pr_jobs::write_bus_trace`], or
+/// nobody asks for a stop's place, and [`pr_recording::run_bytes_over`] for bytes;
+/// [`crate::script_text::script_over`] for a script; [`pr_jobs::write_bus_trace`], or
 /// [`pr_jobs::bus_over`] for a trace text where nobody asks for a stop's place; [`pr_jobs::check_over`] for the frames
 /// of a trace text, [`pr_recording::check_json_over`] for the JSON of any trace, and else
 /// [`pr_jobs::write_check_report`]; [`pr_recording::decode_over`] for a list and for JSON, [`pr_recording::bytes_over`], and
@@ -221,6 +223,10 @@ pub fn do_job<R: Read, W: Write>(
                 mode,
             };
             trace_run(alloc, input, output, start, format, is_located)
+        }
+        Job::Script(_) => {
+            script_over(alloc, input, output)?;
+            Ok(JobEnd::Ended(Ending::Done))
         }
         Job::Check {
             input: trace,

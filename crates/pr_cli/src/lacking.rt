@@ -23,7 +23,8 @@ pub fn strict_of(job: &Job<'_>) -> Option<Present>
 {
     match job {
         Job::Decode { output, .. } => strict_in(*output),
-        Job::Pages(..) | Job::Bus(..) | Job::Check { .. } | Job::Raw { .. } => None,
+        Job::Pages(..) | Job::Bus(..) | Job::Script(_) | Job::Check { .. } | Job::Raw { .. } =>
+            None,
     }
 }
 

@@ -42,6 +42,10 @@ const TAPE_FILES: &str =
     "this T64 file has several programs, of which the first one is read; an emulator loads another, \
      and saves that as name.prg";
 
+/// What is said of a text that is no script, and was run.
+const RUN: &str =
+    "this is no script, so it was run as a program, as with --from basic; --as script writes what it prints";
+
 /// What is said of a saved program without its load address.
 const NO_ADDRESS: &str =
     "the load address, the two bytes 1 and 8, is missing in front of this program, if it is a C64's: put it there";
@@ -243,6 +247,8 @@ pub enum ListingNote {
     TwoAddresses,
     /// A T64 file has more than one program.
     TapeFiles,
+    /// A text is no script, and was run as a program.
+    Run,
 }
 
 /// What is to be noted of petcat's text.
@@ -311,6 +317,7 @@ pub fn listing_text(noted: ListingNote) -> Option<&'static str> {
         ListingNote::NoAddress => Some(NO_ADDRESS),
         ListingNote::TwoAddresses => Some(TWO_ADDRESSES),
         ListingNote::TapeFiles => Some(TAPE_FILES),
+        ListingNote::Run => Some(RUN),
     }
 }
 

@@ -63,7 +63,7 @@ fn zero_of_job<R: Read>(
         Job::Check { input: trace, .. } | Job::Decode { input: trace, .. } => {
             own_zero(alloc, *trace, input, first)
         }
-        Job::Pages(..) | Job::Bus(..) | Job::Raw { .. } => Ok(0),
+        Job::Pages(..) | Job::Bus(..) | Job::Script(_) | Job::Raw { .. } => Ok(0),
     }
 }
 

@@ -1,12 +1,14 @@
 //! How the program ends, and its exit statuses.
 
 ghost use Rattle.std.specs.Prelude.{◌≡◌, ◌==◌, ◌||◌};
-ghost use Rattle.pr_cli.specs.Statuses.{characters_status, ending_end, fault_status, refusal_end, run_ended, status_of, text_status};
+ghost use Rattle.pr_cli.specs.Statuses.{basic_status, characters_status, ended_after, ending_end, fault_status, refusal_end, run_ended, status_of, text_status};
 
 use pr_channels::Stop;
+use pr_interpreter::BasicError;
 use pr_jobs::{CliFault, Ending, RunEnd, ShapesFault};
 use pr_listing::TextFault;
 use pr_options::JobFault;
+use pr_programs::{BasicFault, Ran};
 
 /// How the program ends.
 #[derive(Clone, Copy, Debug, PartialEq, Eq)]
@@ -22,12 +24,19 @@ pub enum End {
         /// The error.
         stop: Stop,
     },
+    /// The same of the run of a program that this error of BASIC ended, in this line of it.
+    Broken {
+        error: BasicError,
+        line: u16,
+    },
     /// What was asked for is written, and leaves out something of a recording, which was not to be.
     Lacking,
     /// The job has this fault.
     Job(CliFault),
     /// The listing has no text of a script.
     Listing(TextFault),
+    /// No script comes of the program.
+    Basic(BasicFault),
     /// The file of characters has no shapes.
     Characters(ShapesFault),
     /// The words ask for no task.
@@ -57,10 +66,11 @@ impl End {
     {
         match self {
             End::Done => DONE,
-            End::Stopped | End::StoppedAt { .. } => STOPPED,
+            End::Stopped | End::StoppedAt { .. } | End::Broken { .. } => STOPPED,
             End::Lacking => LACKING,
             End::Job(fault) => fault_status(fault),
             End::Listing(fault) => text_status(fault),
+            End::Basic(fault) => basic_status(fault),
             End::Characters(fault) => characters_status(fault),
             End::Words => REFUSED,
         }
@@ -83,6 +93,17 @@ impl End {
         match end {
             RunEnd::Done => End::Done,
             RunEnd::Stopped { statement, stop } => End::StoppedAt { statement, stop },
+        }
+    }
+
+    /// Returns how the program ends after a job, whose script came of a run that ended so: what stopped the job's run
+    /// came before the end of the program's. It takes no memory.
+    pub fn after(self, ran: Ran) -> End
+        ensures { result ≡ ended_after ran self }
+    {
+        match (ran, self) {
+            (Ran::Error { error, line }, End::Done) => End::Broken { error, line },
+            _ => self,
         }
     }
 
@@ -133,6 +154,17 @@ fn text_status(fault: TextFault) -> u8
     match fault {
         TextFault::Listing(_) | TextFault::TooLarge => REFUSED,
         TextFault::ReadFailed | TextFault::NoMemory => FAILED,
+    }
+}
+
+/// Returns the exit status where no script comes of a program. It takes no memory.
+fn basic_status(fault: BasicFault) -> u8
+    ensures { result ≡ basic_status fault }
+{
+    match fault {
+        BasicFault::Refused { .. } | BasicFault::Listing(_) | BasicFault::TooManySteps(_) =>
+            REFUSED,
+        BasicFault::NoMemory => FAILED,
     }
 }
 

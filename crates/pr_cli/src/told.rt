@@ -1,6 +1,7 @@
 //! What more there is to say of a job's input, on standard error.
 
 use crate::kinds::other_kind;
+use crate::lacking::BOTH;
 use crate::notes::{
     address_note, is_script, is_typed, listing_text, note_brief, note_bytes, note_misread,
     note_repeats, note_script, note_threshold, note_unit,
@@ -19,6 +20,7 @@ use pr_listing::{
     long_token_name, looks_like_text, plain_form, program_byte, token_name,
 };
 use pr_options::{CheckOutput, DecodeOutput, Job, PagesOutput, Task};
+use pr_programs::Form;
 use pr_recording::Heard;
 use pr_render::Format;
 use pr_report::{Oddities, Report, push_oddities};
@@ -133,6 +135,7 @@ fn is_default(job: &Job<'_>) -> bool {
     match job {
         Job::Pages(_, _, _, _, output) => *output == PagesOutput::Pages(Format::List),
         Job::Bus(_, _, _, _, format) => *format == OutputFormat::Text,
+        Job::Script(_) => false,
         Job::Check { output, .. } => *output == CheckOutput::Report(Report::Frames),
         Job::Decode { output, .. } => matches!(output, DecodeOutput::Readings(_)),
         Job::Raw { format, .. } => *format == Format::List,
@@ -311,18 +314,31 @@ pub enum Subject<'a> {
     Bytes,
 }
 
+/// The form of a listing; what a program prints has that of a script.
+fn listing_in(form: Form) -> ListingForm {
+    match form {
+        Form::Listing(listing) => listing,
+        Form::Program { .. } | Form::Either { .. } => ListingForm::Text,
+    }
+}
+
 /// The input of a job.
 pub fn subject_of<'a>(job: &Job<'a>) -> Subject<'a> {
     match job {
         Job::Pages(form, present, _, mode, _) => Subject::Script(ScriptRun {
-            form: *form,
+            form: listing_in(*form),
             present: *present,
             mode: *mode,
         }),
         Job::Bus(form, present, _, mode, _) => Subject::Script(ScriptRun {
-            form: *form,
+            form: listing_in(*form),
             present: *present,
             mode: *mode,
+        }),
+        Job::Script(form) => Subject::Script(ScriptRun {
+            form: listing_in(*form),
+            present: BOTH,
+            mode: StatusMode::Each,
         }),
         Job::Check { input, .. } => Subject::Trace(*input),
         Job::Decode { input, .. } => Subject::Recording(*input),

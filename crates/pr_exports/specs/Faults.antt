@@ -11,6 +11,12 @@ use Rattle.pr_capture.specs.declared.fault.CaptureFault.{CaptureFault}
 use Rattle.pr_capture.specs.declared.fault.CaptureFault.TheVariants as capture
 use Rattle.pr_capture.specs.declared.fault.Wire.{Wire}
 use Rattle.pr_capture.specs.declared.fault.Wire.TheVariants as wire
+use Rattle.pr_interpreter.specs.declared.values.BasicError.{BasicError}
+use Rattle.pr_interpreter.specs.declared.values.BasicError.TheVariants as error
+use Rattle.pr_programs.specs.declared.fault.BasicFault.{BasicFault}
+use Rattle.pr_programs.specs.declared.fault.BasicFault.TheVariants as basic
+use Rattle.pr_programs.specs.declared.fault.Reason.{Reason}
+use Rattle.pr_programs.specs.declared.fault.Reason.TheVariants as reason
 use Rattle.pr_listing.specs.declared.fault.ListingFault.{ListingFault}
 use Rattle.pr_listing.specs.declared.fault.ListingFault.TheVariants as listing
 use Rattle.pr_listing.specs.declared.input.TextFault.{TextFault}
@@ -117,6 +123,52 @@ text_numbers text.TooLarge = (9, 0, 0)
 text_numbers text.ReadFailed = (90, 0, 0)
 text_numbers text.NoMemory = (90, 0, 0)
 
+-- an error of BASIC, by the machine's number
+abbrev pub error_number : BasicError → ℕ
+error_number error.TooManyFiles = 1
+error_number error.FileOpen = 2
+error_number error.FileNotOpen = 3
+error_number error.NotInputFile = 6
+error_number error.NextWithoutFor = 10
+error_number error.Syntax = 11
+error_number error.ReturnWithoutGosub = 12
+error_number error.OutOfData = 13
+error_number error.IllegalQuantity = 14
+error_number error.Overflow = 15
+error_number error.UndefinedStatement = 17
+error_number error.BadSubscript = 18
+error_number error.RedimensionedArray = 19
+error_number error.DivisionByZero = 20
+error_number error.TypeMismatch = 22
+error_number error.StringTooLong = 23
+error_number error.FormulaTooComplex = 25
+error_number error.UndefinedFunction = 27
+
+-- what is refused in a program, with its line and its column
+abbrev pub reason_numbers : (row column : ℕ) → Reason → ℕ × ℕ × ℕ
+reason_numbers row column reason.NoLineNumber = (131, row, column)
+reason_numbers row column reason.LargeLineNumber = (132, row, column)
+reason_numbers row column reason.Syntax = (133, row, column)
+reason_numbers row column reason.Name = (134, row, column)
+reason_numbers row column reason.Byte = (135, row, column)
+reason_numbers row column reason.NotTaken = (136, row, column)
+reason_numbers row column reason.NotCertain = (137, row, column)
+reason_numbers row column reason.Poke = (138, row, column)
+reason_numbers row column reason.Device = (139, row, column)
+reason_numbers row column reason.SecondAddress = (140, row, column)
+reason_numbers row column reason.FileName = (141, row, column)
+reason_numbers row column reason.LongList = (142, row, column)
+reason_numbers row column reason.OpenFiles = (143, row, column)
+reason_numbers row column reason.FullStack = (144, row, column)
+reason_numbers row column reason.FullMemory = (145, row, column)
+
+-- the fault of a program, with its line and its column
+abbrev pub basic_numbers : BasicFault → ℕ × ℕ × ℕ
+basic_numbers (basic.Refused row column why) = reason_numbers row column why
+basic_numbers (basic.Listing why) = listing_numbers why
+basic_numbers (basic.TooManySteps line) = (146, line, 0)
+basic_numbers basic.NoMemory = (90, 0, 0)
+
 -- how the program ends: the number of its fault, 0 for none, or 100 and that of the BASIC error that stopped a run; its place, the
 -- statement of such an error; and its column
 abbrev pub numbers_of : End → ℕ × ℕ × ℕ
@@ -125,6 +177,8 @@ numbers_of end.Stopped = (0, 0, 0)
 numbers_of end.Lacking = (0, 0, 0)
 numbers_of (end.StoppedAt statement stop) = (100 + stop_number stop, statement, 0)
 numbers_of (end.Job fault) = ((job_numbers fault).0, (job_numbers fault).1, 0)
+numbers_of (end.Broken error line) = (100 + error_number error, line, 0)
+numbers_of (end.Basic fault) = basic_numbers fault
 numbers_of (end.Listing fault) = text_numbers fault
 numbers_of (end.Characters fault) = ((shapes_numbers fault).0, (shapes_numbers fault).1, 0)
 numbers_of end.Words = (54, 0, 0)

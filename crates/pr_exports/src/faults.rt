@@ -1,14 +1,16 @@
 //! The numbers of faults: those of `enum print1525_fault` in include/print1525.h.
 
 ghost use Rattle.std.specs.Prelude.{◌≡◌};
-ghost use Rattle.pr_exports.specs.Faults.{capture_numbers, job_numbers, listing_numbers, numbers_of, picture_numbers, script_numbers, shapes_numbers, signal_number, text_numbers, trace_numbers, wave_numbers};
+ghost use Rattle.pr_exports.specs.Faults.{basic_numbers, capture_numbers, error_number, job_numbers, listing_numbers, numbers_of, picture_numbers, reason_numbers, script_numbers, shapes_numbers, signal_number, text_numbers, trace_numbers, wave_numbers};
 
 use pr_basic::ScriptFault;
 use pr_capture::{CaptureFault, Wire};
 use pr_characters::CharactersFault;
 use pr_cli::End;
+use pr_interpreter::BasicError;
 use pr_jobs::{CliFault, PictureFault, ShapesFault};
 use pr_listing::{ListingFault, TextFault};
+use pr_programs::{BasicFault, Reason};
 use pr_wire::{TraceFault, WaveFault};
 
 /// The number of too large an input, of any kind.
@@ -31,8 +33,10 @@ pub fn numbers_of(end: End) -> (usize, usize, usize)
     match end {
         End::Done | End::Stopped | End::Lacking => (0, 0, 0),
         End::StoppedAt { statement, stop } => (STOP + usize::from(stop.number()), statement, 0),
+        End::Broken { error, line } => (STOP + error_number(error), usize::from(line), 0),
         End::Job(fault) => at(job_numbers(fault)),
         End::Listing(fault) => text_numbers(fault),
+        End::Basic(fault) => basic_numbers(fault),
         End::Characters(fault) => at(shapes_numbers(fault)),
         End::Words => (NO_TASK, 0, 0),
     }
@@ -180,5 +184,71 @@ fn listing_numbers(fault: ListingFault) -> (usize, usize, usize)
         ListingFault::BadByte(line, column) => (64, line, column),
         ListingFault::NoLine => (65, 0, 0),
         ListingFault::NoMemory => (NO_MEMORY, 0, 0),
+    }
+}
+
+/// The machine's number of an error of BASIC.
+fn error_number(error: BasicError) -> usize
+    ensures { result ≡ error_number error }
+{
+    match error {
+        BasicError::TooManyFiles => 1,
+        BasicError::FileOpen => 2,
+        BasicError::FileNotOpen => 3,
+        BasicError::NotInputFile => 6,
+        BasicError::NextWithoutFor => 10,
+        BasicError::Syntax => 11,
+        BasicError::ReturnWithoutGosub => 12,
+        BasicError::OutOfData => 13,
+        BasicError::IllegalQuantity => 14,
+        BasicError::Overflow => 15,
+        BasicError::UndefinedStatement => 17,
+        BasicError::BadSubscript => 18,
+        BasicError::RedimensionedArray => 19,
+        BasicError::DivisionByZero => 20,
+        BasicError::TypeMismatch => 22,
+        BasicError::StringTooLong => 23,
+        BasicError::FormulaTooComplex => 25,
+        BasicError::UndefinedFunction => 27,
+    }
+}
+
+/// The number of what is refused in a program, its line and its column.
+fn reason_numbers(row: usize, column: usize, reason: Reason) -> (usize, usize, usize)
+    ensures { result ≡ reason_numbers row column reason }
+{
+    let number = match reason {
+        Reason::NoLineNumber => 131,
+        Reason::LargeLineNumber => 132,
+        Reason::Syntax => 133,
+        Reason::Name => 134,
+        Reason::Byte => 135,
+        Reason::NotTaken => 136,
+        Reason::NotCertain => 137,
+        Reason::Poke => 138,
+        Reason::Device => 139,
+        Reason::SecondAddress => 140,
+        Reason::FileName => 141,
+        Reason::LongList => 142,
+        Reason::OpenFiles => 143,
+        Reason::FullStack => 144,
+        Reason::FullMemory => 145,
+    };
+    (number, row, column)
+}
+
+/// The number of the fault of a program, its line and its column.
+fn basic_numbers(fault: BasicFault) -> (usize, usize, usize)
+    ensures { result ≡ basic_numbers fault }
+{
+    match fault {
+        BasicFault::Refused {
+            row,
+            column,
+            reason,
+        } => reason_numbers(row, column, reason),
+        BasicFault::Listing(fault) => listing_numbers(fault),
+        BasicFault::TooManySteps(line) => (146, usize::from(line), 0),
+        BasicFault::NoMemory => (NO_MEMORY, 0, 0),
     }
 }

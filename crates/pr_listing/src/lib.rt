@@ -50,8 +50,8 @@ pub use form::{
 pub use found::{begins_with_heading, found_form};
 pub use hints::{has_typed_strings, looks_like_disk, looks_like_text, looks_saved};
 pub use input::{TextFault, read_text};
-pub use names::Spelling;
+pub use names::{Brackets, Spelling, bracketed};
 pub use places::program_byte;
-pub use program::program_text;
+pub use program::{Front, front_of, program_text};
 pub use token_names::{long_token_name, token_name};
 pub use typed::typed_text;

@@ -8,7 +8,8 @@ use Rattle.pr_serial.specs.Bus.{DelayNumbers}
 use Rattle.pr_bus.specs.declared.wires.Delays.{Delays}
 use Rattle.pr_bus.specs.DelaysLeft.{numbers_left}
 use Rattle.pr_basic.specs.declared.session.StatusMode.{StatusMode}
-use Rattle.pr_listing.specs.declared.form.ListingForm.{ListingForm}
+use Rattle.pr_programs.specs.declared.form.Form.{Form}
+use Rattle.pr_programs.specs.declared.form.Form.TheVariants as form
 use Rattle.pr_render.specs.Showing.{showing}
 use Rattle.pr_render.specs.declared.format.Format.{Format}
 use Rattle.pr_render.specs.declared.format.Format.TheVariants as format
@@ -29,7 +30,7 @@ use Rattle.pr_options.specs.Rows as option
 use Rattle.pr_options.specs.CommandLine.{print1525}
 use Rattle.pr_options.specs.DelayLists.{delays_of}
 use Rattle.pr_options.specs.Given.{characters_in, file_in, is_given, value_in}
-use Rattle.pr_options.specs.Options.{before_of, bounds_of, decode_output_of, device_of, form_of, format_of, found_format_of, from_time_of, glitch_of, inverted_of, listening_of, mode_of, pages_output_of, paper_of, present_of, rate_of, report_of, scale_of, set_of, sheet_of, threshold_of, top_of, trace_format_of, unhearing}
+use Rattle.pr_options.specs.Options.{before_of, bounds_of, decode_output_of, device_of, form_of, format_of, found_format_of, from_time_of, glitch_of, inverted_of, listening_of, mode_of, pages_output_of, paper_of, present_of, rate_of, report_of, scale_of, set_of, sheet_of, steps_of, threshold_of, top_of, trace_format_of, unhearing}
 use Rattle.pr_options.specs.SignalNames.{Names, names_of, names_of_signals}
 use Rattle.pr_options.specs.Values.{bad}
 use Rattle.pr_options.specs.declared.command_line.Job.{Job}
@@ -62,8 +63,9 @@ pub record InputView : Type 0 where
 
 -- a job in plain values
 pub data JobView : Type 0 where
-  Pages : ListingForm → RunView → PagesOutput → JobView
-  Bus : ListingForm → RunView → OutputFormat → JobView
+  Pages : Form → RunView → PagesOutput → JobView
+  Bus : Form → RunView → OutputFormat → JobView
+  Script : Form → JobView
   Check : Bool → InputView → CheckOutput → JobView
   Decode : Bool → InputView → DecodeOutput → JobView
   Raw : Bool → Format → JobView
@@ -99,6 +101,7 @@ job_view (job.Pages form present delays mode output) =
     Pages form (view_of_run present delays mode) output
 job_view (job.Bus form present delays mode format) =
     Bus form (view_of_run present delays mode) format
+job_view (job.Script form) = Script form
 job_view (job.Check is_found input output) = Check is_found (input_view input) output
 job_view (job.Decode is_found input output) = Decode is_found (input_view input) output
 job_view (job.Raw lower format) = Raw lower format
@@ -316,11 +319,30 @@ wanted_decode lower rows =
     decode_output plain lower rows >>= λ output.
     Ok (Decode (is_none source) input output)
 
+-- a form with the steps that a run has at most; without a run there are none to say
+abbrev pub stepped : (steps : ℕ) → (is_said : Bool) → Form → Result Form JobFault
+stepped steps is_said (form.Program usual) = Ok (form.Program steps)
+stepped steps is_said (form.Either usual) = Ok (form.Either steps)
+stepped steps is_said (form.Listing listing) =
+    if is_said then Err fault.NoProgram else Ok (form.Listing listing)
+
+-- the form of what a script is made of
+abbrev pub wanted_form : List Row → Result Form JobFault
+wanted_form rows =
+    read opt.ListingFrom form_of rows >>= λ plain.
+    read opt.Steps steps_of rows >>= λ steps.
+    stepped steps (is_given opt.Steps rows) plain
+
+-- the value of --as for the script itself
+abbrev pub is_script : Text → Bool
+is_script text = bytes_eq text (codes "script")
+
 abbrev pub wanted_bus : RunView → List Row → Result JobView JobFault
 wanted_bus run rows =
-    read opt.ListingFrom form_of rows >>= λ form.
-    read opt.TraceAs trace_format_of rows >>= λ format.
-    Ok (Bus form run format)
+    wanted_form rows >>= λ form.
+    if is_script (value_in opt.TraceAs rows) then Ok (Script form)
+    else (read opt.TraceAs trace_format_of rows >>= λ format.
+    Ok (Bus form run format))
 
 abbrev pub wanted_raw : Bool → List Row → Result JobView JobFault
 wanted_raw lower rows =
@@ -330,10 +352,11 @@ wanted_raw lower rows =
 
 abbrev pub wanted_pages : RunView → List Row → Result JobView JobFault
 wanted_pages run rows =
-    read opt.ListingFrom form_of rows >>= λ form.
-    read opt.PageAs pages_output_of rows >>= λ plain.
+    wanted_form rows >>= λ form.
+    if is_script (value_in opt.PageAs rows) then (shown format.List rows >>= λ whole. Ok (Script form))
+    else (read opt.PageAs pages_output_of rows >>= λ plain.
     pages_output plain rows >>= λ output.
-    Ok (Pages form run output)
+    Ok (Pages form run output))
 
 -- the job of a subcommand with these rows of options, or the first bad value: the options of a run
 -- and --set are read for every subcommand, and the last subcommand is `pages`

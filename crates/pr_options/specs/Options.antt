@@ -16,8 +16,9 @@ use Rattle.pr_basic.specs.declared.session.StatusMode.{StatusMode}
 use Rattle.pr_basic.specs.declared.session.StatusMode.TheVariants.{Each, Kept}
 use Rattle.pr_dots.specs.declared.scale.Scale.{Scale}
 use Rattle.pr_dots.specs.declared.scale.Scale.TheVariants as scale
-use Rattle.pr_listing.specs.declared.form.ListingForm.{ListingForm}
 use Rattle.pr_listing.specs.declared.form.ListingForm.TheVariants as form
+use Rattle.pr_programs.specs.declared.form.Form.{Form}
+use Rattle.pr_programs.specs.declared.form.Form.TheVariants.{Listing, Program, Either}
 use Rattle.pr_render.specs.declared.format.Format.{Format}
 use Rattle.pr_render.specs.declared.format.Format.TheVariants as format
 use Rattle.pr_render.specs.Showing.{usual, whole}
@@ -52,11 +53,17 @@ present_of = meaning_of ((codes "none", record { four = false; five = false })
     ∷ (codes "5", record { four = false; five = true })
     ∷ (codes "both", record { four = true; five = true }) ∷ [])
 
--- the form of a listing: text, prg, petcat, magazine, or auto, which the first bytes show
-abbrev pub form_of : Text → Option ListingForm
+-- the steps that a run has at most, if words do not say it
+abbrev pub usual_steps : ℕ
+usual_steps = 10000000
+
+-- the form of what a script is made of: of a listing text, prg, petcat, magazine, or auto, which the first bytes show;
+-- basic, a program that is run; or bas, a script or else such a program
+abbrev pub form_of : Text → Option Form
 form_of = meaning_of (
-    (codes "text", form.Text) ∷ (codes "prg", form.Program) ∷ (codes "petcat", form.Petcat)
-    ∷ (codes "magazine", form.Magazine) ∷ (codes "auto", form.Auto) ∷ [])
+    (codes "text", Listing form.Text) ∷ (codes "prg", Listing form.Program) ∷ (codes "petcat", Listing form.Petcat)
+    ∷ (codes "magazine", Listing form.Magazine) ∷ (codes "auto", Listing form.Auto)
+    ∷ (codes "basic", Program usual_steps) ∷ (codes "bas", Either usual_steps) ∷ [])
 
 -- whether the status is kept from statement to statement: each (cleared) or kept
 abbrev pub mode_of : Text → Option StatusMode
@@ -222,3 +229,7 @@ scale_of = meaning_of ((codes "1", scale.One) ∷ (codes "2", scale.Two) ∷ (co
 -- the paper of a document: continuous, a4 or letter
 abbrev pub paper_of : Text → Option Size
 paper_of = meaning_of ((codes "continuous", size.Continuous) ∷ (codes "a4", size.A4) ∷ (codes "letter", size.Letter) ∷ [])
+
+-- the steps that a run has at most: decimal digits that spell a number from 1, below 2^64
+abbrev pub steps_of : Text → Option ℕ
+steps_of text = option_and_then sheet_numbered (start_of text)

@@ -8,7 +8,7 @@ use Rattle.pr_options.specs.declared.options.Opt.{Opt}
 use Rattle.pr_options.specs.declared.options.Opt.TheVariants as opt
 use Rattle.pr_options.specs.declared.options.Subcommand.{Subcommand}
 use Rattle.pr_options.specs.declared.options.Subcommand.TheVariants.{Pages, Bus, Check, Decode, Raw}
-use Rattle.pr_options.specs.declared.options.TheConstants.{BOUNDS_HELP, BOUNDS_VALUES, CHARACTERS_HELP, DELAYS_HELP, DELAYS_VALUES, DEVICE_HELP, DEVICE_VALUES, EXPLAIN_HELP, FROM_HELP, FROM_TIME_HELP, FROM_TIME_VALUES, FROM_VALUES, GLITCH_HELP, GLITCH_VALUES, HOLES_HELP, INTERVALS_HELP, INVERT_HELP, INVERT_VALUES, LISTENING_HELP, LISTENING_VALUES, LISTING_FROM_HELP, LISTING_FROM_VALUES, NAMES_HELP, NAMES_VALUES, PAGE_AS_HELP, PAGE_AS_VALUES, PAPER_HELP, PAPER_VALUES, PRESENT_HELP, PRESENT_VALUES, QUIET_HELP, RATE_HELP, RATE_VALUES, RAW_AS_HELP, RAW_AS_VALUES, RAW_DEVICE_HELP, READING_AS_HELP, READING_AS_VALUES, READING_FROM_HELP, REPORT_AS_HELP, REPORT_AS_VALUES, SCALE_HELP, SCALE_VALUES, SET_HELP, SET_VALUES, SHEET_HELP, SHEET_VALUES, STATUS_HELP, STATUS_VALUES, STRICT_HELP, THRESHOLD_HELP, THRESHOLD_VALUES, TOP_HELP, TOP_VALUES, TRACE_AS_HELP, TRACE_AS_VALUES}
+use Rattle.pr_options.specs.declared.options.TheConstants.{BOUNDS_HELP, BOUNDS_VALUES, CHARACTERS_HELP, DELAYS_HELP, DELAYS_VALUES, DEVICE_HELP, DEVICE_VALUES, EXPLAIN_HELP, FROM_HELP, FROM_TIME_HELP, FROM_TIME_VALUES, FROM_VALUES, GLITCH_HELP, GLITCH_VALUES, HOLES_HELP, INTERVALS_HELP, INVERT_HELP, INVERT_VALUES, LISTENING_HELP, LISTENING_VALUES, LISTING_FROM_HELP, LISTING_FROM_VALUES, NAMES_HELP, NAMES_VALUES, PAGE_AS_HELP, PAGE_AS_VALUES, PAPER_HELP, PAPER_VALUES, PRESENT_HELP, PRESENT_VALUES, QUIET_HELP, RATE_HELP, RATE_VALUES, RAW_AS_HELP, RAW_AS_VALUES, RAW_DEVICE_HELP, READING_AS_HELP, READING_AS_VALUES, READING_FROM_HELP, REPORT_AS_HELP, REPORT_AS_VALUES, SCALE_HELP, SCALE_VALUES, SET_HELP, SET_VALUES, SHEET_HELP, SHEET_VALUES, STATUS_HELP, STATUS_VALUES, STEPS_HELP, STEPS_VALUES, STRICT_HELP, THRESHOLD_HELP, THRESHOLD_VALUES, TOP_HELP, TOP_VALUES, TRACE_AS_HELP, TRACE_AS_VALUES}
 
 -- an option: what follows its name (a value, lines of the bus, nothing, or a file's name); its name; the value where nothing else gives
 -- one; the values that the endings of a file's name give, where the argument `file` names one; and its values, in a few
@@ -46,7 +46,7 @@ no_value kind name help = record (plain name [] [] help) { kind = kind }
 -- what the endings of a listing's name say
 abbrev pub listing_endings : List (Text × Text)
 listing_endings = (codes ".prg", codes "prg") ∷ (codes ".p00", codes "prg") ∷ (codes ".t64", codes "prg")
-    ∷ (codes ".petcat", codes "petcat") ∷ (codes ".bas", codes "text") ∷ (codes ".txt", codes "text") ∷ []
+    ∷ (codes ".petcat", codes "petcat") ∷ (codes ".bas", codes "bas") ∷ (codes ".txt", codes "text") ∷ []
 
 -- what the endings of a recording's name say
 abbrev pub recording_endings : List (Text × Text)
@@ -104,6 +104,7 @@ foreign_outputs = (codes ".svg", codes "svg") ∷ (codes ".png", codes "png") �
 abbrev pub row : Opt → OptionRow
 row opt.ListingFrom =
     by_file input listing_endings (plain (codes "from") (codes "text") LISTING_FROM_VALUES.now LISTING_FROM_HELP.now)
+row opt.Steps = plain (codes "steps") (codes "10000000") STEPS_VALUES.now STEPS_HELP.now
 row opt.From = by_file input recording_endings (plain (codes "from") (codes "text") FROM_VALUES.now FROM_HELP.now)
 row opt.ReadingFrom =
     by_file input recording_endings (plain (codes "from") (codes "auto") FROM_VALUES.now READING_FROM_HELP.now)
@@ -168,9 +169,9 @@ command_name Raw = codes "raw"
 -- the options of a subcommand, in the order in which help has them; a bad value is reported in this order too, after
 -- those of `--present`, `--delays` and `--status`
 abbrev pub options_of : Subcommand → List Opt
-options_of Pages = opt.ListingFrom ∷ opt.Present ∷ opt.Delays ∷ opt.Status ∷ opt.PageAs ∷ opt.Explain ∷ opt.Quiet
-    ∷ opt.Device ∷ opt.Sheet ∷ opt.Scale ∷ opt.Top ∷ opt.Paper ∷ opt.Holes ∷ opt.Characters ∷ []
-options_of Bus = opt.ListingFrom ∷ opt.Present ∷ opt.Delays ∷ opt.Status ∷ opt.TraceAs ∷ opt.Explain
+options_of Pages = opt.ListingFrom ∷ opt.Steps ∷ opt.Present ∷ opt.Delays ∷ opt.Status ∷ opt.PageAs ∷ opt.Explain
+    ∷ opt.Quiet ∷ opt.Device ∷ opt.Sheet ∷ opt.Scale ∷ opt.Top ∷ opt.Paper ∷ opt.Holes ∷ opt.Characters ∷ []
+options_of Bus = opt.ListingFrom ∷ opt.Steps ∷ opt.Present ∷ opt.Delays ∷ opt.Status ∷ opt.TraceAs ∷ opt.Explain
     ∷ opt.Quiet ∷ []
 options_of Check = opt.From ∷ opt.Names ∷ opt.Invert ∷ opt.FromTime ∷ opt.Glitch ∷ opt.Rate ∷ opt.Threshold ∷ opt.ReportAs
     ∷ opt.Explain ∷ opt.Quiet ∷ []

@@ -6,7 +6,7 @@ ghost use Rattle.std.specs.Str.{bytes_eq};
 ghost use Rattle.clap.specs.Words.{fault_of, found_of, rows_of, subcommand_rows_of};
 ghost use Rattle.pr_options.specs.CommandLine.{print1525};
 ghost use Rattle.pr_options.specs.CommandLaws.{NamesOurs};
-ghost use Rattle.pr_options.specs.Jobs.{IsRefused, asked, input_view, job_view, task_view, wanted, wanted_bus, wanted_check, wanted_decode, wanted_input, wanted_pages, wanted_raw, wanted_run};
+ghost use Rattle.pr_options.specs.Jobs.{IsRefused, asked, input_view, is_script, job_view, task_view, wanted, wanted_bus, wanted_check, wanted_decode, wanted_form, wanted_input, wanted_pages, wanted_raw, wanted_run};
 ghost use Rattle.pr_options.specs.Steps.{IsFaultIn, IsOfClap, IsOwn, job_result, run_view, wanted_of};
 ghost use Rattle.pr_options.specs.Given.{begins_with_letter, is_quiet_word, value_in};
 ghost use Rattle.pr_options.specs.Values.{bad_value, good_values_of, option_of, value_given, values_of};
@@ -16,20 +16,20 @@ use crate::delays::{DelayFault, read_delays};
 use crate::option_values::{
     read_before, read_decode_output, read_form, read_format, read_found_format, read_from_time,
     read_given_rate, read_glitch, read_inverted, read_pages_output, read_present, read_report,
-    read_set, read_status, read_threshold, read_trace_format,
+    read_set, read_status, read_steps, read_threshold, read_trace_format,
 };
 use crate::options::{INPUT, OUTPUT, Opt};
 use crate::outputs::{CheckOutput, DecodeOutput, PagesOutput};
 use crate::values_given::{
-    characters_in, decode_output_in, file_in, fitting, pages_output_in, shown_in, signals_in,
-    unless_found, value_in,
+    characters_in, decode_output_in, file_in, fitting, is_given, pages_output_in, shown_in,
+    signals_in, unless_found, value_in,
 };
 use clap::ArgMatches;
 use clap::error::ErrorKind;
 use pr_basic::StatusMode;
 use pr_bus::Delays;
 use pr_capture::{InputFormat, OutputFormat, Probes, Signals, TraceInput};
-use pr_listing::ListingForm;
+use pr_programs::Form;
 use pr_render::Format;
 use pr_serial::Present;
 use std::alloc::Global;
@@ -38,12 +38,14 @@ use thiserror::Error;
 /// What the program is to do.
 #[derive(Drop)]
 pub enum Job<'a> {
-    /// Read a listing in this form and write the pages of its run, or the bytes of a printer, with these printers
-    /// present, these delays, and the status going on in this way.
-    Pages(ListingForm, Present, Delays, StatusMode, PagesOutput),
-    /// Read a listing in this form and write the trace of its run, with these printers present, these
+    /// Read a listing or a program in this form and write the pages of its run, or the bytes of a printer, with these
+    /// printers present, these delays, and the status going on in this way.
+    Pages(Form, Present, Delays, StatusMode, PagesOutput),
+    /// Read a listing or a program in this form and write the trace of its run, with these printers present, these
     /// delays, and the status going on in this way, in this format.
-    Bus(ListingForm, Present, Delays, StatusMode, OutputFormat),
+    Bus(Form, Present, Delays, StatusMode, OutputFormat),
+    /// Read a listing or a program in this form and write the text of the script that comes of it.
+    Script(Form),
     /// Read a trace and write what it says.
     Check {
         /// The first bytes of the trace show its format, as [`pr_capture::found_format`] reads them; the format
@@ -131,6 +133,9 @@ pub enum JobFault {
     /// `--listening`, `--set` or `--strict` of `decode` is given where neither pages nor bytes are written.
     #[error("--listening, --set and --strict go with --as text, svg, png, pdf or bytes")]
     NoPages,
+    /// `--steps` is given where no program is run.
+    #[error("--steps goes with --from basic or bas")]
+    NoProgram,
     /// `--set` of `decode` is given where no printer listens at first.
     #[error("--set goes with --listening")]
     NoListener,
@@ -218,9 +223,10 @@ impl From<DelayFault> for JobFault {
 /// only for words that clap takes, and report the first bad value: of [`JobFault::BadPresent`],
 /// [`JobFault::BadDelays`], [`JobFault::BadStatus`] and then of [`JobFault::Bad`], in the order of [`Opt`]. What does
 /// not go together comes after the values that it is judged by: [`JobFault::NoRecording`] and [`JobFault::NoTable`]
-/// after [`Opt::Threshold`], [`JobFault::NoStrips`], [`JobFault::NoPart`], [`JobFault::NoPicture`] and [`JobFault::NoPaper`]
-/// after [`Opt::Paper`],
-/// [`JobFault::NoReadings`] after [`Opt::Bounds`], and [`JobFault::NoPages`] or [`JobFault::NoListener`] at last.
+/// after [`Opt::Threshold`], [`JobFault::NoProgram`] after [`Opt::Steps`],
+/// [`JobFault::NoStrips`], [`JobFault::NoPart`], [`JobFault::NoPicture`] and [`JobFault::NoPaper`] after
+/// [`Opt::Paper`], [`JobFault::NoReadings`] after [`Opt::Bounds`], and [`JobFault::NoPages`] or
+/// [`JobFault::NoListener`] at last.
 pub fn read_task<'a>(alloc: Global, words: &'a [&'a str]) -> Result<Task<'a>, JobFault>
     ensures ok { IfOk result (λ task. asked (map (λ s. s.now) words.entry.now) ≡ Some (Ok (task_view task))) }
     ensures taken { OnOk result (fault_of print1525 (map (λ s. s.now) words.entry.now) ≡ []) }
@@ -397,6 +403,28 @@ fn input_of<'a>(source: InputFormat, options: &ArgMatches<'a>) -> Result<TraceIn
     })
 }
 
+/// The form of what a script is made of, with the steps that a run has at most.
+fn form_in(options: &ArgMatches<'_>) -> Result<Form, JobFault>
+    ensures value { result ≡ wanted_form (rows_of (found_of options.now)) }
+    ensures own { IfErr result IsOwn }
+{
+    let plain = read_form(value_in(options, Opt::ListingFrom)).ok_or(Opt::ListingFrom)?;
+    let steps = read_steps(value_in(options, Opt::Steps)).ok_or(Opt::Steps)?;
+    match plain {
+        Form::Program { .. } => Ok(Form::Program { steps }),
+        Form::Either { .. } => Ok(Form::Either { steps }),
+        Form::Listing(_) if is_given(options, Opt::Steps) => Err(JobFault::NoProgram),
+        Form::Listing(_) => Ok(plain),
+    }
+}
+
+/// Whether a value of `--as` is that of the script itself.
+fn is_script(written: &str) -> bool
+    ensures { result ≡ is_script written.now }
+{
+    written == "script"
+}
+
 /// The job of `check`.
 fn check_job<'a>(options: &ArgMatches<'a>) -> Result<Job<'a>, JobFault>
     ensures value { job_result result ≡ wanted_check (rows_of (found_of options.now)) }
@@ -433,8 +461,12 @@ fn bus_job<'a>(run: Run, options: &ArgMatches<'_>) -> Result<Job<'a>, JobFault>
     ensures value { job_result result ≡ wanted_bus (run_view run) (rows_of (found_of options.now)) }
     ensures own { IfErr result IsOwn }
 {
-    let form = read_form(value_in(options, Opt::ListingFrom)).ok_or(Opt::ListingFrom)?;
-    let format = read_trace_format(value_in(options, Opt::TraceAs)).ok_or(Opt::TraceAs)?;
+    let form = form_in(options)?;
+    let written = value_in(options, Opt::TraceAs);
+    if is_script(written) {
+        return Ok(Job::Script(form));
+    }
+    let format = read_trace_format(written).ok_or(Opt::TraceAs)?;
     Ok(Job::Bus(form, run.present, run.delays, run.mode, format))
 }
 
@@ -453,8 +485,13 @@ fn pages_job<'a>(run: Run, options: &ArgMatches<'_>) -> Result<Job<'a>, JobFault
     ensures value { job_result result ≡ wanted_pages (run_view run) (rows_of (found_of options.now)) }
     ensures own { IfErr result IsOwn }
 {
-    let form = read_form(value_in(options, Opt::ListingFrom)).ok_or(Opt::ListingFrom)?;
-    let plain = read_pages_output(value_in(options, Opt::PageAs)).ok_or(Opt::PageAs)?;
+    let form = form_in(options)?;
+    let written = value_in(options, Opt::PageAs);
+    if is_script(written) {
+        shown_in(Format::List, options)?;
+        return Ok(Job::Script(form));
+    }
+    let plain = read_pages_output(written).ok_or(Opt::PageAs)?;
     let output = pages_output_in(plain, options)?;
     Ok(Job::Pages(form, run.present, run.delays, run.mode, output))
 }

@@ -51,8 +51,11 @@ A list has strings, CHR$(n) and `;`. Variables, loops and `+` are refused.
 With --from prg the script is a saved program, whose strings have any byte but
 0 and 34; with --from petcat it is petcat's text of one, with names as {down};
 with --from magazine it is in capitals, with names as {CLR} and {5 SPACES}.
-Without --from a FILE named *.prg, *.p00, *.t64, *.petcat, *.bas or *.txt is
-read so, and any other by what its first bytes show.
+With --from basic the input is a whole program, which is run: what it prints is
+the script, and --as script writes it. What is not certain is refused.
+Without --from a FILE named *.prg, *.p00, *.t64, *.petcat or *.txt is read so,
+one named *.bas as a script, or as a program if it is none, and any other by
+what its first bytes show.
 
 Output: the marks on the paper of printers 4 and 5, the status of each
 statement, the bytes on the screen, and the BASIC error that stopped the run.

@@ -2,7 +2,7 @@
 
 ghost use Rattle.std.specs.Prelude.{[], false, option_map, ◌∷◌, ◌≡◌, IfSome};
 ghost use Rattle.pr_capture.specs.Recording.{alike};
-ghost use Rattle.pr_options.specs.Options.{before_of, bounds_of, decode_output_of, device_of, form_of, format_of, found_format_of, from_time_of, glitch_of, inverted_of, listening_of, mode_of, moment_of, pages_output_of, paper_of, present_of, rate_of, report_of, scale_of, scaled, set_of, sheet_numbered, sheet_of, source_of, start_of, threshold_between, threshold_in, threshold_of, top_numbered, top_of, trace_format_of, with_line};
+ghost use Rattle.pr_options.specs.Options.{before_of, bounds_of, decode_output_of, device_of, form_of, format_of, found_format_of, from_time_of, glitch_of, inverted_of, listening_of, mode_of, moment_of, pages_output_of, paper_of, present_of, rate_of, report_of, scale_of, scaled, set_of, sheet_numbered, sheet_of, source_of, start_of, steps_of, threshold_between, threshold_in, threshold_of, top_numbered, top_of, trace_format_of, with_line};
 ghost use Rattle.std.specs.Int.{div_ceil};
 ghost use Rattle.pr_options.specs.SignalNames.{are_names, differ, is_clock_twice, is_name, names_of, names_of_signals, three_names};
 
@@ -14,6 +14,7 @@ use pr_capture::{
 };
 use pr_dots::Scale;
 use pr_listing::ListingForm;
+use pr_programs::{Form, STEPS};
 use pr_render::{Device, Format, Layout, Look, Part, Size};
 use pr_report::{Bounds, Detail, Report};
 use pr_serial::Present;
@@ -33,17 +34,32 @@ pub fn read_present(text: &str) -> Option<Present>
     Some(Present { four, five })
 }
 
-/// The form of a listing: `text`, `prg`, `petcat`, `magazine` or `auto`, which the first bytes show (profile). None for any other text.
-pub fn read_form(text: &str) -> Option<ListingForm>
+/// The form of what a script is made of: a listing as `text`, `prg`, `petcat`, `magazine` or `auto`, which the first
+/// bytes show; a program that is run, `basic`; or `bas`, a script or else such a program (profile). A run has the usual
+/// number of steps, if no option says more. None for any other text.
+pub fn read_form(text: &str) -> Option<Form>
     ensures { result ≡ form_of text.now }
 {
     match text {
-        "text" => Some(ListingForm::Text),
-        "prg" => Some(ListingForm::Program),
-        "petcat" => Some(ListingForm::Petcat),
-        "magazine" => Some(ListingForm::Magazine),
-        "auto" => Some(ListingForm::Auto),
+        "text" => Some(Form::Listing(ListingForm::Text)),
+        "prg" => Some(Form::Listing(ListingForm::Program)),
+        "petcat" => Some(Form::Listing(ListingForm::Petcat)),
+        "magazine" => Some(Form::Listing(ListingForm::Magazine)),
+        "auto" => Some(Form::Listing(ListingForm::Auto)),
+        "basic" => Some(Form::Program { steps: STEPS }),
+        "bas" => Some(Form::Either { steps: STEPS }),
         _ => None,
+    }
+}
+
+/// The steps that a run has at most: decimal digits that spell a number from 1, below 2^64 (profile). None for any
+/// other text.
+pub fn read_steps(text: &str) -> Option<u64>
+    ensures { result ≡ steps_of text.now }
+{
+    match read_start(text) {
+        Some(n) => sheet_numbered(n),
+        None => None,
     }
 }
 

@@ -54,6 +54,7 @@ impl Subcommand {
         match self {
             Subcommand::Pages => &[
                 Opt::ListingFrom,
+                Opt::Steps,
                 Opt::Present,
                 Opt::Delays,
                 Opt::Status,
@@ -70,6 +71,7 @@ impl Subcommand {
             ],
             Subcommand::Bus => &[
                 Opt::ListingFrom,
+                Opt::Steps,
                 Opt::Present,
                 Opt::Delays,
                 Opt::Status,
@@ -136,6 +138,8 @@ impl Subcommand {
 pub enum Opt {
     /// The form of a listing: `--from` of `pages` and `bus`.
     ListingFrom,
+    /// The steps that the run of a program has at most.
+    Steps,
     /// The format of a trace that is checked: `--from` of `check`.
     From,
     /// The format of a recording that is decoded: `--from` of `decode`.
@@ -280,7 +284,7 @@ const LISTING_ENDINGS: &[NameEnding] = &[
     (".p00", "prg"),
     (".t64", "prg"),
     (".petcat", "petcat"),
-    (".bas", "text"),
+    (".bas", "bas"),
     (".txt", "text"),
 ];
 
@@ -395,11 +399,18 @@ const NO_ENDINGS: &[NameEnding] = &[];
 
 const LISTING_FROM_HELP: &str = "auto (what the first bytes show),\n\
      text, prg (a saved program),\n\
-     petcat (petcat's text of a program) or\n\
-     magazine (a magazine's listing)\n\
+     petcat (petcat's text of a program),\n\
+     magazine (a magazine's listing),\n\
+     basic (a program, which is run), or\n\
+     bas (text, or else basic)\n\
      [default: by FILE; standard input is text]";
 
-const LISTING_FROM_VALUES: &str = "auto, text, prg, petcat or magazine";
+const LISTING_FROM_VALUES: &str = "auto, text, prg, petcat, magazine, basic or bas";
+
+const STEPS_HELP: &str = "The statements that a program may run, and the\n\
+     ends of its lines, before it is refused";
+
+const STEPS_VALUES: &str = "a whole number from 1";
 
 const FROM_HELP: &str = "auto (what the first bytes show),\n\
      text (a trace as bus writes it),\n\
@@ -476,10 +487,10 @@ const THRESHOLD_VALUES: &str = "volts, as in 1.5 or 0.8,2, or none";
 
 const PAGE_AS_HELP: &str = "list (every mark with its place), text (lines for\n\
      a terminal), svg (a picture), png (a bitmap), pdf\n\
-     (sheets to print) or bytes (what a printer hears,\n\
-     for raw)";
+     (sheets to print), bytes (what a printer hears,\n\
+     for raw) or script (what is run)";
 
-const PAGE_AS_VALUES: &str = "list, text, svg, png, pdf or bytes";
+const PAGE_AS_VALUES: &str = "list, text, svg, png, pdf, bytes or script";
 
 const RAW_AS_HELP: &str = "list (every mark with its place), text (lines for\n\
      a terminal), svg (a picture), png (a bitmap) or\n\
@@ -487,10 +498,11 @@ const RAW_AS_HELP: &str = "list (every mark with its place), text (lines for\n\
 
 const RAW_AS_VALUES: &str = "list, text, svg, png or pdf";
 
-const TRACE_AS_HELP: &str = "text (a line for each edge) or\n\
-     vcd (a Value Change Dump)";
+const TRACE_AS_HELP: &str = "text (a line for each edge),\n\
+     vcd (a Value Change Dump) or\n\
+     script (what is run)";
 
-const TRACE_AS_VALUES: &str = "text or vcd";
+const TRACE_AS_VALUES: &str = "text, vcd or script";
 
 const REPORT_AS_HELP: &str = "frames (a line for each), story (times and\n\
      meaning) or json";
@@ -625,6 +637,7 @@ impl Opt {
                 INPUT_NAME,
                 LISTING_ENDINGS,
             ),
+            Opt::Steps => valued("steps", "NUMBER", "10000000", STEPS_VALUES, STEPS_HELP),
             Opt::From => with_endings(
                 valued("from", "FORMAT", "text", FROM_VALUES, FROM_HELP),
                 INPUT_NAME,

@@ -529,7 +529,7 @@ fn is_same(a: &[u8], b: &[u8]) -> bool
 }
 
 /// Whether words give this option or flag, not only its default.
-fn is_given(options: &ArgMatches<'_>, opt: Opt) -> bool
+pub fn is_given(options: &ArgMatches<'_>, opt: Opt) -> bool
     ensures { result ≡ is_given opt (rows_of (found_of options.now)) }
 {
     is_named(options, opt.row().name)

@@ -28,7 +28,7 @@ class Settings(Structure):
     _fields_ += [("explain", c_uint8)]
     _fields_ += [(it, c_uint64) for it in ("sheet", "from_time", "rate")]
     _fields_ += [("delays", c_char_p), ("names", c_char_p), ("characters", c_char_p), ("characters_length", c_size_t)]
-    _fields_ += [("reserved", c_uint64 * 4)]
+    _fields_ += [("steps", c_uint64), ("reserved", c_uint64 * 3)]
 
 
 class Edge(Structure):

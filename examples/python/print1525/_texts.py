@@ -16,8 +16,8 @@ if TYPE_CHECKING:
 Data = Union[str, bytes, bytearray, memoryview]
 
 # The named values of settings, in the order of their numbers. The first one is the default.
-As = Literal["usual", "list", "text", "frames", "story", "json", "vcd", "svg", "png", "pdf", "bytes"]
-From = Literal["usual", "auto", "text", "prg", "petcat", "magazine", "vcd", "csv"]
+As = Literal["usual", "list", "text", "frames", "story", "json", "vcd", "svg", "png", "pdf", "bytes", "script"]
+From = Literal["usual", "auto", "text", "prg", "petcat", "magazine", "vcd", "csv", "basic", "bas"]
 Present = Literal["both", "4", "5", "none"]
 Status = Literal["each", "kept"]
 Set = Literal["upper", "lower"]
@@ -27,7 +27,7 @@ Listening = Literal["none", "4", "5", "both"]
 _NAMED = {"as": As, "from": From, "present": Present, "status": Status, "set": Set, "paper": Paper, "bounds": Bounds}
 _NAMED["listening"] = Listening
 _BITS = dict.fromkeys(("device", "scale", "holes", "intervals", "invert", "strict", "explain"), 8)
-_BITS |= dict.fromkeys(("sheet", "from_time", "rate"), 64)
+_BITS |= dict.fromkeys(("sheet", "from_time", "rate", "steps"), 64)
 # `top` of paper whose first row is at its upper edge.
 _TOP_EDGE = 255
 
@@ -59,6 +59,7 @@ class Settings(TypedDict, total=False):
     delays: str  # as "900,999/9"
     names: str  # of ATN, CLOCK and DATA, as "A,C,D"
     characters: bytes  # a file of characters
+    steps: int  # the steps that a program in BASIC has at most; 0 for 10,000,000
 
 
 class Answer(NamedTuple):

@@ -26,6 +26,7 @@ pub struct Numbers {
     pub small: [u8; 16],
     /// `sheet`, `from_time` and `rate`.
     pub large: [u64; 3],
+    pub steps: u64,
 }
 
 #[repr(C)]
@@ -36,7 +37,8 @@ struct Settings {
     names: *const c_char,
     characters: *const c_void,
     characters_length: usize,
-    reserved: [u64; 4],
+    steps: u64,
+    reserved: [u64; 3],
 }
 
 /// The lines of the bus from this microsecond on, each 0 for pulled and any other number for released.
@@ -338,7 +340,8 @@ impl<'a> Chosen<'a> {
             names,
             characters: characters.as_ptr().cast(),
             characters_length: characters.len(),
-            reserved: [0; 4],
+            steps: numbers.steps,
+            reserved: [0; 3],
         };
         Chosen { settings, _texts: texts, _characters: PhantomData }
     }

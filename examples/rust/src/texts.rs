@@ -19,6 +19,7 @@ pub enum As {
     Png = 8,
     Pdf = 9,
     Bytes = 10,
+    Script = 11,
 }
 
 /// What the input is.
@@ -33,6 +34,8 @@ pub enum From {
     Magazine = 5,
     Vcd = 6,
     Csv = 7,
+    Basic = 8,
+    Bas = 9,
 }
 
 /// The printers on the bus.
@@ -128,6 +131,8 @@ pub struct Settings<'a> {
     pub names: &'a str,
     /// A file of characters; empty for this project's own.
     pub characters: &'a [u8],
+    /// The steps that a program in BASIC has at most; 0 for 10,000,000.
+    pub steps: u64,
 }
 
 impl<'a> Settings<'a> {
@@ -156,7 +161,7 @@ impl<'a> Settings<'a> {
             self.explain.into(),
         ];
         let large = [self.sheet, self.from_time, self.rate];
-        Chosen::new(Numbers { small, large }, self.delays, self.names, self.characters)
+        Chosen::new(Numbers { small, large, steps: self.steps }, self.delays, self.names, self.characters)
     }
 }
 

@@ -8,3 +8,9 @@ pub returns-then-is_to_find : goal.returns-then-is_to_find
 returns-then-is_to_find g c =
     let finds = sym c.is_to_find.ensures ∙ c.if-is_to_find.true in
     rw (c.in_default.is, finds) (rw c.in_default.is at c.answer_recording-then-is_to_find.ensures)
+
+pub returns-in-Either : goal.returns-in-Either
+returns-in-Either g c =
+    let plain = sym c.is_to_find.ensures ∙ c.if-is_to_find.false in
+    let form = sym c.form_of.ensures ∙ c.in-Either.is in
+    rw (c.in_default.is, plain, form) c.answer_either.ensures

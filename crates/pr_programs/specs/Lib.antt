@@ -1,0 +1,9 @@
+pub mod Errors
+pub mod Forms
+pub mod Made
+pub mod Rows
+pub mod Saved
+pub mod ScriptLaws
+pub mod Scripts
+pub mod Seen
+pub mod Typed
