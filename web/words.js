@@ -61,7 +61,7 @@ const WORDS = [
   [/write the table with -O csv:label=channel/, 'choose the signals by the names of its channels, or write the table again with -O csv:label=channel'],
   [/, as with --from basic; --as script writes what it prints/, ''],
   [/; --steps NUMBER gives it more steps/, ''],
-  [/.*--from (prg|petcat|text).*/, ''],
+  [/.*--from (basic|prg|petcat|text).*/, ''],
 ];
 
 /** A hint in the page's words, or nothing. */

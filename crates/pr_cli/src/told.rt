@@ -38,6 +38,10 @@ const LETTERS: &str =
 /// What is said of a refused script whose strings have them too, or that begins with petcat's heading.
 const PETCAT_TEXT: &str = "this may be petcat's text: --from petcat reads it";
 
+/// What is said of a refused script that may be a whole program.
+const PROGRAM: &str =
+    "--from basic runs a whole program, with variables and loops, or says why it does not";
+
 /// What is said of a refused script with two bytes a letter.
 const WIDE_SCRIPT: &str = "this is text in UTF-16; save it as ASCII or UTF-8";
 
@@ -419,7 +423,29 @@ fn script_hint(
     {
         Some(PETCAT_TEXT)
     } else {
-        wrapped_hint(script, fault)
+        line_hint(script, form, fault)
+    }
+}
+
+/// What is said of a script that is refused for a line, which was made of a listing in this form.
+fn line_hint(script: &[u8], form: ListingForm, fault: ScriptFault) -> Option<&'static str> {
+    let wrapped = wrapped_hint(script, fault);
+    if wrapped.is_some() {
+        wrapped
+    } else if (is_script(form) || form == ListingForm::Program) && is_numbered(script, fault) {
+        Some(PROGRAM)
+    } else {
+        None
+    }
+}
+
+/// Whether a script is refused for a word in a line that has a number.
+fn is_numbered(script: &[u8], fault: ScriptFault) -> bool {
+    match fault {
+        ScriptFault::UnknownWord(number) => {
+            matches!(line_numbered(script, number), [b'0'..=b'9', ..])
+        }
+        _ => false,
     }
 }
 
