@@ -231,7 +231,13 @@ enum print1525_fault {
     PRINT1525_FAULT_FULL_STACK = 144,
     PRINT1525_FAULT_FULL_MEMORY = 145,
     /* refused: the run of a program does not end within its steps; `place` is the number of the program's line */
-    PRINT1525_FAULT_TOO_MANY_STEPS = 146
+    PRINT1525_FAULT_TOO_MANY_STEPS = 146,
+    /* stopped: an error of a channel call in a program whose script is written, 150 and its number; `place` is the
+     * number of the program's line. Where the script is run, 100 and its number serve, and the statement */
+    PRINT1525_STOP_PROGRAM_TOO_MANY_FILES = 151,
+    PRINT1525_STOP_PROGRAM_FILE_OPEN = 152,
+    PRINT1525_STOP_PROGRAM_FILE_NOT_OPEN = 153,
+    PRINT1525_STOP_PROGRAM_NOT_INPUT_FILE = 156
 };
 
 /* What a fault says, in the program's words (of a BASIC error its name); "no fault" of any other number. The text stays

@@ -99,6 +99,10 @@ const char *print1525_strerror(int fault) {
     case PRINT1525_FAULT_FULL_STACK: return "stack may be full";
     case PRINT1525_FAULT_FULL_MEMORY: return "memory may be full";
     case PRINT1525_FAULT_TOO_MANY_STEPS: return "too many steps";
+    case PRINT1525_STOP_PROGRAM_TOO_MANY_FILES: return "TOO MANY FILES";
+    case PRINT1525_STOP_PROGRAM_FILE_OPEN: return "FILE OPEN";
+    case PRINT1525_STOP_PROGRAM_FILE_NOT_OPEN: return "FILE NOT OPEN";
+    case PRINT1525_STOP_PROGRAM_NOT_INPUT_FILE: return "NOT INPUT FILE";
     default: return "no fault";
     }
 }
@@ -117,7 +121,6 @@ static const char *counted(int fault) {
     if (fault >= PRINT1525_FAULT_ANOTHER_ATN && fault <= PRINT1525_FAULT_ANOTHER_DATA) return "line ";
     if (fault == PRINT1525_FAULT_BAD_SETTING) return "setting ";
     if (fault >= PRINT1525_FAULT_NO_LINE_NUMBER && fault <= PRINT1525_FAULT_FULL_MEMORY) return "line ";
-    if (fault == PRINT1525_FAULT_TOO_MANY_STEPS) return "line ";
     return NULL;
 }
 
@@ -160,6 +163,10 @@ size_t print1525_message(const print1525_details *details, char *text, size_t ca
             add(&to, ": ");
         }
         add(&to, print1525_strerror(fault));
+        if (fault == PRINT1525_FAULT_TOO_MANY_STEPS) {
+            add(&to, " in ");
+            add_number(&to, place);
+        }
         if (fault == PRINT1525_FAULT_NO_SUCH_SHEET && place == 1) {
             add(&to, ": the paper has one sheet");
         } else if (fault == PRINT1525_FAULT_NO_SUCH_SHEET) {

@@ -157,7 +157,7 @@ static size_t rows(const uint8_t *bytes, size_t size) {
 
 /* The details belong to the status, and the place to the program. */
 static void test_details(int status, const print1525_details *details, size_t length, size_t capacity, int is_saved, const uint8_t *bytes, size_t size) {
-    const int fault = details->fault, is_small = fault == PRINT1525_FAULT_TOO_SMALL, is_error = fault > 100 && fault < PRINT1525_FAULT_NO_LINE_NUMBER;
+    const int fault = details->fault, is_small = fault == PRINT1525_FAULT_TOO_SMALL, is_error = fault > 100 && (fault < PRINT1525_FAULT_NO_LINE_NUMBER || fault > PRINT1525_FAULT_TOO_MANY_STEPS);
     char message[199];
     const size_t said = print1525_message(details, message, sizeof message);
     if (status != details->status || status < 0 || status > 3) is_wrong("the status");

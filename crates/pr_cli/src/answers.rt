@@ -575,6 +575,9 @@ fn run_text<W: Write + Drop>(
         Err(fault) => {
             clear(rt, aside.is_shown);
             tell_basic(rt, bytes, fault, aside.is_explained);
+            if aside.is_noted {
+                note_listing(rt, aside.note);
+            }
             if aside.is_advised && is_explainable(fault) {
                 advise(rt);
             }

@@ -27,6 +27,11 @@ const TYPED_STRINGS: &str =
      after OPEN file,device,7, and {name} prints its letters; --from petcat reads both as typed, \
      and --from magazine reads names in braces among capitals";
 
+/// What is said of a program with small letters in its strings.
+const SMALL_LETTERS: &str =
+    "strings are sent as they are: small letters print graphics, or capitals after OPEN file,device,7; \
+     what petcat writes as a is typed here as A, and its A as {SHIFT-A}";
+
 /// What is said of petcat's text whose strings have more capitals than small letters.
 const PETCAT_CAPITALS: &str =
     "capitals in the strings of petcat's text are shifted letters, which the graphic set prints as graphics; \
@@ -763,15 +768,29 @@ fn has_typed_byte(bytes: &[u8]) -> bool {
     false
 }
 
-/// Whether the strings of petcat's text have more capitals than small letters. What is between braces is a name.
+/// Whether the strings of petcat's text have more capitals than small letters.
 fn has_more_capitals(text: &[u8]) -> bool {
+    let (capitals, smalls) = letters_in_strings(text);
+    capitals > smalls
+}
+
+/// Writes what is to be noted of the text of a program that was run.
+pub fn note_program(rt: &impl Eprint, text: &[u8]) {
+    let (_, smalls) = letters_in_strings(text);
+    if smalls > 0 {
+        note(rt, SMALL_LETTERS);
+    }
+}
+
+/// How many capitals and small letters the strings of a text have. What is between braces is a name.
+fn letters_in_strings(text: &[u8]) -> (usize, usize) {
     let mut capitals: usize = 0;
     let mut smalls: usize = 0;
     let mut is_quoted = false;
     let mut is_name = false;
     for byte in text {
         match *byte {
-            b'\n' => {
+            b'\n' | b'\r' => {
                 is_quoted = false;
                 is_name = false;
             }
@@ -783,5 +802,5 @@ fn has_more_capitals(text: &[u8]) -> bool {
             _ => {}
         }
     }
-    capitals > smalls
+    (capitals, smalls)
 }

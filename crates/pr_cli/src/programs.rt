@@ -2,6 +2,7 @@
 
 ghost use Rattle.std.specs.Prelude.{◌<◌, length};
 
+use crate::notes::note_program;
 use crate::statuses::End;
 use pr_interpreter::BasicError;
 use pr_programs::{BasicFault, Made, Ran, Reason, error_name};
@@ -14,8 +15,12 @@ const BEFORE: usize = 60;
 /// The most bytes of a row that are shown from a place on (profile).
 const REST: usize = 20;
 
+/// What is said of the place of an error that stopped the run of the script.
+const OF_THE_SCRIPT: &str =
+    "statements and their lines are counted in what the program prints: --as script writes it";
+
 /// Says how the run of a program ended of which there is a script: which error ended it, where no other stopped it
-/// before; and with notes, where STOP did, and where a POKE was left out.
+/// before; and with notes, where STOP did, where a POKE was left out, and what its strings are not.
 pub fn tell_ran(
     rt: &impl Eprint,
     text: &[u8],
@@ -25,6 +30,7 @@ pub fn tell_ran(
     is_noted: bool,
 ) {
     if is_noted {
+        note_program(rt, text);
         note_poke(rt, made.skipped_poke);
     }
     match (made.ran, end) {
@@ -36,6 +42,7 @@ pub fn tell_ran(
                 show_hint(rt, error_hint(error));
             }
         }
+        (_, End::StoppedAt { .. }) if is_explained => show_hint(rt, Some(OF_THE_SCRIPT)),
         (Ran::Break(line), End::Done) if is_noted => {
             let _ = rt.eprintln(format_args!("print1525: note: STOP ended the run in {line}"));
         }
@@ -89,14 +96,17 @@ pub fn is_explainable(fault: BasicFault) -> bool {
 /// What more there is to say of what is refused.
 fn reason_hint(reason: Reason) -> &'static str {
     match reason {
-        Reason::NoLineNumber => "each line of a program begins with its number",
+        Reason::NoLineNumber => {
+            "each line of a program begins with its number, and the numbers of a saved program ascend"
+        }
         Reason::LargeLineNumber => "line numbers go from 0 to 63999",
-        Reason::Syntax => "no value can be written so: the C64 reports ?SYNTAX ERROR here",
+        Reason::Syntax =>
+            "no value can be written so, or it is pi, which is not known here",
         Reason::Name => {
             "in a string { begins a name of a key and } ends it, as {DOWN}, {5 SPACES} or {$8E}"
         }
         Reason::Byte =>
-            "a string has letters, digits and signs of ASCII; other keys have names, as {SHIFT-A}",
+            "strings and DATA have letters, digits and signs of ASCII; in quotes other keys have names, as {SHIFT-A}",
         Reason::NotCertain => {
             "numbers are rounded in the C64, and its possible results give different answers here"
         }

@@ -123,12 +123,12 @@ text_numbers text.TooLarge = (9, 0, 0)
 text_numbers text.ReadFailed = (90, 0, 0)
 text_numbers text.NoMemory = (90, 0, 0)
 
--- an error of BASIC, by the machine's number
+-- an error of BASIC in a program, by the machine's number; with 50 where a script's run can have it too, whose place is a statement
 abbrev pub error_number : BasicError → ℕ
-error_number error.TooManyFiles = 1
-error_number error.FileOpen = 2
-error_number error.FileNotOpen = 3
-error_number error.NotInputFile = 6
+error_number error.TooManyFiles = 51
+error_number error.FileOpen = 52
+error_number error.FileNotOpen = 53
+error_number error.NotInputFile = 56
 error_number error.NextWithoutFor = 10
 error_number error.Syntax = 11
 error_number error.ReturnWithoutGosub = 12

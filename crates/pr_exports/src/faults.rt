@@ -192,10 +192,10 @@ fn error_number(error: BasicError) -> usize
     ensures { result ≡ error_number error }
 {
     match error {
-        BasicError::TooManyFiles => 1,
-        BasicError::FileOpen => 2,
-        BasicError::FileNotOpen => 3,
-        BasicError::NotInputFile => 6,
+        BasicError::TooManyFiles => 51,
+        BasicError::FileOpen => 52,
+        BasicError::FileNotOpen => 53,
+        BasicError::NotInputFile => 56,
         BasicError::NextWithoutFor => 10,
         BasicError::Syntax => 11,
         BasicError::ReturnWithoutGosub => 12,

@@ -8,7 +8,7 @@ use Rattle.pr_listing.specs.declared.fault.ListingFault.TheVariants as listing
 use Rattle.pr_listing.specs.declared.form.ListingForm.TheVariants.{Program as Saved}
 use Rattle.pr_programs.specs.declared.fault.BasicFault.TheVariants.{NoMemory}
 use Rattle.pr_programs.specs.Saved.{IsUnsaved, line_text, lines_text}
-use Rattle.pr_programs.specs.Seen.{IsReadTo, unsaved}
+use Rattle.pr_programs.specs.Seen.{IsReadTo, least_after, unsaved}
 
 -- one line more at the end
 begins-one_more : (ls : List Line) (l : Line) (bytes rest after : List ℕ) → BeginsWithLines ls bytes rest
@@ -17,19 +17,27 @@ begins-one_more [] l bytes rest after e b = (after, subst (λ (x : List ℕ). Be
 begins-one_more (m ∷ ms) l bytes rest after h b = (h.0, h.1, begins-one_more ms l h.0 rest after h.2 b)
 
 -- its text is at the end
-text-one_more : (ls : List Line) (l : Line) → lines_text (ls ++ l ∷ []) ≡ lines_text ls ++ line_text l
-text-one_more [] l = append-nil (line_text l)
-text-one_more (m ∷ ms) l = ap (λ t. line_text m ++ t) (text-one_more ms l)
-    ∙ sym (append_assoc (line_text m) (lines_text ms) (line_text l))
+text-one_more : (least : ℕ) (ls : List Line) (l : Line)
+    → lines_text least (ls ++ l ∷ []) ≡ lines_text least ls ++ line_text (least_after least ls) l
+text-one_more least [] l = append-nil (line_text least l)
+text-one_more least (m ∷ ms) l = ap (λ t. line_text least m ++ t) (text-one_more (m.number + 1) ms l)
+    ∙ sym (append_assoc (line_text least m) (lines_text (m.number + 1) ms) (line_text (least_after (m.number + 1) ms) l))
+
+-- the next one has a greater number
+least-one_more : (least : ℕ) (ls : List Line) (l : Line) → least_after least (ls ++ l ∷ []) ≡ l.number + 1
+least-one_more least [] l = refl
+least-one_more least (m ∷ ms) l = least-one_more (m.number + 1) ms l
 
 -- one line more is read
-pub read-one_more : (file text rest after : List ℕ) (number : ℕ) (l : Line) (more : List ℕ)
-    → IsReadTo file text rest number → BeginsWith l rest after → more ≡ text ++ line_text l
-    → IsReadTo file more after (number + 1)
-read-one_more file text rest after number l more h b e = record {
+pub read-one_more : (file text rest after : List ℕ) (number least next : ℕ) (l : Line) (more : List ℕ)
+    → IsReadTo file text rest number least → BeginsWith l rest after → more ≡ text ++ line_text least l
+    → next ≡ l.number + 1 → IsReadTo file more after (number + 1) next
+read-one_more file text rest after number least next l more h b e goes = record {
   lines = h.lines ++ l ∷ [];
   held = (h.held.0, h.held.1, h.held.2, h.held.3, begins-one_more h.lines l h.held.2 rest after h.held.4 b);
-  is_text = e ∙ ap (λ t. t ++ line_text l) h.is_text ∙ sym (text-one_more h.lines l);
+  is_text = e ∙ ap (λ t. t ++ line_text least l) h.is_text
+      ∙ ap (λ n. lines_text 0 h.lines ++ line_text n l) h.ascends ∙ sym (text-one_more 0 h.lines l);
+  ascends = goes ∙ sym (least-one_more 0 h.lines l);
   numbered = omega (arith, h.numbered, length-append h.lines (l ∷ []));
 }
 

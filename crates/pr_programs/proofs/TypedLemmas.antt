@@ -4,8 +4,9 @@ use Rattle.std.specs.Prelude.{if◌then◌else◌}
 use Rattle.std.proofs.lemmas.List.{drop-drop, get_or-drop}
 use Rattle.std.proofs.lemmas.Bool.{le-ltb, lt-ltb}
 use Rattle.pr_programs.specs.declared.fault.Reason.{Reason}
+use Rattle.pr_programs.specs.declared.typed.Part.{Part}
 use Rattle.pr_programs.specs.declared.typed.Piece.{Piece}
-use Rattle.pr_programs.specs.Typed.{Typed, after_piece, in_piece, piece, place_from, quoted_after, typed, typed_from, with_front}
+use Rattle.pr_programs.specs.Typed.{Typed, after_piece, in_piece, piece, place_from, part_after, typed, typed_from, with_front}
 
 -- nothing in front changes nothing
 pub with_nothing : (t : Typed) → with_front [] t ≡ t
@@ -18,33 +19,33 @@ with_fronts a b (Ok rest) = ap Ok (sym (append_assoc a b rest))
 with_fronts a b (Err fault) = refl
 
 -- the bytes that belong to a piece are skipped
-typed_skipped : (n place : ℕ) (quoted : Bool) (bs : List ℕ)
-    → typed_from place n quoted bs ≡ typed_from (place + n) 0 quoted (drop n bs)
+typed_skipped : (n place : ℕ) (part : Part) (bs : List ℕ)
+    → typed_from place n part bs ≡ typed_from (place + n) 0 part (drop n bs)
 unfolding typed_from
-typed_skipped zero place quoted bs = ap (λ v. typed_from v 0 quoted bs) (sym (add-zero place))
-typed_skipped (suc n) place quoted [] = refl
-typed_skipped (suc n) place quoted (b ∷ bs) =
+typed_skipped zero place part bs = ap (λ v. typed_from v 0 part bs) (sym (add-zero place))
+typed_skipped (suc n) place part [] = refl
+typed_skipped (suc n) place part (b ∷ bs) =
     let e : place + 1 + n ≡ place + suc n = omega arith in
-    typed_skipped n (place + 1) quoted bs ∙ ap (λ v. typed_from v 0 quoted (drop n bs)) e
+    typed_skipped n (place + 1) part bs ∙ ap (λ v. typed_from v 0 part (drop n bs)) e
 
 -- a piece at the front
-typed_piece : (place : ℕ) (quoted : Bool) (b : ℕ) (bs : List ℕ) (p : Piece) → piece quoted b bs ≡ Ok p → 0 < p.size
-    → typed_from place 0 quoted (b ∷ bs) ≡ with_front (replicate p.count p.byte)
-    (typed_from (place + p.size) 0 (quoted_after quoted b) (drop (p.size - 1) bs))
+typed_piece : (place : ℕ) (part : Part) (b : ℕ) (bs : List ℕ) (p : Piece) → piece part b bs ≡ Ok p → 0 < p.size
+    → typed_from place 0 part (b ∷ bs) ≡ with_front (replicate p.count p.byte)
+    (typed_from (place + p.size) 0 (part_after part b) (drop (p.size - 1) bs))
 unfolding typed_from
-typed_piece place quoted b bs p e h =
+typed_piece place part b bs p e h =
     let at : place + 1 + (p.size - 1) ≡ place + p.size = omega arith in
-    let more = typed_skipped (p.size - 1) (place + 1) (quoted_after quoted b) bs in
-    ap (λ r. after_piece place r (λ size. typed_from (place + 1) (size - 1) (quoted_after quoted b) bs)) e
+    let more = typed_skipped (p.size - 1) (place + 1) (part_after part b) bs in
+    ap (λ r. after_piece place r (λ size. typed_from (place + 1) (size - 1) (part_after part b) bs)) e
     ∙ ap (with_front (replicate p.count p.byte)) (more
-    ∙ ap (λ v. typed_from v 0 (quoted_after quoted b) (drop (p.size - 1) bs)) at)
+    ∙ ap (λ v. typed_from v 0 (part_after part b) (drop (p.size - 1) bs)) at)
 
 -- no piece at the front
-typed_refused : (place : ℕ) (quoted : Bool) (b : ℕ) (bs : List ℕ) (why : Reason) → piece quoted b bs ≡ Err why
-    → typed_from place 0 quoted (b ∷ bs) ≡ Err (place, why)
+typed_refused : (place : ℕ) (part : Part) (b : ℕ) (bs : List ℕ) (why : Reason) → piece part b bs ≡ Err why
+    → typed_from place 0 part (b ∷ bs) ≡ Err (place, why)
 unfolding typed_from
-typed_refused place quoted b bs why e = ap (λ r. after_piece place r
-    (λ size. typed_from (place + 1) (size - 1) (quoted_after quoted b) bs)) e
+typed_refused place part b bs why e = ap (λ r. after_piece place r
+    (λ size. typed_from (place + 1) (size - 1) (part_after part b) bs)) e
 
 -- what is left of a list from a place on
 left_at : (text : List ℕ) (place size : ℕ) → place < length text → 0 < size
@@ -67,127 +68,127 @@ byte_at : (text : List ℕ) (place : ℕ) → get_or (drop place text) 0 0 ≡ g
 byte_at text place = get_or-drop place text 0 0 ∙ ap (λ n. get_or text n 0) (add-zero place)
 
 -- a piece is taken at a place
-taken_at : (text : List ℕ) (place : ℕ) (quoted : Bool) (p : Piece) → place < length text
-    → Ok p ≡ piece quoted (get_or (drop place text) 0 0) (drop 1 (drop place text)) → 0 < p.size
-    → typed_from place 0 quoted (drop place text) ≡ with_front (replicate p.count p.byte)
-    (typed_from (place + p.size) 0 (quoted_after quoted (get_or (drop place text) 0 0))
+taken_at : (text : List ℕ) (place : ℕ) (part : Part) (p : Piece) → place < length text
+    → Ok p ≡ piece part (get_or (drop place text) 0 0) (drop 1 (drop place text)) → 0 < p.size
+    → typed_from place 0 part (drop place text) ≡ with_front (replicate p.count p.byte)
+    (typed_from (place + p.size) 0 (part_after part (get_or (drop place text) 0 0))
     (drop (place + p.size) text))
-taken_at text place quoted p h e k =
-    ap (typed_from place 0 quoted) (cut_at text place h)
-    ∙ (typed_piece place quoted (get_or (drop place text) 0 0) (drop 1 (drop place text)) p (sym e) k
+taken_at text place part p h e k =
+    ap (typed_from place 0 part) (cut_at text place h)
+    ∙ (typed_piece place part (get_or (drop place text) 0 0) (drop 1 (drop place text)) p (sym e) k
     ∙ ap (λ v. with_front (replicate p.count p.byte)
-    (typed_from (place + p.size) 0 (quoted_after quoted (get_or (drop place text) 0 0)) v))
+    (typed_from (place + p.size) 0 (part_after part (get_or (drop place text) 0 0)) v))
     (left_at text place p.size h k))
 
-pub typed_step : (text made new : List ℕ) (place : ℕ) (quoted next : Bool) (p : Piece) → place < length text
-    → Ok p ≡ piece quoted (get_or (drop place text) 0 0) (drop 1 (drop place text)) → 0 < p.size
-    → new ≡ made ++ replicate p.count p.byte → next ≡ quoted_after quoted (get_or text place 0)
-    → typed text ≡ with_front made (typed_from place 0 quoted (drop place text))
+pub typed_step : (text made new : List ℕ) (place : ℕ) (part next : Part) (p : Piece) → place < length text
+    → Ok p ≡ piece part (get_or (drop place text) 0 0) (drop 1 (drop place text)) → 0 < p.size
+    → new ≡ made ++ replicate p.count p.byte → next ≡ part_after part (get_or text place 0)
+    → typed text ≡ with_front made (typed_from place 0 part (drop place text))
     → typed text ≡ with_front new (typed_from (place + p.size) 0 next (drop (place + p.size) text))
-typed_step text made new place quoted next p h e k added goes leads =
-    let went : quoted_after quoted (get_or (drop place text) 0 0) ≡ next =
-    ap (quoted_after quoted) (byte_at text place) ∙ sym goes in
+typed_step text made new place part next p h e k added goes leads =
+    let went : part_after part (get_or (drop place text) 0 0) ≡ next =
+    ap (part_after part) (byte_at text place) ∙ sym goes in
     leads
-    ∙ (ap (with_front made) (taken_at text place quoted p h e k)
+    ∙ (ap (with_front made) (taken_at text place part p h e k)
     ∙ (with_fronts made (replicate p.count p.byte)
-    (typed_from (place + p.size) 0 (quoted_after quoted (get_or (drop place text) 0 0))
+    (typed_from (place + p.size) 0 (part_after part (get_or (drop place text) 0 0))
     (drop (place + p.size) text))
-    ∙ (ap (λ v. with_front v (typed_from (place + p.size) 0 (quoted_after quoted (get_or (drop place text) 0 0))
+    ∙ (ap (λ v. with_front v (typed_from (place + p.size) 0 (part_after part (get_or (drop place text) 0 0))
     (drop (place + p.size) text))) (sym added)
     ∙ ap (λ v. with_front new (typed_from (place + p.size) 0 v (drop (place + p.size) text))) went)))
 
 -- a text is refused at a place
-pub typed_stop : (text : List ℕ) (place : ℕ) (quoted : Bool) (why : Reason) → place < length text
-    → Err why ≡ piece quoted (get_or (drop place text) 0 0) (drop 1 (drop place text))
-    → typed_from place 0 quoted (drop place text) ≡ Err (place, why)
-typed_stop text place quoted why h e =
-    ap (typed_from place 0 quoted) (cut_at text place h)
-    ∙ typed_refused place quoted (get_or (drop place text) 0 0) (drop 1 (drop place text)) why (sym e)
+pub typed_stop : (text : List ℕ) (place : ℕ) (part : Part) (why : Reason) → place < length text
+    → Err why ≡ piece part (get_or (drop place text) 0 0) (drop 1 (drop place text))
+    → typed_from place 0 part (drop place text) ≡ Err (place, why)
+typed_stop text place part why h e =
+    ap (typed_from place 0 part) (cut_at text place h)
+    ∙ typed_refused place part (get_or (drop place text) 0 0) (drop 1 (drop place text)) why (sym e)
 
 -- nothing is left
-pub typed_end : (place : ℕ) (quoted : Bool) (front bs : List ℕ) → length bs ≡ 0
-    → with_front front (typed_from place 0 quoted bs) ≡ Ok front
+pub typed_end : (place : ℕ) (part : Part) (front bs : List ℕ) → length bs ≡ 0
+    → with_front front (typed_from place 0 part bs) ≡ Ok front
 unfolding typed_from
-typed_end place quoted front [] h = ap Ok (append-nil front)
-typed_end place quoted front (b ∷ bs) h = absurd (omega arith)
+typed_end place part front [] h = ap Ok (append-nil front)
+typed_end place part front (b ∷ bs) h = absurd (omega arith)
 
 -- ---- the same of places
 
-place_skipped : (n place : ℕ) (quoted : Bool) (made : ℕ) (bs : List ℕ) → n ≤ length bs
-    → place_from place n quoted made bs ≡ place_from (place + n) 0 quoted made (drop n bs)
+place_skipped : (n place : ℕ) (part : Part) (made : ℕ) (bs : List ℕ) → n ≤ length bs
+    → place_from place n part made bs ≡ place_from (place + n) 0 part made (drop n bs)
 unfolding place_from
-place_skipped zero place quoted made bs h = ap (λ v. place_from v 0 quoted made bs) (sym (add-zero place))
-place_skipped (suc n) place quoted made [] h = absurd (omega arith)
-place_skipped (suc n) place quoted made (b ∷ bs) h =
+place_skipped zero place part made bs h = ap (λ v. place_from v 0 part made bs) (sym (add-zero place))
+place_skipped (suc n) place part made [] h = absurd (omega arith)
+place_skipped (suc n) place part made (b ∷ bs) h =
     let e : place + 1 + n ≡ place + suc n = omega arith in
-    place_skipped n (place + 1) quoted made bs (omega arith) ∙ ap (λ v. place_from v 0 quoted made (drop n bs)) e
+    place_skipped n (place + 1) part made bs (omega arith) ∙ ap (λ v. place_from v 0 part made (drop n bs)) e
 
 -- the program's byte is not in the piece at the front
-place_after : (place : ℕ) (quoted : Bool) (made b : ℕ) (bs : List ℕ) (p : Piece) → piece quoted b bs ≡ Ok p → 0 < p.size
+place_after : (place : ℕ) (part : Part) (made b : ℕ) (bs : List ℕ) (p : Piece) → piece part b bs ≡ Ok p → 0 < p.size
     → p.size ≤ length bs + 1 → p.count ≤ made
-    → place_from place 0 quoted made (b ∷ bs) ≡ place_from (place + p.size) 0 (quoted_after quoted b) (made - p.count)
+    → place_from place 0 part made (b ∷ bs) ≡ place_from (place + p.size) 0 (part_after part b) (made - p.count)
     (drop (p.size - 1) bs)
 unfolding place_from
-place_after place quoted made b bs p e h l m =
+place_after place part made b bs p e h l m =
     let at : place + 1 + (p.size - 1) ≡ place + p.size = omega arith in
     let within : p.size - 1 ≤ length bs = omega arith in
-    let more = place_skipped (p.size - 1) (place + 1) (quoted_after quoted b) (made - p.count) bs within in
-    ap (λ r. in_piece place made r (λ size left. place_from (place + 1) (size - 1) (quoted_after quoted b) left bs)) e
-    ∙ (ap (λ t. if t then place else place_from (place + 1) (p.size - 1) (quoted_after quoted b) (made - p.count) bs)
+    let more = place_skipped (p.size - 1) (place + 1) (part_after part b) (made - p.count) bs within in
+    ap (λ r. in_piece place made r (λ size left. place_from (place + 1) (size - 1) (part_after part b) left bs)) e
+    ∙ (ap (λ t. if t then place else place_from (place + 1) (p.size - 1) (part_after part b) (made - p.count) bs)
     (le-ltb made p.count m)
-    ∙ (more ∙ ap (λ v. place_from v 0 (quoted_after quoted b) (made - p.count) (drop (p.size - 1) bs)) at))
+    ∙ (more ∙ ap (λ v. place_from v 0 (part_after part b) (made - p.count) (drop (p.size - 1) bs)) at))
 
 -- it is in that piece
-place_within : (place : ℕ) (quoted : Bool) (made b : ℕ) (bs : List ℕ) (p : Piece) → piece quoted b bs ≡ Ok p
-    → made < p.count → place_from place 0 quoted made (b ∷ bs) ≡ place
+place_within : (place : ℕ) (part : Part) (made b : ℕ) (bs : List ℕ) (p : Piece) → piece part b bs ≡ Ok p
+    → made < p.count → place_from place 0 part made (b ∷ bs) ≡ place
 unfolding place_from
-place_within place quoted made b bs p e m =
-    ap (λ r. in_piece place made r (λ size left. place_from (place + 1) (size - 1) (quoted_after quoted b) left bs)) e
-    ∙ ap (λ t. if t then place else place_from (place + 1) (p.size - 1) (quoted_after quoted b) (made - p.count) bs)
+place_within place part made b bs p e m =
+    ap (λ r. in_piece place made r (λ size left. place_from (place + 1) (size - 1) (part_after part b) left bs)) e
+    ∙ ap (λ t. if t then place else place_from (place + 1) (p.size - 1) (part_after part b) (made - p.count) bs)
     (lt-ltb made p.count m)
 
 -- no piece is at the front
-place_refused : (place : ℕ) (quoted : Bool) (made b : ℕ) (bs : List ℕ) (why : Reason) → piece quoted b bs ≡ Err why
-    → place_from place 0 quoted made (b ∷ bs) ≡ place
+place_refused : (place : ℕ) (part : Part) (made b : ℕ) (bs : List ℕ) (why : Reason) → piece part b bs ≡ Err why
+    → place_from place 0 part made (b ∷ bs) ≡ place
 unfolding place_from
-place_refused place quoted made b bs why e =
-    ap (λ r. in_piece place made r (λ size left. place_from (place + 1) (size - 1) (quoted_after quoted b) left bs)) e
+place_refused place part made b bs why e =
+    ap (λ r. in_piece place made r (λ size left. place_from (place + 1) (size - 1) (part_after part b) left bs)) e
 
 -- a piece is passed at a place
-pub place_step : (text : List ℕ) (place : ℕ) (quoted next : Bool) (made : ℕ) (p : Piece) → place < length text
-    → Ok p ≡ piece quoted (get_or (drop place text) 0 0) (drop 1 (drop place text)) → 0 < p.size
+pub place_step : (text : List ℕ) (place : ℕ) (part next : Part) (made : ℕ) (p : Piece) → place < length text
+    → Ok p ≡ piece part (get_or (drop place text) 0 0) (drop 1 (drop place text)) → 0 < p.size
     → p.size ≤ length (drop place text) → p.count ≤ made
-    → next ≡ quoted_after quoted (get_or text place 0)
-    → place_from place 0 quoted made (drop place text) ≡ place_from (place + p.size) 0 next (made - p.count)
+    → next ≡ part_after part (get_or text place 0)
+    → place_from place 0 part made (drop place text) ≡ place_from (place + p.size) 0 next (made - p.count)
     (drop (place + p.size) text)
-place_step text place quoted next made p h e k l m goes =
+place_step text place part next made p h e k l m goes =
     let within : p.size ≤ length (drop 1 (drop place text)) + 1 = omega (arith, length-drop 1 (drop place text)) in
-    let went : quoted_after quoted (get_or (drop place text) 0 0) ≡ next =
-    ap (quoted_after quoted) (byte_at text place) ∙ sym goes in
-    ap (place_from place 0 quoted made) (cut_at text place h)
-    ∙ (place_after place quoted made (get_or (drop place text) 0 0) (drop 1 (drop place text)) p (sym e) k within m
-    ∙ (ap (place_from (place + p.size) 0 (quoted_after quoted (get_or (drop place text) 0 0)) (made - p.count))
+    let went : part_after part (get_or (drop place text) 0 0) ≡ next =
+    ap (part_after part) (byte_at text place) ∙ sym goes in
+    ap (place_from place 0 part made) (cut_at text place h)
+    ∙ (place_after place part made (get_or (drop place text) 0 0) (drop 1 (drop place text)) p (sym e) k within m
+    ∙ (ap (place_from (place + p.size) 0 (part_after part (get_or (drop place text) 0 0)) (made - p.count))
     (left_at text place p.size h k)
     ∙ ap (λ v. place_from (place + p.size) 0 v (made - p.count) (drop (place + p.size) text)) went))
 
 -- the byte is in the piece at a place
-pub place_found : (text : List ℕ) (place : ℕ) (quoted : Bool) (made : ℕ) (p : Piece) → place < length text
-    → Ok p ≡ piece quoted (get_or (drop place text) 0 0) (drop 1 (drop place text)) → made < p.count
-    → place_from place 0 quoted made (drop place text) ≡ place
-place_found text place quoted made p h e m =
-    ap (place_from place 0 quoted made) (cut_at text place h)
-    ∙ place_within place quoted made (get_or (drop place text) 0 0) (drop 1 (drop place text)) p (sym e) m
+pub place_found : (text : List ℕ) (place : ℕ) (part : Part) (made : ℕ) (p : Piece) → place < length text
+    → Ok p ≡ piece part (get_or (drop place text) 0 0) (drop 1 (drop place text)) → made < p.count
+    → place_from place 0 part made (drop place text) ≡ place
+place_found text place part made p h e m =
+    ap (place_from place 0 part made) (cut_at text place h)
+    ∙ place_within place part made (get_or (drop place text) 0 0) (drop 1 (drop place text)) p (sym e) m
 
-pub place_stop : (text : List ℕ) (place : ℕ) (quoted : Bool) (made : ℕ) (why : Reason) → place < length text
-    → Err why ≡ piece quoted (get_or (drop place text) 0 0) (drop 1 (drop place text))
-    → place_from place 0 quoted made (drop place text) ≡ place
-place_stop text place quoted made why h e =
-    ap (place_from place 0 quoted made) (cut_at text place h)
-    ∙ place_refused place quoted made (get_or (drop place text) 0 0) (drop 1 (drop place text)) why (sym e)
+pub place_stop : (text : List ℕ) (place : ℕ) (part : Part) (made : ℕ) (why : Reason) → place < length text
+    → Err why ≡ piece part (get_or (drop place text) 0 0) (drop 1 (drop place text))
+    → place_from place 0 part made (drop place text) ≡ place
+place_stop text place part made why h e =
+    ap (place_from place 0 part made) (cut_at text place h)
+    ∙ place_refused place part made (get_or (drop place text) 0 0) (drop 1 (drop place text)) why (sym e)
 
 -- nothing is left
-pub place_end : (place : ℕ) (quoted : Bool) (made : ℕ) (bs : List ℕ) → length bs ≡ 0
-    → place_from place 0 quoted made bs ≡ place
+pub place_end : (place : ℕ) (part : Part) (made : ℕ) (bs : List ℕ) → length bs ≡ 0
+    → place_from place 0 part made bs ≡ place
 unfolding place_from
-place_end place quoted made [] h = refl
-place_end place quoted made (b ∷ bs) h = absurd (omega arith)
+place_end place part made [] h = refl
+place_end place part made (b ∷ bs) h = absurd (omega arith)

@@ -1,5 +1,5 @@
 -- Linking words: what the code's functions give. No reader needs to believe them.
-use Rattle.std.specs.Prelude.{ℕ, suc, ◌≡◌, ◌⊎◌, ◌<◌, ⊤, List, ◌∷◌, ◌++◌, Result, Err, length}
+use Rattle.std.specs.Prelude.{ℕ, suc, ◌≡◌, ◌⊎◌, ◌<◌, ⊤, List, ◌∷◌, ◌++◌, ◌+◌, [], Result, Err, length}
 use Rattle.pr_basic.specs.Grammar.{Item}
 use Rattle.pr_listing.specs.Program.{Holds, Line}
 use Rattle.pr_listing.specs.declared.fault.ListingFault.{ListingFault}
@@ -28,11 +28,17 @@ pub record IsItemAdded (bytes rest old new : List ℕ) : Type 0 where
   pub is_text : new ≡ old ++ item_text item
   pub less : length rest < length bytes
 
--- the lines in front of the rest of a file were read: their text, and the number of the next one
-pub record IsReadTo (file text rest : List ℕ) (number : ℕ) : Type 0 where
+-- the least number that a line can have after others
+abbrev pub least_after : (least : ℕ) → List Line → ℕ
+least_after least [] = least
+least_after least (l ∷ ls) = least_after (l.number + 1) ls
+
+-- the lines in front of the rest of a file were read: their text, the count of the next one and its least number
+pub record IsReadTo (file text rest : List ℕ) (number least : ℕ) : Type 0 where
   pub lines : List Line
   pub held : Holds lines file rest
-  pub is_text : text ≡ lines_text lines
+  pub is_text : text ≡ lines_text 0 lines
+  pub ascends : least ≡ least_after 0 lines
   pub numbered : number ≡ suc (length lines)
 
 -- the fault of a saved program that has no text

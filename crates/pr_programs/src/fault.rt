@@ -9,7 +9,7 @@ use thiserror::Error;
 /// What is refused at a place of a program.
 #[derive(Clone, Copy, Debug, PartialEq, Eq, Error)]
 pub enum Reason {
-    /// A row does not begin with a line number.
+    /// A row does not begin with a line number, or that of a saved program is not above the one before.
     #[error("no line number")]
     NoLineNumber,
     /// A line number is above 63999.
@@ -21,7 +21,7 @@ pub enum Reason {
     /// A brace in a string begins no name of a key.
     #[error("unknown name")]
     Name,
-    /// A string has a byte that is none of 32 to 126.
+    /// A string or an item of DATA has a byte that is none of 32 to 126, or an item of DATA a brace.
     #[error("bad byte")]
     Byte,
     /// What the machine would do is not certain: a value, or the screen's column.
@@ -70,7 +70,7 @@ pub enum BasicFault {
     #[error("{0}")]
     Listing(ListingFault),
     /// The run has as many steps as it may have, and is in this line of the program.
-    #[error("line {0}: too many steps")]
+    #[error("too many steps in {0}")]
     TooManySteps(u16),
     /// Memory was refused.
     #[error("out of memory")]

@@ -5,10 +5,12 @@ ghost use Rattle.pr_listing.specs.Keywords.{is_token};
 ghost use Rattle.pr_listing.specs.Listing.{is_letter};
 ghost use Rattle.pr_listing.specs.Program.{IsProgramFault};
 ghost use Rattle.pr_programs.specs.Seen.{unsaved};
-ghost use Rattle.pr_programs.specs.Saved.{IsSavedText, IsTypedProgram, IsUnsaved, byte_text, bytes_text, digit, is_plain, key_text, line_text, mode_after, spelled};
+ghost use Rattle.pr_programs.specs.Saved.{IsSavedText, IsTypedProgram, IsUnsaved, byte_text, bytes_text, colon, digit, is_stray, key_text, line_text, mode_after, spelled};
 
 use crate::fault::BasicFault;
 use crate::lists::add_number;
+use crate::typed::{ends_row, is_plain};
+use pr_base::is_digit;
 use pr_listing::{Front, ListingFault, ListingForm, found_form, front_of, program_in, token_name};
 use pr_page::Sequence;
 use std::alloc::{AllocError, Global};
@@ -46,13 +48,6 @@ impl Mode {
     }
 }
 
-/// Whether a string that is typed has a byte as it is.
-fn is_plain(b: u8) -> bool
-    ensures { result ≡ is_plain b }
-{
-    b >= b' ' && b <= b'~' && b != b'{'
-}
-
 /// Returns whether a byte of a statement is a token.
 fn is_token(b: u8) -> bool
     ensures { result ≡ is_token b }
@@ -65,6 +60,23 @@ fn is_letter(b: u8) -> bool
     ensures { result ≡ is_letter b }
 {
     (b >= b'A' && b <= b'Z') || (b >= b'a' && b <= b'z')
+}
+
+/// What stands for a byte that no typed line can have: no statement begins with it, and no item of DATA has it.
+const NOTHING: u8 = 1;
+
+/// Returns whether a byte of a statement means something else in a typed line.
+fn is_stray(b: u8) -> bool
+    ensures { result ≡ is_stray b }
+{
+    ends_row(b)
+        || (b >= b'a' && b <= b'z')
+        || b == b'*'
+        || b == b'+'
+        || b == b'-'
+        || b == b'/'
+        || (b >= b'<' && b <= b'?')
+        || b == b'^'
 }
 
 /// Returns the hexadecimal digit of a number below 16.
@@ -96,6 +108,10 @@ fn add_spelled(text: &mut Vec<u8>, b: u8) -> Result<(), AllocError>
         text.push(b' ')?;
         return Ok(());
     }
+    if is_stray(b) {
+        text.push(NOTHING)?;
+        return Ok(());
+    }
     text.push(b)?;
     if is_letter(b) {
         text.push(b' ')?;
@@ -111,7 +127,7 @@ fn add_byte(text: &mut Vec<u8>, mode: Mode, b: u8) -> Result<(), AllocError>
         Mode::Plain => add_spelled(text, b),
         Mode::Quoted | Mode::QuotedItem => add_quoted(text, b),
         Mode::Items => {
-            text.push(b)?;
+            text.push(if ends_row(b) { NOTHING } else { b })?;
             Ok(())
         }
         Mode::Remark => {
@@ -133,13 +149,32 @@ fn add_bytes(text: &mut Vec<u8>, bytes: &[u8]) -> Result<(), AllocError>
     Ok(())
 }
 
-/// Adds a line of a saved program.
-fn add_line(text: &mut Vec<u8>, number: u32, bytes: &[u8]) -> Result<(), AllocError>
-    ensures { OnOk result
-        (text.new.items ≡ text.old.items ++ line_text (record { number = number; bytes = bytes.now })) }
+/// Adds a colon in front of a line whose bytes would belong to its number, or that has none.
+fn add_colon(text: &mut Vec<u8>, bytes: &[u8]) -> Result<(), AllocError>
+    ensures { OnOk result (text.new.items ≡ text.old.items ++ colon bytes.now) }
 {
+    let is_apart = match bytes {
+        [] => false,
+        [first, ..] => !is_digit(*first) && *first != b' ',
+    };
+    if is_apart {
+        return Ok(());
+    }
+    text.push(b':')?;
+    Ok(())
+}
+
+/// Adds a line of a saved program, whose number is to be `least` at least.
+fn add_line(text: &mut Vec<u8>, least: u64, number: u32, bytes: &[u8]) -> Result<(), AllocError>
+    ensures { OnOk result
+        (text.new.items ≡ text.old.items ++ line_text least (record { number = number; bytes = bytes.now })) }
+{
+    if u64::from(number) < least {
+        text.push(b':')?;
+    }
     add_number(text, number)?;
     text.push(b' ')?;
+    add_colon(text, bytes)?;
     add_bytes(text, bytes)?;
     text.push(b'\n')?;
     Ok(())
@@ -156,6 +191,7 @@ fn saved_text(alloc: Global, file: &[u8]) -> Result<Vec<u8>, ListingFault>
     let mut text = Vec::new(alloc);
     let mut rest = &file[2..];
     let mut number = 1;
+    let mut least = 0;
     'lines: loop {
         match front_of(rest) {
             Front::Line {
@@ -163,10 +199,11 @@ fn saved_text(alloc: Global, file: &[u8]) -> Result<Vec<u8>, ListingFault>
                 bytes,
                 rest: more,
             } => {
-                if let Err(_) = add_line(&mut text, line, bytes) {
+                if let Err(_) = add_line(&mut text, least, line, bytes) {
                     return Err(ListingFault::NoMemory);
                 }
                 number += 1;
+                least = u64::from(line) + 1;
                 rest = more;
             }
             Front::End if number == 1 => return Err(ListingFault::NoLine),

@@ -2,11 +2,20 @@
 
 ghost use Rattle.std.specs.Prelude.{◌≡◌, ◌++◌, ◌+◌, ◌<◌, ◌≤◌, IfErr, IfOk, Ok, OnOk, drop, get_or, length, replicate};
 ghost use Rattle.pr_programs.specs.Seen.{TypedFaultsAs};
-ghost use Rattle.pr_programs.specs.Typed.{ends_row, is_kept, key, name_size, piece, place_of, quoted_after, typed};
+ghost use Rattle.pr_programs.specs.Typed.{ends_row, is_kept, is_letter, is_plain, key, letters_after, name_size, part_after, piece, place_of, quoted_after, typed};
 
 use crate::fault::Reason;
 use pr_listing::{Brackets, Spelling, bracketed};
 use std::alloc::{AllocError, Global};
+
+/// Where a byte of a typed text is.
+#[derive(Clone, Copy, Debug, PartialEq, Eq)]
+pub struct Part {
+    /// In a string.
+    pub quoted: bool,
+    /// How many letters of DATA are just before it, outside strings; 4 from DATA to the end of its row.
+    pub letters: u8,
+}
 
 /// A piece of a typed text.
 #[derive(Clone, Copy, Debug, PartialEq, Eq)]
@@ -22,14 +31,14 @@ pub struct Piece {
 /// Why a typed text is no text of a program.
 #[derive(Clone, Copy, Debug, PartialEq, Eq)]
 pub enum TypedFault {
-    /// At this place, the number of bytes before it, a string has what it cannot have.
+    /// At this place, the number of bytes before it, a string or an item of DATA has what it cannot have.
     At(usize, Reason),
     /// Memory was refused.
     NoMemory,
 }
 
 /// Returns whether a byte ends a row.
-fn ends_row(b: u8) -> bool
+pub fn ends_row(b: u8) -> bool
     ensures { result ≡ ends_row b }
 {
     b == b'\n' || b == b'\r'
@@ -51,6 +60,53 @@ fn quoted_after(quoted: bool, b: u8) -> bool
     } else {
         quoted && !ends_row(b)
     }
+}
+
+/// Returns whether a byte is the letter of DATA, in either case, before which so many are.
+fn is_letter(letters: u8, b: u8) -> bool
+    ensures { result ≡ is_letter letters b }
+{
+    match letters {
+        0 => b == b'D' || b == b'd',
+        2 => b == b'T' || b == b't',
+        _ => b == b'A' || b == b'a',
+    }
+}
+
+/// Returns how many letters of DATA are before the next byte.
+fn letters_after(part: Part, b: u8) -> u8
+    ensures { result ≡ letters_after part b }
+{
+    if ends_row(b) {
+        0
+    } else if part.letters >= 4 {
+        4
+    } else if part.quoted {
+        0
+    } else if is_letter(part.letters, b) {
+        part.letters + 1
+    } else if is_letter(0, b) {
+        1
+    } else {
+        0
+    }
+}
+
+/// Returns where the byte after one is.
+fn part_after(part: Part, b: u8) -> Part
+    ensures { result ≡ part_after part b }
+{
+    Part {
+        quoted: quoted_after(part.quoted, b),
+        letters: letters_after(part, b),
+    }
+}
+
+/// Returns whether a byte is typed as it is, in a string or behind DATA.
+pub fn is_plain(b: u8) -> bool
+    ensures { result ≡ is_plain b }
+{
+    b >= b' ' && b <= b'~' && b != b'{'
 }
 
 /// Returns how many bytes are before a closing brace.
@@ -92,9 +148,9 @@ fn key(bytes: &[u8]) -> Result<Piece, Reason>
 
 /// Returns the piece at the front of some bytes, of which there is one.
 #[tactic(auto, unfolding(crate::specs::Typed::piece))]
-fn front_piece(quoted: bool, bytes: &[u8]) -> Result<Piece, Reason>
+fn front_piece(part: Part, bytes: &[u8]) -> Result<Piece, Reason>
     requires { 0 < length bytes.now }
-    ensures value { result ≡ piece quoted (get_or bytes.now 0 0) (drop 1 bytes.now) }
+    ensures value { result ≡ piece part (get_or bytes.now 0 0) (drop 1 bytes.now) }
     ensures some { IfOk result (λ piece. 0 < piece.size) }
     ensures within { IfOk result (λ piece. piece.size ≤ length bytes.now) }
 {
@@ -104,13 +160,13 @@ fn front_piece(quoted: bool, bytes: &[u8]) -> Result<Piece, Reason>
         count: 1,
         size: 1,
     };
-    if !quoted || ends_row(byte) {
+    if ends_row(byte) {
         return Ok(itself);
     }
-    if byte == b'{' {
+    if part.quoted && byte == b'{' {
         return key(&bytes[1..]);
     }
-    if byte >= b' ' && byte <= b'~' {
+    if is_plain(byte) || !(part.quoted || part.letters >= 4) {
         return Ok(itself);
     }
     Err(Reason::Byte)
@@ -131,7 +187,8 @@ fn add_times(text: &mut Vec<u8>, byte: u8, count: u32) -> Result<(), AllocError>
 ///
 /// # Errors
 ///
-/// - [`TypedFault::At`]: the first place in a string where a brace begins no name, or a byte is none of 32 to 126.
+/// - [`TypedFault::At`]: the first place in a string where a brace begins no name, or in a string or behind DATA where
+///   a byte is none of 32 to 126, or behind DATA a brace outside strings.
 /// - [`TypedFault::NoMemory`]: memory was refused.
 pub fn typed_text(alloc: Global, text: &[u8]) -> Result<Vec<u8>, TypedFault>
     ensures ok { IfOk result (λ bytes. typed text.now ≡ Ok bytes.items) }
@@ -139,14 +196,17 @@ pub fn typed_text(alloc: Global, text: &[u8]) -> Result<Vec<u8>, TypedFault>
 {
     let mut made = Vec::new(alloc);
     let mut place = 0;
-    let mut quoted = false;
+    let mut part = Part {
+        quoted: false,
+        letters: 0,
+    };
     while place < text.len() {
-        match front_piece(quoted, &text[place..]) {
+        match front_piece(part, &text[place..]) {
             Ok(piece) => {
                 if let Err(_) = add_times(&mut made, piece.byte, piece.count) {
                     return Err(TypedFault::NoMemory);
                 }
-                quoted = quoted_after(quoted, text[place]);
+                part = part_after(part, text[place]);
                 place += piece.size;
             }
             Err(reason) => return Err(TypedFault::At(place, reason)),
@@ -161,16 +221,19 @@ pub fn place_of(text: &[u8], made: usize) -> usize
 {
     let mut left = made;
     let mut place = 0;
-    let mut quoted = false;
+    let mut part = Part {
+        quoted: false,
+        letters: 0,
+    };
     while place < text.len() {
-        match front_piece(quoted, &text[place..]) {
+        match front_piece(part, &text[place..]) {
             Ok(piece) => {
                 let count = piece.count as usize;
                 if left < count {
                     return place;
                 }
                 left -= count;
-                quoted = quoted_after(quoted, text[place]);
+                part = part_after(part, text[place]);
                 place += piece.size;
             }
             Err(_reason) => return place,

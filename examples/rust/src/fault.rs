@@ -94,3 +94,7 @@ pub const OPEN_FILES: i32 = 143;
 pub const FULL_STACK: i32 = 144;
 pub const FULL_MEMORY: i32 = 145;
 pub const TOO_MANY_STEPS: i32 = 146;
+pub const STOP_PROGRAM_TOO_MANY_FILES: i32 = 151;
+pub const STOP_PROGRAM_FILE_OPEN: i32 = 152;
+pub const STOP_PROGRAM_FILE_NOT_OPEN: i32 = 153;
+pub const STOP_PROGRAM_NOT_INPUT_FILE: i32 = 156;

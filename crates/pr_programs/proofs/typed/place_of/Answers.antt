@@ -6,13 +6,13 @@ use Rattle.pr_programs.proofs.typed.place_of.Goals as goal
 pub returns-in-Err : goal.returns-in-Err
 returns-in-Err c =
     let value = rw (take_rest c.args.text.now c.loop-place.place) at c.in-Err.ensures.value in
-    sym (c.loop-place.invariant.leads ∙ place_stop c.args.text.now c.loop-place.place c.loop-place.quoted
+    sym (c.loop-place.invariant.leads ∙ place_stop c.args.text.now c.loop-place.place c.loop-place.part
     c.loop-place.left c.in-Err._reason c.loop-place-test.true value)
 
 pub returns-then-left-count : goal.returns-then-left-count
 returns-then-left-count c =
     let value = rw (take_rest c.args.text.now c.loop-place.place) at c.in-Ok.ensures.value in
-    sym (c.loop-place.invariant.leads ∙ place_found c.args.text.now c.loop-place.place c.loop-place.quoted
+    sym (c.loop-place.invariant.leads ∙ place_found c.args.text.now c.loop-place.place c.loop-place.part
     c.loop-place.left c.in-Ok.piece c.loop-place-test.true value c.if-left-count.true)
 
 pub loop-place-preserved : goal.loop-place-preserved
@@ -21,9 +21,9 @@ loop-place-preserved c =
     let value = rw (take_rest c.args.text.now c.loop-place.place) at c.in-Ok.ensures.value in
     record {
       leads = c.loop-place.invariant.leads
-          ∙ place_step c.args.text.now c.loop-place.place c.loop-place.quoted _ c.loop-place.left c.in-Ok.piece
+          ∙ place_step c.args.text.now c.loop-place.place c.loop-place.part _ c.loop-place.left c.in-Ok.piece
           c.loop-place-test.true value c.in-Ok.ensures.some within c.if-left-count.false
-          c.quoted_after-quoted.ensures;
+          c.part_after-part.ensures;
       within = omega (arith, within, length-drop c.loop-place.place c.args.text.now, c.loop-place.invariant.within);
     }
 
@@ -31,5 +31,5 @@ pub returns : goal.returns
 returns c =
     let empty : length (drop c.loop-place.place c.args.text.now) ≡ 0 =
     omega (arith, length-drop c.loop-place.place c.args.text.now, c.loop-place-test.false) in
-    sym (c.loop-place.invariant.leads ∙ place_end c.loop-place.place c.loop-place.quoted c.loop-place.left
+    sym (c.loop-place.invariant.leads ∙ place_end c.loop-place.place c.loop-place.part c.loop-place.left
     (drop c.loop-place.place c.args.text.now) empty)
