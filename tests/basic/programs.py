@@ -1,10 +1,11 @@
 #!/usr/bin/env python3
 """tests/basic/programs.py PROGRAM: runs the programs of this folder and compares with what they have to print.
 
-Each NAME.bas is run by tests/lib/basic.py, and by PROGRAM (--from basic), which has to perform the same. The statements
-that it performs are NAME.script, how it ends is NAME.end, and the lines that PROGRAM makes of the script are NAME.page;
-a program that is refused has no page. Each list of lists.txt and each program of runs.txt prints what it says there.
-Random programs follow, whose scripts PROGRAM has to accept.
+Each NAME.bas is run by tests/lib/basic.py, and by PROGRAM (--from basic), which has to perform the same and to end in
+the same way: with the same error in the same line, or refused at the same place. The statements that it performs are
+NAME.script, how it ends is NAME.end, and the lines that PROGRAM makes of the script are NAME.page; a program that is
+refused has no page. Each list of lists.txt and each program of runs.txt prints what it says there, by both. Random
+programs follow, whose scripts PROGRAM has to accept.
 
     tests/basic/programs.py --make N FIRST FOLDER
 
@@ -31,13 +32,24 @@ def script_text(outcome: Outcome) -> bytes:
     return "".join(f"{line}\n" for line in outcome.script).encode()
 
 
+def said_of(end: str) -> str:
+    """How the line begins that PROGRAM writes of a run that ends so; nothing where it is no error."""
+    refused = re.match(r"refused at (line \d+, column \d+)", end)
+    error = re.fullmatch(r"\?(.*) in (\d+)", end)
+    if refused:
+        return f"print1525: {refused[1]}: "
+    return f"print1525: ?{error[1]}  ERROR IN {error[2]}" if error else ""
+
+
 def check_run(checks: Checks, program: str, name: str, text: bytes, outcome: Outcome) -> None:
-    """PROGRAM runs a program itself, and performs the same statements."""
+    """PROGRAM runs a program itself, performs the same statements and ends in the same way."""
     ran = run(program, "pages", "--from", "basic", "--as", "script", data=text)
     is_refused = outcome.end.startswith("refused")
     checks.expect(ran.output == (b"" if is_refused else script_text(outcome)), f"{name}: --from basic performs others: {ran.error}")
     status = 2 if is_refused else int(outcome.end.startswith("?"))
     checks.expect(ran.status == status, f"{name}: --from basic ends with {ran.status}, not {status}: {ran.error}")
+    said = ran.error.startswith(said_of(outcome.end)) if is_refused else ran.error == said_of(outcome.end)
+    checks.expect(said, f"{name}: --from basic says {ran.error}, not {outcome.end}")
 
 
 def check_program(checks: Checks, program: str, name: str) -> None:
@@ -65,25 +77,29 @@ def printed(script: list[str]) -> str:
     return re.sub(r"CHR\$\((\d+)\)", r"{\1}", found).replace(";", "").replace('""', "")
 
 
-def check_runs(checks: Checks) -> None:
+def check_runs(checks: Checks, program: str) -> None:
     """Each program of runs.txt prints what stands beside it, and ends so."""
     for row in bytes_of(f"{HERE}/runs.txt").decode().splitlines():
         if row.startswith("#"):
             continue
         lines, wanted = row.split(" => ")
-        outcome = run_program(f'1 OPEN 4,4:CMD 4,"";\n2 {lines}'.replace(" \\ ", "\n").encode())
+        text = f'1 OPEN 4,4:CMD 4,"";\n2 {lines}'.replace(" \\ ", "\n").encode()
+        outcome = run_program(text)
+        check_run(checks, program, lines, text, outcome)
         end = "" if outcome.end == "end of program" else outcome.end
         found = "refused" if end.startswith("refused") else f"{printed(outcome.script)} {end}".strip()
         checks.expect(found == wanted, f"{lines}: {found}, not {wanted}")
 
 
-def check_lists(checks: Checks) -> None:
+def check_lists(checks: Checks, program: str) -> None:
     """Each list of lists.txt prints what stands beside it, or ends so."""
     for row in bytes_of(f"{HERE}/lists.txt").decode().splitlines():
         if row.startswith("#"):
             continue
         listed, wanted = re.split(" +=> ", row)
-        outcome = run_program(f"1 OPEN 4,4\n2 PRINT#4,{listed}\n".encode())
+        text = f"1 OPEN 4,4\n2 PRINT#4,{listed}\n".encode()
+        outcome = run_program(text)
+        check_run(checks, program, listed, text, outcome)
         found = "refused" if outcome.end.startswith("refused") else outcome.end.removesuffix(" in 2")
         if len(outcome.script) == 2:
             found = re.sub(r"CHR\$\((\d+)\)", r"{\1}", outcome.script[1].removeprefix("2 PRINT#4,")).replace(";", "")
@@ -128,8 +144,8 @@ def main(words: list[str]) -> int:
     for it in sorted(os.listdir(HERE)):
         if it.endswith(".bas"):
             check_program(checks, program, it[:-4])
-    check_runs(checks)
-    check_lists(checks)
+    check_runs(checks, program)
+    check_lists(checks, program)
     for seed in range(1, MADE + 1):
         check_made(checks, program, seed)
     return checks.end()

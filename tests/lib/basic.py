@@ -285,8 +285,8 @@ def run_program(text: bytes, steps: int = 1000000) -> Outcome:
         run = Run(Program(text))
         end = run.steps(steps)
     except Refused as refusal:
-        row = text.count(b"\n", 0, refusal.place) + 1
-        column = refusal.place - text.rfind(b"\n", 0, refusal.place)
+        before = re.split(rb"\r\n|\r|\n", text[: refusal.place])
+        row, column = len(before), len(before[-1]) + 1
         end = f"refused at line {row}, column {column}: {refusal.reason}"
     return Outcome(run.performed, end, run.notes) if run else Outcome([], end)
 

@@ -54,8 +54,8 @@ with --from magazine it is in capitals, with names as {CLR} and {5 SPACES}.
 With --from basic the input is a whole program, which is run: what it prints is
 the script, and --as script writes it. What is not certain is refused.
 Without --from a FILE named *.prg, *.p00, *.t64, *.petcat or *.txt is read so,
-one named *.bas as a script, or as a program if it is none, and any other by
-what its first bytes show.
+one named *.bas as a script, or as a program if it reads as one alone, and any
+other by what its first bytes show.
 
 Output: the marks on the paper of printers 4 and 5, the status of each
 statement, the bytes on the screen, and the BASIC error that stopped the run.

@@ -31,7 +31,7 @@ refused_at text place why = Refused (row text place) (column text place) why
 abbrev pub refused_in : List ℕ → ℕ → Reason → BasicFault
 refused_in text made why = refused_at text (place_of text made) why
 
--- a text that is no program, or has a statement that is not taken
+-- a text that is no program; what no statement can have is refused by the run that comes to it, so the last two do not occur
 abbrev pub unread : List ℕ → ProgramFault → BasicFault
 unread text program.OutOfMemory = NoMemory
 unread text (program.NoLineNumber made) = refused_in text made reason.NoLineNumber
