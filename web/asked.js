@@ -12,11 +12,17 @@ export const formNumber = form => FORMS.indexOf(form);
 /** A run's settings: which printers are present (4 by 1, 5 by 2, both by 3), and whether the status is kept. */
 const runWords = ({ printers = 3, status = 0 }) => ['--present', PRESENT[printers], '--status', STATUS[status]];
 
-/** The words for the script that comes of a listing which may be a program. */
-export const scriptWords = ['pages', '--from', 'bas', '--as', 'script'];
+/** How many steps of a program the page runs at most. */
+export const STEPS = 200000;
+
+/** The words for a listing in some form: of a program with the most steps that it is run for. */
+const formWords = form => ['--from', form, ...(form === 'bas' || form === 'basic' ? ['--steps', String(STEPS)] : [])];
+
+/** The words for the script that comes of a program: `bas` is a listing which may be one, `basic` a program, which may be a saved one. */
+export const scriptWords = form => ['pages', ...formWords(form), '--as', 'script'];
 
 /** The words for the pages of a run, of a listing in some form. */
-export const pagesWords = (run, as, form = 'text') => ['pages', '--from', form, ...runWords(run), '--as', as];
+export const pagesWords = (run, as, form = 'text') => ['pages', ...formWords(form), ...runWords(run), '--as', as];
 
 /** The delays of the computer, of printer 4 and of printer 5 as the option has them, by their lists, in which there may be spaces. */
 export const delaysOf = lists => lists.map(list => list.replace(/\s/g, '')).join('/');

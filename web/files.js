@@ -71,21 +71,38 @@ function tellNoProgram(bytes, name, why) {
   notice('file', `${name} ${what}: ${why}.`, [...(isTape(bytes) ? [] : [shows]), button('Close', leave)]);
 }
 
-/** Shows a saved program as petcat writes it; as the script that the module makes of it, where that would be another program. */
+/** Says why a saved program is not run that is no script: at which place, and what its line is there. */
+function tellNotRun(name, { words, more: [row = '', ...others] }) {
+  const line = row && ` (${row.trim().replace(/ +/g, ' ')})`, why = pageHints(others.slice(-1)).map(hint => ` ${capital(hint.trim())}.`).join('');
+  tellOnce('file', `${name} is a saved program that is not run here: ${words || 'out of memory'}${line}.${why}`);
+}
+
+/** What a saved program is shown as. */
+function shownAs({ isSame, isRun, script, words, notes }) {
+  if (isSame) return 'It is shown as petcat writes it, with names for codes and shifted characters.';
+  if (!isRun) return 'It is shown as a script, since petcat\'s text of it would run as another program.';
+  const error = words && `An error ended it: ${words.replace(/ +/g, ' ')}.`, said = pageHints(notes).map(note => `${capital(note)}.`);
+  return [`The program was run, and ${script ? 'this is what it prints, as a script' : 'it prints nothing'}.`, error, ...said].filter(Boolean).join(' ');
+}
+
+/**
+ * Shows a saved program as petcat writes it; as the script that the module makes of it, where that would be another program; and of
+ * one that is no script what it prints.
+ */
 async function takeProgram(bytes, name) {
   if (!ready) return tellOnce('file', `${name} cannot be read before the page is ready.`);
   const listing = petcatOf(bytes), turn = taken, before = editor.text;
   let answer;
   try { answer = await ask('isSame', { program: bytes, listing: encode(listing ?? ''), form: 'petcat' }); } catch (error) { return tellFailed(error); }
   if (turn !== taken || before !== editor.text) return;   // another file was dropped, or more was typed
+  if (answer.code && answer.isRun) return tellNotRun(name, answer);
   if (answer.code) return tellNoProgram(bytes, name, answer.words ? inPageWords(answer.words) : 'out of memory');
   leaveSource();
   keepEarlier();
   state.form = answer.isSame ? 'petcat' : 'text';
   showChoices();
   editor.replace(answer.isSame ? listing : answer.script);
-  tellOnce('file', answer.isSame ? `${name} is a saved program. It is shown as petcat writes it, with names for codes and shifted characters.`
-    : `${name} is a saved program. It is shown as a script, since petcat's text of it would run as another program.`);
+  tellOnce('file', `${name} is a saved program. ${shownAs(answer)}`);
   return listingChanged();
 }
 

@@ -1,5 +1,6 @@
 // What the parts of the page have, by the one name `inside`: for tests, and for those who look into it from the console.
 
+import * as asked from './asked.js';
 import * as basics from './basics.js';
 import * as fanfold from './fanfold.js';
 import * as characters from './characters.js';
@@ -18,7 +19,7 @@ import * as wave from './wave.js';
 import * as wire from './wire.js';
 import * as words from './words.js';
 
-const parts = [basics, words, sheets, fanfold, wire, signals, listing, reading, wave, page, telling, links, characters, files, kept, printed, controls];
+const parts = [basics, words, sheets, fanfold, wire, signals, listing, reading, wave, page, telling, links, characters, files, kept, printed, controls, asked];
 const has = name => parts.find(part => Object.hasOwn(part, name));
 
 /** Each name is looked up when it is asked for, since some parts begin after others and some of what they have changes. */

@@ -2,7 +2,7 @@
 // shown in the other two. Lines and marks are found by the module, which runs or decodes a part of what is shown.
 
 import { $, button } from './basics.js';
-import { ask, counted, editor, LINES_LIMIT, paper, readers, state, tellBriefly, tellFailed, tellOnce, wanted, wave } from './page.js';
+import { ask, counted, editor, LINES_LIMIT, paper, readers, scriptLength, state, tellBriefly, tellFailed, tellOnce, wanted, wave } from './page.js';
 import { bytesOfLine } from './reading.js';
 import { tellChosen, tellOutside } from './telling.js';
 import { byteWords } from './wave.js';
@@ -17,7 +17,7 @@ let agreed = 0;                    // the print of a long listing whose lines so
 export const followsPointer = () => wave.edges.times.length <= POINTED_EDGES;
 
 const hasTrace = () => !state.source && wave.frames.length > 0;
-const isLong = () => editor.text.length > LINES_LIMIT && agreed !== wanted;
+const isLong = () => scriptLength > LINES_LIMIT && agreed !== wanted;
 
 /** Whether the lines of the listing that is shown can be found: each answer runs parts of it. */
 const knowsLines = () => hasTrace() && !isLong();

@@ -15,7 +15,7 @@ import { chooseForm, ready } from './controls.js';
 
 export const AUTOMATIC = 64 * 1024;       // a longer listing's trace is made only when it is asked for
 export const LINK_LIMIT = 30000;          // characters of an address
-export const LINES_LIMIT = 16 * 1024;     // characters of a listing whose lines are found for frames and marks
+export const LINES_LIMIT = 16 * 1024;     // bytes of a script whose lines are found for frames and marks
 export const EARLIER_LIMIT = 20;
 export const LONG = 200000;               // characters: a longer listing is printed and kept when no key is pressed for a moment
 const TYPED_PAUSE = 250;                  // milliseconds of that moment
@@ -35,6 +35,7 @@ export class Cancelled extends Error {}
 const answers = new Map();
 let jobs = 0, worker = startWorker(), module = null;      // `module`: the bytes of the WebAssembly module, for the next worker
 export let onPaper = 0;            // the number of the print whose sheets are shown
+export let scriptLength = 0;       // how many bytes the script has that was printed last: the listing, or what came of it
 
 /** Gives the worker a message; what is handed over is the worker's from then on. */
 const tell = (message, handedOver = []) => worker.postMessage(message, handedOver);
@@ -190,11 +191,11 @@ async function printNow(version) {
     // (what a long listing comes to takes the page some time to show: keys come first)
     if (editor.text.length > LONG) await whileQuiet(Math.min(TYPED_PAUSE - (performance.now() - editor.typed), TYPED_PAUSE));
     if (version !== wanted) return;
-    const script = encode(editor.text), { length } = script;
-    const answer = await ask('print', { script, form: state.form, printers: state.printers, status: state.status }, version);
+    const answer = await ask('print', { script: encode(editor.text), form: state.form, printers: state.printers, status: state.status }, version);
     if (version !== wanted && performance.now() - lastShown < 400) return;
-    if (answer.code === 2) await untilTyped((answer.place?.line ?? answer.line) - 1, version);
-    if (answer.code === 2 && version !== wanted) return;
+    const isOfLine = answer.code === 2 || answer.isOfProgram;
+    if (isOfLine) await untilTyped((answer.place?.line ?? answer.line) - 1, version);
+    if (isOfLine && version !== wanted) return;
     lastShown = performance.now();
     showRun(answer, version);
     // (the end takes the worker as long again: it waits while a long listing is typed)
@@ -204,7 +205,7 @@ async function printNow(version) {
     if (version !== wanted || !end) return;
     Object.assign(answer, end);
     showScript(answer);
-    if (answer.code <= 1) traceSoon(version, length);
+    if (answer.code <= 1) traceSoon(version, answer.length);
     return;
   }
   const answer = await patiently(readSource(source, version));
@@ -252,6 +253,7 @@ function showRun(answer, version) {
     return;
   }
   onPaper = version;
+  scriptLength = answer.length;
   showPicture(answer.svg);
   firstPaper ||= performance.now();
 }
@@ -422,10 +424,12 @@ function tellStatuses(answer, words) {
     const [first, , ...hints] = told;
     words('first', first);
     hints.forEach(hint => tellHint(hint, words));
-    if (isKnown && statement) {
-      const line = lines[statement - 1], text = editor.line(line);
-      sign(line, 'stopped', `statement ${statement}: ${name}`);
-      lines.slice(statement).forEach((line, index) => sign(line, 'unreached', `statement ${statement + 1 + index}: not reached`));
+    // (an error of a program is known by its line alone)
+    const line = answer.isOfProgram ? answer.line - 1 : lines[statement - 1];
+    if (line >= 0) {
+      const text = editor.line(line);
+      sign(line, 'stopped', answer.isOfProgram ? name : `statement ${statement}: ${name}`);
+      if (statement) lines.slice(statement).forEach((line, index) => sign(line, 'unreached', `statement ${statement + 1 + index}: not reached`));
       note = { line, from: text.length - text.trimStart().length, to: text.trimEnd().length, words: name, kind: 'stopped' };
     }
   } else if (statuses.length) words('first', `${counted(statuses.length, 'statement')} done`);

@@ -15,9 +15,9 @@ export interface Asked {
 export interface Answered {
   /** its exit status: 0 done, 1 stopped by a BASIC error, 2 refused, 3 out of memory */
   status: 0 | 1 | 2 | 3;
-  /** the number of the fault, as include/print1525.h has them; 0 for none; with status 1 100 and the number of the BASIC error */
+  /** the number of the fault, as include/print1525.h has them; 0 for none; with status 1 100 and the number of the BASIC error, or 150 and that of a channel call where the script of a program is written */
   fault: number;
-  /** the line of the fault, from 1, the index of its edge, from 0, or how many sheets there are; with status 1 the statement, from 1, or (fault 110 and above) the number of a program's line; or 0 */
+  /** the line of the fault, from 1, the index of its edge, from 0, or how many sheets there are; with status 1 the statement, from 1; of fault 146, and with status 1 of those from 110 on, the number of a program's line; or 0 */
   place: number;
   /** the column in that line, from 1, of what petcat does not write; or 0 */
   column: number;

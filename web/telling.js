@@ -32,9 +32,9 @@ export function traceSoon(version, length) {
     const millions = (length * COST.edges / 1e6).toFixed(length < 6e5 ? 1 : 0), seconds = Math.max(Math.round(length * COST.seconds), 1), gigabytes = (length * COST.memory / 1e9).toFixed(1);
     const words = `The trace of this listing is long: about ${millions} million edges, which take ${counted(seconds, 'second')} or more and ${gigabytes} GB of memory.`;
     const isTooLong = length * COST.edges > MOST_EDGES, more = isTooLong ? ' The module has not so much memory: save the listing, and make its trace with the program.' : '';
-    return cover(words + more, [button('Make the trace', () => trace(version))]);
+    return cover(words + more, [button('Make the trace', () => trace(version, length))]);
   }
-  waitingTrace = setTimeout(() => trace(version), 90);
+  waitingTrace = setTimeout(() => trace(version, length), 90);
 }
 
 /** The answer of a job that may take long. */
@@ -66,7 +66,7 @@ export function coverProgress(what, next) {
   return ({ done, words: said }) => { bar.value = done; words.textContent = said; };
 }
 
-async function trace(version) {
+async function trace(version, length) {
   if (version !== wanted || state.source) return;
   if (!await judgeLists().catch(tellFailed)) {
     if (version !== wanted || state.source) return;
@@ -75,7 +75,7 @@ async function trace(version) {
   }
   if (version !== wanted || state.source) return;
   const { printers, status } = state, delays = chosenDelays(), script = encode(editor.text);
-  const onProgress = script.length > AUTOMATIC ? coverProgress('Making the trace', print) : null;
+  const onProgress = length > AUTOMATIC ? coverProgress('Making the trace', print) : null;
   try {
     const answer = await patiently(ask('trace', { script, form: state.form, printers, status, delays }, version, onProgress));
     if (version !== wanted || state.source || !answer) return;

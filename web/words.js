@@ -1,5 +1,7 @@
 // The program's hints in the page's words: where a hint names an option of the command line, the page has a choice for it.
 
+import { STEPS } from './asked.js';
+
 /**
  * What a hint says, and what the page says instead; a hint that comes to nothing is left out.
  * @type {[RegExp, string][]}
@@ -60,7 +62,8 @@ const WORDS = [
   [/with --set lower in that of the first byte/, 'with the lower/upper case set in that of the first byte'],
   [/write the table with -O csv:label=channel/, 'choose the signals by the names of its channels, or write the table again with -O csv:label=channel'],
   [/, as with --from basic; --as script writes what it prints/, ''],
-  [/; --steps NUMBER gives it more steps/, ''],
+  [/; --steps NUMBER gives it more steps/, `; the page runs at most ${STEPS.toLocaleString('en')} steps`],
+  [/statements and their lines are counted in what the program prints: .*/, 'statements are counted in what the program prints'],
   [/.*--from (basic|prg|petcat|text).*/, ''],
 ];
 

@@ -34,7 +34,7 @@ function linesOf({ messages }) {
 /** How the program ended, and its lines for people but notes: the first of them without its own name, the name of a fault or a stop alone, and the others. */
 function answerOf({ status, place, column, messages }) {
   const [first, ...more] = linesOf({ messages }).others, words = (first || '').replace(/^print1525: /, '');
-  const [name] = words.replace(/^(line \d+(, column \d+)?|edge \d+): /, '').split('  ERROR');
+  const [name] = words.replace(/^(line \d+(, column \d+)?|edge \d+): /, '').replace(/^(too many steps) in \d+$/, '$1').split('  ERROR');
   return { code: status, line: place, column, words, name, more };
 }
 
@@ -51,11 +51,18 @@ function rowsOf(script, listing) {
  */
 function scriptOf({ script, form = 'text' }) {
   if (form === 'text') {
-    const made = placeOf(script) ? answer(scriptWords, script) : null;
-    return made && made.output.length ? { script: made.output, rows: rowsOf(made.output, script) } : { script };
+    const made = placeOf(script) ? answer(scriptWords('bas'), script) : null;
+    // (the script of a program that prints nothing is empty)
+    return made && made.status <= 1 ? { script: made.output, rows: rowsOf(made.output, script) } : { script };
   }
   const made = print1525.listing({ bytes: script, form: formNumber(form) });
   return made.code ? { refused: answerOf(answer(pagesWords({}, 'list', form), script, true)) } : { script: made.text };
+}
+
+/** What a saved program that is no script prints, as a script, with its notes and the error that ended it; or why it is not run. */
+function printedBy(program) {
+  const made = answer(scriptWords('basic'), program, true);
+  return { ...answerOf(made), code: made.status <= 1 ? 0 : made.status, isRun: true, script: text(made.output), notes: linesOf(made).notes };
 }
 
 // The numbers of faults from here on are those of programs that are run.
@@ -296,7 +303,8 @@ const jobs = {
     // (its first line and the first row of dots are a file of characters)
     if (readTo(shapes) > 2) return 'characters';
     const read = reading('pages', front), listing = Math.max(...FORMS.map(form => readTo(read(['--from', form]))));
-    const kind = recordingKind(front, file, listing) || listingKind(front, file, read);
+    // (a text of this name that is no script would be run)
+    const kind = recordingKind(front, file, listing) || listingKind(front, file.replace(/\.bas$/i, '.txt'), read);
     if (kind) return kind;
     const isDisk = looksLike(answer(rawWords({ set: 0 }, 'list'), front, true), 'an image of a disk');
     return isDisk ? 'disk' : isText(front) && isUtf8(front) ? 'script' : 'raw';
@@ -322,18 +330,18 @@ const jobs = {
     const began = performance.now(), { script, rows, refused } = scriptOf(ask);
     if (refused) return { ...refused, milliseconds: performance.now() - began };
     const run = { script, printers: ask.printers, status: ask.status }, words = format => pagesWords(run, format);
-    const pages = pagesOf(ask, run, script);
+    const pages = pagesOf(ask, run, script), isOfProgram = pages.fault >= PROGRAM_ERRORS;
     /** @type {any} */
-    const told = answerOf(pages);
+    const told = { ...answerOf(pages), length: script.length };
     if (pages.status <= 1) Object.assign(told, { svg: picture('script', words, script, pages, run), notes: linesOf(pages).notes });
     shown.rows = rows;
     told.milliseconds = performance.now() - began;
-    // (an error of BASIC ends a program after its last statement: its place is a line's number)
-    if (pages.status === 1) Object.assign(told, { statement: pages.fault >= PROGRAM_ERRORS ? NaN : pages.place, told: [told.words, ...told.more] });
-    if (pages.status === 2 && pages.fault >= PROGRAM_ERRORS) {
+    // (an error of BASIC ends a program after its last statement: its place is a line's number, as where there are too many steps)
+    if (isOfProgram && !pages.column) told.line = rowsOf(new TextEncoder().encode(`${pages.place}\n`), ask.script)[0] + 1;
+    if (pages.status === 1) Object.assign(told, { isOfProgram, statement: isOfProgram ? NaN : pages.place, told: [told.words, ...told.more] });
+    if (pages.status === 2 && isOfProgram) {
       // (the listing's line and the caret below it are in the editor)
       told.more = told.more.slice(pages.column ? 2 : 1);
-      if (!pages.column) told.line = rowsOf(new TextEncoder().encode(`${pages.place}\n`), ask.script)[0] + 1;
     } else if (pages.status === 2) {
       told.place = placeOf(script);
       if (told.place) told.explanation = explanationOf(told.more, told.place);
@@ -342,11 +350,12 @@ const jobs = {
     return told;
   },
 
-  /** Whether a saved program and a listing of it in another form run to the same pages, or are refused by the same fault; or why it is no program. */
+  /** Whether a saved program and a listing of it in another form run to the same pages; what it prints where it is no script; or why it is no program, or is not run. */
   isSame({ program, listing, form }) {
     const saved = print1525.listing({ bytes: program, form: formNumber('prg') }), other = print1525.listing({ bytes: listing, form: formNumber(form) });
     if (saved.code) return answerOf(answer(pagesWords({}, 'list', 'prg'), program));
     const [one, two] = [saved, other].map(made => answer(pagesWords({}, 'list'), made.text));
+    if (one.status === 2) return printedBy(program);
     const isSame = !other.code && ['status', 'fault', 'place'].every(name => one[name] === two[name]) && latin(one.output) === latin(two.output);
     return { code: 0, isSame, script: text(saved.text) };
   },
