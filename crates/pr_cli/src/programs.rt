@@ -100,8 +100,7 @@ fn reason_hint(reason: Reason) -> &'static str {
             "each line of a program begins with its number, and the numbers of a saved program ascend"
         }
         Reason::LargeLineNumber => "line numbers go from 0 to 63999",
-        Reason::Syntax =>
-            "no value can be written so, or it is pi, which is not known here",
+        Reason::Syntax => "no value can be written so, or it is pi, which is not known here",
         Reason::Name => {
             "in a string { begins a name of a key and } ends it, as {DOWN}, {5 SPACES} or {$8E}"
         }
