@@ -65,8 +65,8 @@ function printedBy(program) {
   return { ...answerOf(made), code: made.status <= 1 ? 0 : made.status, isRun: true, script: text(made.output), notes: linesOf(made).notes };
 }
 
-// The numbers of faults from here on are those of programs that are run.
-const PROGRAM_ERRORS = 110;
+// The number of a script's unknown word; from the other on they are those of programs that are run.
+const UNKNOWN_WORD = 1, PROGRAM_ERRORS = 110;
 
 // What may be the beginning of a name, at the end of a line that is cut.
 const CUT_NAME = { petcat: /\{[^}]*$/, magazine: /(\{[^}]*|\[(<((?!>\])[^])*)?)$/ };
@@ -80,10 +80,17 @@ function placeInNamed({ line, column }, listing, form) {
   return { line, from: row[last] === '}' ? row.lastIndexOf('{', last) : isKey ? row.lastIndexOf('[<', last) : last };
 }
 
-/** The sheets of a listing's run: with the notes on the listing itself where it runs, and by its script where that is refused. */
+/** Whether each row of a listing begins with a line number, or is blank. */
+const isNumbered = listing => latin(listing).split(/\r\n|\r|\n/).every(row => /^ *(\d|$)/.test(row));
+
+/**
+ * The sheets of a listing's run: with the notes on the listing itself where it runs, and by its script where that is refused. What reads
+ * neither as a script nor as a program is refused as a program where its lines are numbered and a word is no script's.
+ */
 function pagesOf({ script: listing, form = 'text' }, run, script) {
   const pages = answer(pagesWords(run, 'svg', form === 'text' ? 'bas' : form), listing, true);
-  return form === 'text' || pages.status <= 1 ? pages : answer(pagesWords(run, 'svg'), script, true);
+  if (form === 'text') return pages.fault === UNKNOWN_WORD && isNumbered(listing) ? answer(pagesWords(run, 'svg', 'basic'), listing, true) : pages;
+  return pages.status <= 1 ? pages : answer(pagesWords(run, 'svg'), script, true);
 }
 
 /**
