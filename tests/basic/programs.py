@@ -38,7 +38,7 @@ def said_of(end: str) -> str:
     error = re.fullmatch(r"\?(.*) in (\d+)", end)
     if refused:
         return f"print1525: {refused[1]}: "
-    return f"print1525: ?{error[1]}  ERROR IN {error[2]}" if error else ""
+    return f"?{error[1]}  ERROR IN {error[2]}" if error else ""
 
 
 def check_run(checks: Checks, program: str, name: str, text: bytes, outcome: Outcome) -> None:

@@ -36,7 +36,7 @@ pub fn tell_ran(
     match (made.ran, end) {
         (Ran::Error { error, line }, End::Broken { .. }) => {
             let name = error_name(error);
-            let _ = rt.eprintln(format_args!("print1525: ?{name}  ERROR IN {line}"));
+            let _ = rt.eprintln(format_args!("?{name}  ERROR IN {line}"));
             if is_explained {
                 show_line(rt, text, line);
                 show_hint(rt, error_hint(error));

@@ -38,9 +38,11 @@ const LETTERS: &str =
 /// What is said of a refused script whose strings have them too, or that begins with petcat's heading.
 const PETCAT_TEXT: &str = "this may be petcat's text: --from petcat reads it";
 
-/// What is said of a refused script that may be a whole program.
+/// What is said of a script that is refused for what a whole program may have, and how its explanation says that.
 const PROGRAM: &str =
     "--from basic runs a whole program, with variables and loops, or says why it does not";
+
+const UNSUPPORTED: &[u8] = b"not supported";
 
 /// What is said of a refused script with two bytes a letter.
 const WIDE_SCRIPT: &str = "this is text in UTF-16; save it as ASCII or UTF-8";
@@ -200,8 +202,14 @@ pub fn tell_more(
     subject: Subject<'_>,
     answer: Result<RunEnd, CliFault>,
 ) {
-    show(rt, told(rt, bytes, listing, subject, answer));
-    show_hint(rt, hint_of(bytes, listing, subject, answer));
+    let told = told(rt, bytes, listing, subject, answer);
+    let is_program = may_be_program(bytes, subject, answer) && is_unsupported(&told);
+    show(rt, told);
+    let hint = hint_of(bytes, listing, subject, answer);
+    show_hint(rt, hint);
+    if is_program && hint.is_none() {
+        show_hint(rt, Some(PROGRAM));
+    }
 }
 
 /// Writes what is to be noted of an input whose job is answered, by all of its bytes, or of a recording by its first ones.
@@ -423,30 +431,33 @@ fn script_hint(
     {
         Some(PETCAT_TEXT)
     } else {
-        line_hint(script, form, fault)
+        wrapped_hint(script, fault)
     }
 }
 
-/// What is said of a script that is refused for a line, which was made of a listing in this form.
-fn line_hint(script: &[u8], form: ListingForm, fault: ScriptFault) -> Option<&'static str> {
-    let wrapped = wrapped_hint(script, fault);
-    if wrapped.is_some() {
-        wrapped
-    } else if (is_script(form) || form == ListingForm::Program) && is_numbered(script, fault) {
-        Some(PROGRAM)
-    } else {
-        None
-    }
-}
-
-/// Whether a script is refused for a word in a line that has a number.
-fn is_numbered(script: &[u8], fault: ScriptFault) -> bool {
-    match fault {
-        ScriptFault::UnknownWord(number) => {
-            matches!(line_numbered(script, number), [b'0'..=b'9', ..])
+/// Whether a script is refused for a word in a line that has a number, and was not made of a typed listing.
+fn may_be_program(script: &[u8], subject: Subject<'_>, answer: Result<RunEnd, CliFault>) -> bool {
+    match (subject, answer) {
+        (Subject::Script(job), Err(CliFault::Script(ScriptFault::UnknownWord(number)))) => {
+            (is_script(job.form) || job.form == ListingForm::Program)
+                && matches!(line_numbered(script, number), [b'0'..=b'9', ..])
         }
         _ => false,
     }
+}
+
+/// Whether an explanation says that something is not supported.
+fn is_unsupported(told: &Result<String, AllocError>) -> bool {
+    let Ok(text) = told else {
+        return false;
+    };
+    let bytes = text.as_bytes();
+    for at in 0..bytes.len() {
+        if bytes[at..].starts_with(UNSUPPORTED) {
+            return true;
+        }
+    }
+    false
 }
 
 /// The file of a script's text, which may be made of a listing.

@@ -407,8 +407,8 @@ const LISTING_FROM_HELP: &str = "auto (what the first bytes show),\n\
 
 const LISTING_FROM_VALUES: &str = "auto, text, prg, petcat, magazine, basic or bas";
 
-const STEPS_HELP: &str = "The statements that a program may run, and the\n\
-     ends of its lines, before it is refused";
+const STEPS_HELP: &str = "How many statements and ends of lines a program\n\
+     runs before it is refused";
 
 const STEPS_VALUES: &str = "a whole number from 1";
 
