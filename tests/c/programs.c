@@ -190,13 +190,13 @@ static void try_program(uint8_t *memories[2]) {
     int status, is_saved;
     made_size = files[file].size;
     memcpy(made, files[file].bytes, made_size);
-    for (changes = below(9); changes > 0; changes--) change();
-    is_saved = made_size > 1 && made[0] == 1 && made[1] == 8;
+    for (changes = below(6); changes > 0; changes--) change();
+    is_saved = files[file].bytes[0] == 1 || (made_size > 0 && made[0] < 32);
     input = memories[0] + ROOM - made_size;
     memcpy(input, made, made_size);
     settings.as = PRINT1525_AS_SCRIPT;
     settings.from = below(6) ? PRINT1525_FROM_BASIC : PRINT1525_FROM_BAS;
-    settings.steps = 1 + (below(9) ? below(400) : below(20000));
+    settings.steps = 1 + (below(9) ? below(300) : below(6000));
     memset(buffer, UNTOUCHED, capacity);
     live = taken = 0;
     refused_one = below(16) ? 0 : 1 + (long)below(90);
@@ -241,7 +241,7 @@ int main(int count, char **words) {
     memories[0] = guard();
     memories[1] = guard();
     for (round_now = 1; round_now <= rounds; round_now++) try_program(memories);
-    if (rounds >= 1000 && (statuses[0] < rounds / 20 || statuses[1] < rounds / 100 || statuses[2] < rounds / 20)) is_wrong("too few that run, or end in an error, or are refused");
+    if (rounds >= 1000 && (statuses[0] < rounds / 50 || statuses[1] < rounds / 50 || statuses[2] < rounds / 50)) is_wrong("too few that run, or end in an error, or are refused");
     if (counts) printf("%lu rounds, status 0: %lu, 1: %lu, 2: %lu, 3: %lu, %d wrong\n", rounds, statuses[0], statuses[1], statuses[2], statuses[3], wrong);
     return wrong != 0;
 }
