@@ -42,7 +42,7 @@ const PETCAT_TEXT: &str = "this may be petcat's text: --from petcat reads it";
 const PROGRAM: &str =
     "--from basic runs a whole program, with variables and loops, or says why it does not";
 
-const UNSUPPORTED: &[u8] = b"not supported";
+const UNSUPPORTED: &[u8] = b" supported";
 
 /// What is said of a refused script with two bytes a letter.
 const WIDE_SCRIPT: &str = "this is text in UTF-16; save it as ASCII or UTF-8";
