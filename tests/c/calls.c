@@ -414,9 +414,10 @@ static void try_settings(void) {
         const char *calls;
         uint64_t none;
     } rows[] = {
-        {"11111100", 11}, {"11110011", 8}, {"11000000", 4}, {"11000000", 2}, {"00001000", 2}, {"00000000", 6}, {"00000000", 3}, {"00000000", 2},
+        {"11111100", 12}, {"11110011", 10}, {"11000000", 4}, {"11000000", 2}, {"00001000", 2}, {"00000000", 6}, {"00000000", 3}, {"00000000", 2},
         {"00000000", 66}, {"00000000", 9}, {"00010000", 2}, {"00010000", 2}, {"00010001", 2}, {"00000000", 4}, {"00000000", 2}, {"11111000", 2},
         {"00000000", 1}, {"00010001", 0}, {"00010001", 0}, {"11000000", 0}, {"00010001", 0}, {"00000000", 0}, {"00000000", 1},
+        {"00000000", 1},
     };
     /* Settings that go with others, or do not: a call, and numbers of settings; the last of them is refused where `refused` is so. */
     static const struct {
@@ -439,6 +440,9 @@ static void try_settings(void) {
         {2, {2, 13, 0, 0}, {PRINT1525_FROM_CSV, 1, 0, 0}, 0}, {2, {2, 13, 0, 0}, {PRINT1525_FROM_TEXT, 1, 0, 0}, 1},
         {3, {2, 19, 0, 0}, {PRINT1525_FROM_VCD, 9, 0, 0}, 1}, {7, {2, 18, 0, 0}, {PRINT1525_FROM_VCD, 9, 0, 0}, 0},
         {6, {2, 0, 0, 0}, {PRINT1525_FROM_CSV, 0, 0, 0}, 1}, {7, {21, 0, 0, 0}, {1, 0, 0, 0}, 1},
+        {0, {2, 24, 0, 0}, {PRINT1525_FROM_BASIC, 9, 0, 0}, 0}, {1, {2, 24, 0, 0}, {PRINT1525_FROM_BAS, 9, 0, 0}, 0},
+        {0, {2, 24, 0, 0}, {PRINT1525_FROM_PRG, 9, 0, 0}, 1}, {3, {2, 0, 0, 0}, {PRINT1525_FROM_BASIC, 0, 0, 0}, 1},
+        {1, {1, 0, 0, 0}, {PRINT1525_AS_SCRIPT, 0, 0, 0}, 0}, {4, {1, 0, 0, 0}, {PRINT1525_AS_SCRIPT, 0, 0, 0}, 1},
     };
     static const print1525_settings defaults = PRINT1525_SETTINGS_INIT;
     static job j;
@@ -447,7 +451,7 @@ static void try_settings(void) {
     answered answer;
     memset(buffer.bytes, UNTOUCHED, buffer.size);
     for (name = 0; name < ALL_CALLS; name++)
-        for (setting = 1; setting <= PRINT1525_SETTING_RESERVED; setting++) {
+        for (setting = 1; setting <= PRINT1525_SETTING_STEPS; setting++) {
             const int is_read = rows[setting - 1].calls[name] == '1';
             int times;
             for (times = 0; times < 2; times++) {
