@@ -391,7 +391,7 @@ static void try_row(const row *it, int tells) {
 
 /* Explanations, and how each ends: of the last one, no printer is there. Dumps and tables start a microsecond later. */
 static const row explained_rows[] = {
-    {"pages", "20 PRINT+", "", "write the result\n"},
+    {"pages", "20 PRINT+", "", "write the result\n  --from basic runs a whole program, with variables and loops, or says why it does not\n"},
     {"check", "0 111\n0 001\n?\n", "--from text", "  it is not later than the edge before it\n"},
     {"check",
      "$timescale 1 us $end $var wire 1 a ATN $end $var wire 1 c CLK $end $var wire 1 d DATA $end\n"
